@@ -1,0 +1,5 @@
+pub mod SizeLaws
+pub mod PositionLaws
+pub mod QuorumLaws
+pub mod StarredLaws
+pub mod CodeLaws

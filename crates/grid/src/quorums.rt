@@ -1,0 +1,76 @@
+// Quorums over positions.
+use crate::cell::Cell;
+use crate::sizes::Grid;
+use rows::RowSet;
+ghost use mathlib.Core.Path.{_≡_};
+ghost use mathlib.Core.Bool.{_&&_, _||_, not};
+ghost use Prim.Native.Nat.{ℕ, _≤_};
+ghost use lib.Dec.{leb};
+ghost use Rattle.rows.specs.Sets.{has};
+ghost use Rattle.grid.specs.Quorums.{touches, covers, quorum, isWrite};
+
+pub enum Kind {
+    Read,
+    Write,
+}
+
+pub fn is_write(kind: Kind) -> bool
+    ensures { λ r. ⌜ r ≡ isWrite kind ⌝ }
+{
+    match kind {
+        Kind::Read => false,
+        Kind::Write => true,
+    }
+}
+
+// What a set of positions holds of the columns.
+struct Columns {
+    // those it has a member in
+    touched: RowSet,
+    // those it lacks a member of
+    missed: RowSet,
+}
+
+fn survey(columns: usize, length: usize, held: RowSet) -> Columns
+    requires { ⌜ length ≤ 64 ⌝ }
+    ensures { λ r. ⌜ (has (r .touched .bits) ≡ touches columns length (has (held .bits))) × (has (r .missed .bits) ≡ (λ (j : ℕ). not (covers columns length (has (held .bits)) j))) ⌝ }
+{
+    let mut touched = RowSet::EMPTY;
+    let mut missed = RowSet::EMPTY;
+    let mut at = Cell::FIRST;
+    let mut k = 0;
+    while k < length {
+        let here = held.has(k + 1);
+        touched = touched.gain(at.column, here);
+        missed = missed.gain(at.column, !here);
+        at = at.next(columns);
+        k += 1;
+    }
+    Columns {
+        touched: touched,
+        missed: missed,
+    }
+}
+
+// Do the positions held hold a quorum of a list of `length` members? None is held of an empty list, or of one of more than 64.
+pub fn holds(kind: Kind, g: Grid, length: usize, held: RowSet) -> bool
+    ensures { λ r. ⌜ r ≡ (leb length 64 && quorum kind g length (has (held .bits))) ⌝ }
+{
+    let columns = g.cols as usize;
+    if columns == 0 {
+        return false;
+    }
+    if 64 < length {
+        return false;
+    }
+    let c = survey(columns, length, held);
+    let touched = c.touched;
+    let missed = c.missed;
+    if !touched.fills(columns) {
+        return false;
+    }
+    if is_write(kind) {
+        return !missed.fills(columns);
+    }
+    true
+}

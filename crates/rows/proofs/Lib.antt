@@ -1,0 +1,4 @@
+pub mod Bools
+pub mod UptoLaws
+pub mod DigitLaws
+pub mod SetLaws

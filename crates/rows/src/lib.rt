@@ -1,0 +1,113 @@
+// A set of rows: bit i - 1 for row i, rows 1 to 64. Positions and columns of a grid count the same way.
+ghost use mathlib.Core.Path.{_≡_};
+ghost use mathlib.Core.Bool.{cond};
+ghost use Rattle.rows.specs.Upto.{every, count, lowest};
+ghost use Rattle.rows.specs.Sets.{has, firstRows, gaining, losing, cutTo};
+
+pub struct RowSet {
+    pub bits: u64,
+}
+
+impl RowSet {
+    // The empty set.
+    pub const EMPTY: RowSet = RowSet { bits: 0 };
+
+    // The set of the first n rows; all 64 where n is more.
+    pub fn first(n: usize) -> RowSet
+        ensures { λ r. ⌜ has (r .bits) ≡ firstRows n ⌝ }
+    {
+        if 64 <= n {
+            return RowSet {
+                bits: 0xffff_ffff_ffff_ffff,
+            };
+        }
+        RowSet { bits: (1 << n) - 1 }
+    }
+
+    // Is row i a member? What is no row is in no set.
+    pub fn has(self, i: usize) -> bool
+        ensures { λ r. ⌜ r ≡ has (self .bits) i ⌝ }
+    {
+        if i == 0 {
+            return false;
+        }
+        if 64 < i {
+            return false;
+        }
+        (self.bits >> (i - 1)) % 2 == 1
+    }
+
+    // The set with row i; the set itself where i is no row.
+    pub fn with(self, i: usize) -> RowSet
+        ensures { λ r. ⌜ has (r .bits) ≡ gaining (has (self .bits)) i ⌝ }
+    {
+        if i == 0 {
+            return self;
+        }
+        if 64 < i {
+            return self;
+        }
+        RowSet {
+            bits: self.bits | 1 << (i - 1),
+        }
+    }
+
+    // The set without row i.
+    pub fn without(self, i: usize) -> RowSet
+        ensures { λ r. ⌜ has (r .bits) ≡ losing (has (self .bits)) i ⌝ }
+    {
+        if i == 0 {
+            return self;
+        }
+        if 64 < i {
+            return self;
+        }
+        RowSet {
+            bits: self.bits ^ (self.bits & 1 << (i - 1)),
+        }
+    }
+
+    // The set cut down to another.
+    pub fn cut(self, other: RowSet) -> RowSet
+        ensures { λ r. ⌜ has (r .bits) ≡ cutTo (has (self .bits)) (has (other .bits)) ⌝ }
+    {
+        RowSet {
+            bits: self.bits & other.bits,
+        }
+    }
+
+    // How many members it has.
+    pub fn size(self) -> usize
+        ensures { λ r. ⌜ r ≡ count 64 (has (self .bits)) ⌝ }
+    {
+        u64::count_ones(self.bits) as usize
+    }
+
+    // Its lowest member; 0 where it has none.
+    pub fn lowest(self) -> usize
+        ensures { λ r. ⌜ r ≡ lowest 64 (has (self .bits)) ⌝ }
+    {
+        if self.bits == 0 {
+            return 0;
+        }
+        u64::trailing_zeros(self.bits) as usize + 1
+    }
+
+    // The set with row i where `wanted` says so: a loop that gathers a set needs no branch.
+    pub fn gain(self, i: usize, wanted: bool) -> RowSet
+        ensures { λ r. ⌜ has (r .bits) ≡ cond wanted (gaining (has (self .bits)) i) (has (self .bits)) ⌝ }
+    {
+        if wanted { self.with(i) } else { self }
+    }
+
+    // Are all of the rows 1 to n members? (There is no row above 64.)
+    pub fn fills(self, n: usize) -> bool
+        ensures { λ r. ⌜ r ≡ every n (has (self .bits)) ⌝ }
+    {
+        if 64 < n {
+            return false;
+        }
+        let all = RowSet::first(n);
+        self.bits & all.bits == all.bits
+    }
+}
