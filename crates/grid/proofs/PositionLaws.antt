@@ -2,7 +2,7 @@
 use mathlib.Core.Path.{_≡_, refl, sym, _∙_, ap}
 use mathlib.Core.Bool.{Bool, true, false, cond, _&&_}
 use Prim.Native.Nat.{ℕ, zero, suc, _+_, _-_, _*_, _/_, _%_, _≤_, _<_, min}
-use native.Mathlib.Nat.{mod-lt, mod-zero, div-zero, div-add-mod', mul-le-mul-right, lt-of-not-le}
+use native.Mathlib.Nat.{mod-lt, mod-zero, div-add-mod', mul-le-mul-right, lt-of-not-le}
 use native.Mathlib.Decide.{ℕ-discrete}
 use native.Mathlib.Omega.{arith}
 use lib.Dec.{leb, eqb}
@@ -22,21 +22,20 @@ pub column-suc : (n k : ℕ) → columnOf n (k + 1) ≡ k % n + 1
 unfolding columnOf
 column-suc n k = let z : k + 1 - 1 ≡ k = omega arith in rw z
 
--- the position after the last of a row is the first of the next row
-pub row-ends : (n k : ℕ) → k % n + 1 ≡ n → ((k + 1) / n ≡ k / n + 1) × ((k + 1) % n ≡ 0)
-row-ends n k h =
+-- after the last of a row comes the first column, after any other position the next column
+pub column-ends : (n k : ℕ) → k % n + 1 ≡ n → (k + 1) % n ≡ 0
+column-ends n k h =
     let e : k + 1 ≡ (k / n + 1) * n + 0 = omega (arith, div-add-mod' k n) in
     let z : 0 < n = omega arith in
-    (ap (λ (x : ℕ). x / n) e ∙ digits-div (k / n + 1) z, ap (λ (x : ℕ). x % n) e ∙ digits-mod (k / n + 1) z)
+    ap (λ (x : ℕ). x % n) e ∙ digits-mod (k / n + 1) z
 
--- any other position is followed by one in the same row (of no columns there is one row, which goes on)
-pub row-goes : (n k : ℕ) → (k % n + 1 ≡ n → ⊥) → ((k + 1) / n ≡ k / n) × ((k + 1) % n ≡ k % n + 1)
-row-goes zero k h = (div-zero (k + 1) ∙ sym (div-zero k), mod-zero (k + 1) ∙ ap (λ (x : ℕ). x + 1) (sym (mod-zero k)))
-row-goes (suc n) k h =
+pub column-goes : (n k : ℕ) → (k % n + 1 ≡ n → ⊥) → (k + 1) % n ≡ k % n + 1
+column-goes zero k h = mod-zero (k + 1) ∙ ap (λ (x : ℕ). x + 1) (sym (mod-zero k))
+column-goes (suc n) k h =
     let l : k % suc n < suc n = mod-lt k (omega arith) in
     let m : k % suc n + 1 < suc n = below l (ℕ-discrete (k % suc n + 1) (suc n)) in
     let e : k + 1 ≡ k / suc n * suc n + (k % suc n + 1) = omega (arith, div-add-mod' k (suc n)) in
-    (ap (λ (x : ℕ). x / suc n) e ∙ digits-div (k / suc n) m, ap (λ (x : ℕ). x % suc n) e ∙ digits-mod (k / suc n) m)
+    ap (λ (x : ℕ). x % suc n) e ∙ digits-mod (k / suc n) m
   where
     below : k % suc n < suc n → Dec (k % suc n + 1 ≡ suc n) → k % suc n + 1 < suc n
     below l (yes e) = absurd (h e)

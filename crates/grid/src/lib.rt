@@ -1,5 +1,4 @@
 // Positions of a list in a grid: quorums and choices. It knows lengths and positions, no rows and no bytes.
-mod cell;
 mod choices;
 mod quorums;
 mod sizes;

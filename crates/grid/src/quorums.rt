@@ -1,10 +1,9 @@
 // Quorums over positions.
-use crate::cell::Cell;
 use crate::sizes::Grid;
 use rows::RowSet;
 ghost use mathlib.Core.Path.{_≡_};
 ghost use mathlib.Core.Bool.{_&&_, _||_, not};
-ghost use Prim.Native.Nat.{ℕ, _≤_};
+ghost use Prim.Native.Nat.{ℕ, _+_, _%_, _≤_};
 ghost use lib.Dec.{leb};
 ghost use Rattle.rows.specs.Sets.{has};
 ghost use Rattle.grid.specs.Quorums.{touches, covers, quorum, isWrite};
@@ -23,6 +22,14 @@ pub fn is_write(kind: Kind) -> bool
     }
 }
 
+// The column of the next position, row by row.
+fn column_after(column: usize, columns: usize) -> usize
+    requires { ⌜ column ≤ 64 ⌝ }
+    ensures { λ r. ⌜ ((k : ℕ) → column ≡ k % columns + 1 → r ≡ (k + 1) % columns + 1) ⌝ }
+{
+    if column == columns { 1 } else { column + 1 }
+}
+
 // What a set of positions holds of the columns.
 struct Columns {
     // those it has a member in
@@ -37,13 +44,13 @@ fn survey(columns: usize, length: usize, held: RowSet) -> Columns
 {
     let mut touched = RowSet::EMPTY;
     let mut missed = RowSet::EMPTY;
-    let mut at = Cell::FIRST;
+    let mut column = 1;
     let mut k = 0;
     while k < length {
         let here = held.has(k + 1);
-        touched = touched.gain(at.column, here);
-        missed = missed.gain(at.column, !here);
-        at = at.next(columns);
+        touched = touched.gain(column, here);
+        missed = missed.gain(column, !here);
+        column = column_after(column, columns);
         k += 1;
     }
     Columns {
