@@ -1,0 +1,209 @@
+-- The walk of document 01 and short histories that expose wrong readings, computed over bytes: one list, one statement.
+use mathlib.Core.Path.{_≡_, refl}
+use mathlib.Core.Bool.{Bool, true, false, not, cond, _&&_, _||_}
+use mathlib.Core.List.{List, [], _∷_, _++_}
+use Prim.Native.Nat.{ℕ, zero, suc, _+_, _*_}
+use lib.Dec.{eqb}
+use lib.ListN.{length, replicate}
+use Rattle.rows.specs.Upto
+use Rattle.rows.specs.Sets
+use Rattle.grid.specs.Sizes
+use Rattle.grid.specs.Quorums
+use Rattle.table.specs.Bytes
+use Rattle.table.specs.Layout
+use Rattle.table.specs.Layout.{rowBytes}
+use Rattle.table.specs.Chain
+use Rattle.table.specs.WellFormed
+use Rattle.protocol.specs.Lists
+use Rattle.protocol.specs.Polls
+use Rattle.protocol.specs.Rows
+use Rattle.protocol.specs.Calls
+use Rattle.protocol.specs.Calls.{Call, founding, read, write, send, check, outcome, zeros}
+
+pub data Step : Type 0 where
+  -- a call is made: its refusal, value and buffer
+  Made : Call → (refusal value : ℕ) (buffer : List ℕ) → Step
+  -- these are the bytes of row i
+  Row : (i : ℕ) (bytes : List ℕ) → Step
+
+pub record History : Type 0 where
+  pub capacity : ℕ
+  pub file : ℕ
+  pub names : List ℕ
+  pub steps : List Step
+
+pub same : List ℕ → List ℕ → Bool
+same [] [] = true
+same [] (y ∷ ys) = false
+same (x ∷ xs) [] = false
+same (x ∷ xs) (y ∷ ys) = eqb x y && same xs ys
+
+pub stepHolds : List ℕ → Step → Bool
+stepHolds t (Made k refusal value buffer) = let o = outcome t k in eqb (o .refusal) refusal && eqb (o .value) value && same (o .buffer) buffer
+stepHolds t (Row i bytes) = same (rowBytes t i) bytes
+
+pub after : List ℕ → Step → List ℕ
+after t (Made k refusal value buffer) = outcome t k .table
+after t (Row i bytes) = t
+
+pub stepsHold : List ℕ → List Step → Bool
+stepsHold t [] = true
+stepsHold t (s ∷ ss) = stepHolds t s && stepsHold (after t s) ss
+
+-- the founding is made on a table of ones, which leave no trace
+pub replays : History → Bool
+replays h =
+    let o = outcome (replicate (16 + h .capacity * (32 + h .file)) 1) (founding (h .capacity) (h .file) (h .names)) in
+    eqb (o .refusal) 0 && stepsHold (o .table) (h .steps)
+
+pub allReplay : List History → Bool
+allReplay [] = true
+allReplay (h ∷ hs) = replays h && allReplay hs
+
+pub histories : List History
+histories =
+    -- the walk of document 01
+    record {
+      capacity = 4;
+      file = 4;
+      names = 1 ∷ 0 ∷ 2 ∷ 0 ∷ 3 ∷ 0 ∷ 4 ∷ 0 ∷ [];
+      steps =
+          Made (write 1 7 0 (9 ∷ [])) 0 1 [] ∷
+          Made (read 4 12 0 1 (0 ∷ [])) 0 1 (9 ∷ []) ∷
+          Made (write 2 11 0 (8 ∷ [])) 0 2 [] ∷
+          Made (read 4 12 0 1 (0 ∷ [])) 7 0 (0 ∷ []) ∷
+          Made (send 3 4 12) 10 0 [] ∷
+          Made (check 1 11) 0 1 [] ∷
+          Made (write 3 4 0 (7 ∷ [])) 6 0 [] ∷
+          [];
+    }
+    -- the desired-version test: a read that meets only rows left behind; row bytes
+    ∷ record {
+      capacity = 5;
+      file = 3;
+      names = 10 ∷ 0 ∷ 20 ∷ 0 ∷ 30 ∷ 0 ∷ 40 ∷ 0 ∷ [];
+      steps =
+          Made (write 1 7 1 (7 ∷ 8 ∷ [])) 0 1 [] ∷
+          Made (write 1 11 0 (9 ∷ [])) 0 2 [] ∷
+          Row 1 (10 ∷ 0 ∷ 2 ∷ 0 ∷ 2 ∷ 0 ∷ 0 ∷ 0 ∷ 0 ∷ 0 ∷ 0 ∷ 0 ∷ 0 ∷ 0 ∷ 0 ∷ 0 ∷ 15 ∷ 0 ∷ 0 ∷ 0 ∷ 0 ∷ 0 ∷ 0 ∷ 0 ∷ 0 ∷ 0 ∷ 0 ∷ 0 ∷ 0 ∷ 0 ∷ 0 ∷ 0 ∷ 9 ∷ 7 ∷ 8 ∷ []) ∷
+          Row 3 (30 ∷ 0 ∷ 4 ∷ 0 ∷ 1 ∷ 0 ∷ 0 ∷ 0 ∷ 0 ∷ 0 ∷ 0 ∷ 0 ∷ 0 ∷ 0 ∷ 0 ∷ 0 ∷ 15 ∷ 0 ∷ 0 ∷ 0 ∷ 0 ∷ 0 ∷ 0 ∷ 0 ∷ 0 ∷ 0 ∷ 0 ∷ 0 ∷ 0 ∷ 0 ∷ 0 ∷ 0 ∷ 0 ∷ 7 ∷ 8 ∷ []) ∷
+          Row 4 (40 ∷ 0 ∷ 0 ∷ 1 ∷ 0 ∷ 0 ∷ 0 ∷ 0 ∷ 2 ∷ 0 ∷ 0 ∷ 0 ∷ 0 ∷ 0 ∷ 0 ∷ 0 ∷ 15 ∷ 0 ∷ 0 ∷ 0 ∷ 0 ∷ 0 ∷ 0 ∷ 0 ∷ 0 ∷ 0 ∷ 0 ∷ 0 ∷ 0 ∷ 0 ∷ 0 ∷ 0 ∷ 0 ∷ 0 ∷ 0 ∷ []) ∷
+          Made (read 3 12 0 1 (5 ∷ [])) 7 0 (5 ∷ []) ∷
+          Made (read 2 15 0 3 (0 ∷ 0 ∷ 0 ∷ [])) 0 2 (9 ∷ 7 ∷ 8 ∷ []) ∷
+          [];
+    }
+    -- a send wants the desired version too; a good send; its value
+    ∷ record {
+      capacity = 4;
+      file = 2;
+      names = 10 ∷ 0 ∷ 20 ∷ 0 ∷ 30 ∷ 0 ∷ 40 ∷ 0 ∷ [];
+      steps =
+          Made (write 1 7 0 (1 ∷ [])) 0 1 [] ∷
+          Made (write 1 11 1 (2 ∷ [])) 0 2 [] ∷
+          Made (send 3 4 12) 10 0 [] ∷
+          Made (read 3 12 0 2 (0 ∷ 0 ∷ [])) 7 0 (0 ∷ 0 ∷ []) ∷
+          Made (send 3 1 5) 10 0 [] ∷
+          Made (send 1 4 9) 0 2 [] ∷
+          Row 4 (40 ∷ 0 ∷ 0 ∷ 0 ∷ 2 ∷ 0 ∷ 0 ∷ 0 ∷ 0 ∷ 0 ∷ 0 ∷ 0 ∷ 0 ∷ 0 ∷ 0 ∷ 0 ∷ 15 ∷ 0 ∷ 0 ∷ 0 ∷ 0 ∷ 0 ∷ 0 ∷ 0 ∷ 0 ∷ 0 ∷ 0 ∷ 0 ∷ 0 ∷ 0 ∷ 0 ∷ 0 ∷ 1 ∷ 2 ∷ []) ∷
+          Made (send 1 4 9) 10 0 [] ∷
+          Made (send 4 4 8) 2 0 [] ∷
+          Made (send 1 4 1) 3 0 [] ∷
+          Made (read 3 12 0 2 (0 ∷ 0 ∷ [])) 0 2 (1 ∷ 2 ∷ []) ∷
+          [];
+    }
+    -- a check marks the rows that are not good
+    ∷ record {
+      capacity = 4;
+      file = 2;
+      names = 10 ∷ 0 ∷ 20 ∷ 0 ∷ 30 ∷ 0 ∷ 40 ∷ 0 ∷ [];
+      steps =
+          Made (check 1 7) 0 1 [] ∷
+          Made (write 1 3 0 (4 ∷ [])) 0 1 [] ∷
+          Made (check 2 14) 0 2 [] ∷
+          Row 3 (30 ∷ 0 ∷ 4 ∷ 1 ∷ 0 ∷ 0 ∷ 0 ∷ 0 ∷ 1 ∷ 0 ∷ 0 ∷ 0 ∷ 2 ∷ 0 ∷ 0 ∷ 0 ∷ 14 ∷ 0 ∷ 0 ∷ 0 ∷ 0 ∷ 0 ∷ 0 ∷ 0 ∷ 0 ∷ 0 ∷ 0 ∷ 0 ∷ 0 ∷ 0 ∷ 0 ∷ 0 ∷ 0 ∷ 0 ∷ []) ∷
+          Row 2 (20 ∷ 0 ∷ 3 ∷ 0 ∷ 1 ∷ 0 ∷ 0 ∷ 0 ∷ 0 ∷ 0 ∷ 0 ∷ 0 ∷ 2 ∷ 0 ∷ 0 ∷ 0 ∷ 14 ∷ 0 ∷ 0 ∷ 0 ∷ 0 ∷ 0 ∷ 0 ∷ 0 ∷ 0 ∷ 0 ∷ 0 ∷ 0 ∷ 0 ∷ 0 ∷ 0 ∷ 0 ∷ 4 ∷ 0 ∷ []) ∷
+          Made (read 3 12 0 1 (0 ∷ [])) 7 0 (0 ∷ []) ∷
+          Made (check 2 14) 0 2 [] ∷
+          [];
+    }
+    -- the own choice: P is {1, 2}, so row 3 does not take the write
+    ∷ record {
+      capacity = 3;
+      file = 1;
+      names = 10 ∷ 0 ∷ 20 ∷ 0 ∷ 30 ∷ 0 ∷ [];
+      steps =
+          Made (check 1 3) 0 1 [] ∷
+          Made (write 1 7 0 (6 ∷ [])) 0 1 [] ∷
+          Row 3 (30 ∷ 0 ∷ 0 ∷ 0 ∷ 0 ∷ 0 ∷ 0 ∷ 0 ∷ 0 ∷ 0 ∷ 0 ∷ 0 ∷ 0 ∷ 0 ∷ 0 ∷ 0 ∷ 7 ∷ 0 ∷ 0 ∷ 0 ∷ 0 ∷ 0 ∷ 0 ∷ 0 ∷ 0 ∷ 0 ∷ 0 ∷ 0 ∷ 0 ∷ 0 ∷ 0 ∷ 0 ∷ 0 ∷ []) ∷
+          Made (write 3 6 0 (1 ∷ [])) 6 0 [] ∷
+          [];
+    }
+    -- m rows are not wanted of a short column
+    ∷ record {
+      capacity = 3;
+      file = 1;
+      names = 10 ∷ 0 ∷ 20 ∷ 0 ∷ 30 ∷ 0 ∷ [];
+      steps =
+          Made (write 1 3 0 (5 ∷ [])) 0 1 [] ∷
+          Made (read 1 3 0 1 (0 ∷ [])) 0 1 (5 ∷ []) ∷
+          Made (read 1 5 0 1 (0 ∷ [])) 6 0 (0 ∷ []) ∷
+          [];
+    }
+    -- the list in force answers, and a read is refused all the same
+    ∷ record {
+      capacity = 4;
+      file = 1;
+      names = 1 ∷ 0 ∷ 2 ∷ 0 ∷ 3 ∷ 0 ∷ 4 ∷ 0 ∷ [];
+      steps =
+          Made (write 1 7 0 (1 ∷ [])) 0 1 [] ∷
+          Made (write 1 11 0 (2 ∷ [])) 0 2 [] ∷
+          Made (check 1 13) 0 1 [] ∷
+          Made (write 2 14 0 (3 ∷ [])) 0 3 [] ∷
+          Made (read 1 13 0 1 (0 ∷ [])) 7 0 (0 ∷ []) ∷
+          [];
+    }
+    -- the early questions, in their order; ranges at the end of the file
+    ∷ record {
+      capacity = 2;
+      file = 2;
+      names = 2 ∷ 1 ∷ 3 ∷ 2 ∷ [];
+      steps =
+          Made (read 3 3 0 1 (0 ∷ [])) 2 0 (0 ∷ []) ∷
+          Made (read 1 7 0 1 (0 ∷ [])) 2 0 (0 ∷ []) ∷
+          Made (read 1 2 0 1 (0 ∷ [])) 3 0 (0 ∷ []) ∷
+          Made (read 1 3 1 2 (0 ∷ [])) 4 0 (0 ∷ []) ∷
+          Made (read 1 3 0 0 (0 ∷ [])) 4 0 (0 ∷ []) ∷
+          Made (read 1 3 0 1 (0 ∷ 0 ∷ [])) 5 0 (0 ∷ 0 ∷ []) ∷
+          Made (write 1 3 2 (1 ∷ [])) 4 0 [] ∷
+          Made (write 2 3 1 (3 ∷ [])) 0 1 [] ∷
+          Made (read 2 3 1 1 (0 ∷ [])) 0 1 (3 ∷ []) ∷
+          Row 2 (3 ∷ 2 ∷ 0 ∷ 0 ∷ 1 ∷ 0 ∷ 0 ∷ 0 ∷ 0 ∷ 0 ∷ 0 ∷ 0 ∷ 0 ∷ 0 ∷ 0 ∷ 0 ∷ 3 ∷ 0 ∷ 0 ∷ 0 ∷ 0 ∷ 0 ∷ 0 ∷ 0 ∷ 0 ∷ 0 ∷ 0 ∷ 0 ∷ 0 ∷ 0 ∷ 0 ∷ 0 ∷ 0 ∷ 3 ∷ []) ∷
+          Made (write 1 3 0 []) 4 0 [] ∷
+          Made (check 1 3) 0 0 [] ∷
+          [];
+    }
+    -- six machines whose names are not their indexes: choices go by the name
+    ∷ record {
+      capacity = 6;
+      file = 1;
+      names = 7 ∷ 0 ∷ 8 ∷ 0 ∷ 9 ∷ 0 ∷ 10 ∷ 0 ∷ 11 ∷ 0 ∷ 12 ∷ 0 ∷ [];
+      steps =
+          Made (write 1 63 0 (1 ∷ [])) 0 1 [] ∷
+          Row 1 (7 ∷ 0 ∷ 2 ∷ 0 ∷ 0 ∷ 0 ∷ 0 ∷ 0 ∷ 0 ∷ 0 ∷ 0 ∷ 0 ∷ 0 ∷ 0 ∷ 0 ∷ 0 ∷ 63 ∷ 0 ∷ 0 ∷ 0 ∷ 0 ∷ 0 ∷ 0 ∷ 0 ∷ 0 ∷ 0 ∷ 0 ∷ 0 ∷ 0 ∷ 0 ∷ 0 ∷ 0 ∷ 0 ∷ []) ∷
+          Row 2 (8 ∷ 0 ∷ 3 ∷ 0 ∷ 1 ∷ 0 ∷ 0 ∷ 0 ∷ 0 ∷ 0 ∷ 0 ∷ 0 ∷ 0 ∷ 0 ∷ 0 ∷ 0 ∷ 63 ∷ 0 ∷ 0 ∷ 0 ∷ 0 ∷ 0 ∷ 0 ∷ 0 ∷ 0 ∷ 0 ∷ 0 ∷ 0 ∷ 0 ∷ 0 ∷ 0 ∷ 0 ∷ 1 ∷ []) ∷
+          Row 3 (9 ∷ 0 ∷ 4 ∷ 0 ∷ 0 ∷ 0 ∷ 0 ∷ 0 ∷ 0 ∷ 0 ∷ 0 ∷ 0 ∷ 0 ∷ 0 ∷ 0 ∷ 0 ∷ 63 ∷ 0 ∷ 0 ∷ 0 ∷ 0 ∷ 0 ∷ 0 ∷ 0 ∷ 0 ∷ 0 ∷ 0 ∷ 0 ∷ 0 ∷ 0 ∷ 0 ∷ 0 ∷ 0 ∷ []) ∷
+          Row 4 (10 ∷ 0 ∷ 5 ∷ 0 ∷ 1 ∷ 0 ∷ 0 ∷ 0 ∷ 0 ∷ 0 ∷ 0 ∷ 0 ∷ 0 ∷ 0 ∷ 0 ∷ 0 ∷ 63 ∷ 0 ∷ 0 ∷ 0 ∷ 0 ∷ 0 ∷ 0 ∷ 0 ∷ 0 ∷ 0 ∷ 0 ∷ 0 ∷ 0 ∷ 0 ∷ 0 ∷ 0 ∷ 1 ∷ []) ∷
+          Row 5 (11 ∷ 0 ∷ 6 ∷ 0 ∷ 1 ∷ 0 ∷ 0 ∷ 0 ∷ 0 ∷ 0 ∷ 0 ∷ 0 ∷ 0 ∷ 0 ∷ 0 ∷ 0 ∷ 63 ∷ 0 ∷ 0 ∷ 0 ∷ 0 ∷ 0 ∷ 0 ∷ 0 ∷ 0 ∷ 0 ∷ 0 ∷ 0 ∷ 0 ∷ 0 ∷ 0 ∷ 0 ∷ 1 ∷ []) ∷
+          Row 6 (12 ∷ 0 ∷ 0 ∷ 0 ∷ 1 ∷ 0 ∷ 0 ∷ 0 ∷ 0 ∷ 0 ∷ 0 ∷ 0 ∷ 0 ∷ 0 ∷ 0 ∷ 0 ∷ 63 ∷ 0 ∷ 0 ∷ 0 ∷ 0 ∷ 0 ∷ 0 ∷ 0 ∷ 0 ∷ 0 ∷ 0 ∷ 0 ∷ 0 ∷ 0 ∷ 0 ∷ 0 ∷ 1 ∷ []) ∷
+          Made (read 2 63 0 1 (0 ∷ [])) 0 1 (1 ∷ []) ∷
+          Made (write 5 63 0 (2 ∷ [])) 0 2 [] ∷
+          Row 4 (10 ∷ 0 ∷ 5 ∷ 0 ∷ 2 ∷ 0 ∷ 0 ∷ 0 ∷ 0 ∷ 0 ∷ 0 ∷ 0 ∷ 0 ∷ 0 ∷ 0 ∷ 0 ∷ 63 ∷ 0 ∷ 0 ∷ 0 ∷ 0 ∷ 0 ∷ 0 ∷ 0 ∷ 0 ∷ 0 ∷ 0 ∷ 0 ∷ 0 ∷ 0 ∷ 0 ∷ 0 ∷ 2 ∷ []) ∷
+          Row 5 (11 ∷ 0 ∷ 6 ∷ 0 ∷ 2 ∷ 0 ∷ 0 ∷ 0 ∷ 0 ∷ 0 ∷ 0 ∷ 0 ∷ 0 ∷ 0 ∷ 0 ∷ 0 ∷ 63 ∷ 0 ∷ 0 ∷ 0 ∷ 0 ∷ 0 ∷ 0 ∷ 0 ∷ 0 ∷ 0 ∷ 0 ∷ 0 ∷ 0 ∷ 0 ∷ 0 ∷ 0 ∷ 2 ∷ []) ∷
+          Row 6 (12 ∷ 0 ∷ 0 ∷ 0 ∷ 2 ∷ 0 ∷ 0 ∷ 0 ∷ 0 ∷ 0 ∷ 0 ∷ 0 ∷ 0 ∷ 0 ∷ 0 ∷ 0 ∷ 63 ∷ 0 ∷ 0 ∷ 0 ∷ 0 ∷ 0 ∷ 0 ∷ 0 ∷ 0 ∷ 0 ∷ 0 ∷ 0 ∷ 0 ∷ 0 ∷ 0 ∷ 0 ∷ 2 ∷ []) ∷
+          [];
+    }
+    ∷ []
+
+pub histories-replay : allReplay histories ≡ true
+unfolding same stepHolds after stepsHold replays allReplay histories Upto.every Upto.some Upto.count Upto.lowest Upto.most Sets.has Sets.isRow Sets.noRow Sets.firstRows Sets.gaining Sets.losing Sets.cutTo Sizes.root Sizes.rootUp Sizes.published Sizes.noGrid Sizes.spare Sizes.rowOf Sizes.columnOf Sizes.height Quorums.touches Quorums.covers Quorums.readQuorum Quorums.writeQuorum Quorums.quorum Quorums.isPosition Quorums.readChoice Quorums.writeChoice Quorums.choice Bytes.number Bytes.bytesOf Bytes.part Bytes.put Bytes.allZero Layout.get Layout.store Layout.form Layout.capacity Layout.used Layout.first Layout.fileLength Layout.name Layout.link Layout.epoch Layout.members Layout.mark Layout.version Layout.desired Layout.reserved Layout.contents Layout.storeContents Layout.rowLength Layout.rowsEnd Layout.rowBytes Layout.capacityOf Layout.usedOf Layout.firstOf Layout.fileOf Layout.nameOf Layout.linkOf Layout.epochOf Layout.membersOf Layout.staleOf Layout.versionOf Layout.desiredOf Layout.contentsOf Chain.chain Chain.orderOf Chain.among Chain.risesFrom WellFormed.between WellFormed.limit WellFormed.onlyRows WellFormed.headerValues WellFormed.rowValues WellFormed.lengthRight WellFormed.visitsEach WellFormed.namesRise WellFormed.unusedZero WellFormed.numbersSmall WellFormed.desiredRight WellFormed.listRight WellFormed.rowRight WellFormed.listsAgree WellFormed.wellFormed Lists.size Lists.gridOf Lists.keep Lists.seats Lists.atSeat Lists.listQuorum Lists.listChoice Polls.polled Polls.highestEpoch Polls.inForce Polls.unmarked Polls.marked Polls.goodVersion Polls.good Polls.current Polls.quorumHeld Polls.ownTry Polls.workedOn Rows.markedRow Rows.patchedRow Rows.enrolledRow Rows.refreshedRow Rows.withRow Rows.withRows Rows.wroteRow Rows.checkedRow Calls.resultOf Calls.firstNo Calls.upTo Calls.isUsed Calls.inFile Calls.answers Calls.workSet Calls.namesIn Calls.namesRise Calls.zeros Calls.foundedHeader Calls.foundedRow Calls.foundedRows Calls.founded Calls.byCoordinator Calls.questions Calls.done Calls.lent Calls.refused Calls.outcome
+histories-replay = refl

@@ -1,0 +1,108 @@
+-- "The plain book": fed each call's arguments and whether it was done. Nothing comes from the table.
+use mathlib.Core.Bool.{Bool, true, false, cond, _&&_, _||_}
+use mathlib.Core.List.{List, [], _∷_}
+use Prim.Native.Nat.{ℕ, zero, suc, _+_, _-_, _^_}
+use lib.Dec.{eqb}
+use lib.ListN.{length, getD}
+use Rattle.rows.specs.Upto.{every, some}
+use Rattle.rows.specs.Sets.{has, cutTo}
+use Rattle.grid.specs.declared.quorums.Kind.{Kind}
+use Rattle.grid.specs.declared.quorums.Kind.the-variants.{Read, Write}
+use Rattle.table.specs.Bytes.{put}
+use Rattle.protocol.specs.Lists.{listQuorum, listChoice}
+use Rattle.protocol.specs.Calls.{Call, founding, read, write, send, check, namesIn, zeros}
+
+pub record Book : Type 0 where
+  -- the names of rows 1 upward, from the founding's arguments
+  pub names : List ℕ
+  -- "a file of L zero bytes", and how many writes were done
+  pub file : List ℕ
+  pub writes : ℕ
+  -- the list in force, and each row's own list
+  pub inForce : ℕ
+  pub own : ℕ → ℕ
+  -- row i has done write k, the first being write 1
+  pub hasWrite : ℕ → ℕ → Bool
+
+-- n, n + 1, .., so many
+unfoldable pub upward : ℕ → ℕ → List ℕ
+upward zero n = []
+upward (suc k) n = n ∷ upward k (suc n)
+
+-- the rows in the order of their names: names rise, so it is that of their indexes
+unfoldable pub order : Book → List ℕ
+order b = upward (length (b .names)) 1
+
+unfoldable pub nameIn : Book → ℕ → ℕ
+nameIn b i = getD (b .names) (i - 1) 0
+
+-- "A done founding opens it with a file of L zero bytes and no writes. The list in force, and each row's own list, is all used rows."
+unfoldable pub opened : ℕ → List ℕ → Book
+opened file names = record {
+  names = names;
+  file = zeros file;
+  writes = 0;
+  inForce = 2 ^ length names - 1;
+  own = λ i. 2 ^ length names - 1;
+  hasWrite = λ i k. false;
+}
+
+-- row i has every done write
+unfoldable pub hasAll : Book → ℕ → Bool
+hasAll b i = every (b .writes) (b .hasWrite i)
+
+-- s holds a quorum of the list in force, and a row of s has every done write
+unfoldable pub holdsQuorum : Book → Kind → (ℕ → Bool) → Bool
+holdsQuorum b kind s = listQuorum kind (order b) (b .inForce) s
+
+unfoldable pub someHasAll : Book → (ℕ → Bool) → Bool
+someHasAll b s = some 64 (λ i. s i && hasAll b i)
+
+-- "P is c's own choice over c's own list in the book, cut down to R. If P holds a write quorum of the list in force and a row of P has every
+-- earlier done write, the write's set is P, otherwise R."
+unfoldable pub writeSet : Book → ℕ → ℕ → ℕ → Bool
+writeSet b c r =
+    let tried = cutTo (listChoice Write (order b) (b .own c) (nameIn b c)) (has r) in
+    cond (holdsQuorum b Write tried && someHasAll b tried) tried (has r)
+
+-- "Those rows of its set that have every earlier done write take it. The patch is laid over the file."
+unfoldable pub written : Book → (ℕ → Bool) → ℕ → List ℕ → Book
+written b s offset patch = record {
+  names = b .names;
+  file = put offset patch (b .file);
+  writes = b .writes + 1;
+  inForce = b .inForce;
+  own = b .own;
+  hasWrite = λ i k. b .hasWrite i k || (s i && hasAll b i && eqb k (b .writes + 1));
+}
+
+-- "t has, besides its own, all that f has"
+unfoldable pub passedOn : Book → ℕ → ℕ → Book
+passedOn b f t = record {
+  names = b .names;
+  file = b .file;
+  writes = b .writes;
+  inForce = b .inForce;
+  own = b .own;
+  hasWrite = λ i k. b .hasWrite i k || (eqb i t && b .hasWrite f k);
+}
+
+-- "R becomes the list in force, and the own list of each row of R"
+unfoldable pub agreed : Book → ℕ → Book
+agreed b r = record {
+  names = b .names;
+  file = b .file;
+  writes = b .writes;
+  inForce = r;
+  own = λ i. cond (has r i) r (b .own i);
+  hasWrite = b .hasWrite;
+}
+
+-- the book after a call, and whether that was done; "A read, or any refused call: nothing."
+unfoldable pub entered : Book → Call → Bool → Book
+entered b k false = b
+entered b (founding capacity file names) true = opened file (namesIn names)
+entered b (read c r offset count buffer) true = b
+entered b (write c r offset patch) true = written b (writeSet b c r) offset patch
+entered b (send f t r) true = passedOn b f t
+entered b (check c r) true = agreed b r

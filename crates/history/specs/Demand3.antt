@@ -1,0 +1,47 @@
+-- Demand 3: a single claim about a whole list of calls after one done founding.
+use mathlib.Core.Path.{_≡_}
+use mathlib.Core.Bool.{Bool, cond}
+use mathlib.Core.List.{List, [], _∷_}
+use Prim.Native.Nat.{ℕ, zero, suc, _<_}
+use lib.Dec.{eqb}
+use Rattle.rows.specs.Sets.{has}
+use Rattle.grid.specs.declared.quorums.Kind.{Kind}
+use Rattle.grid.specs.declared.quorums.Kind.the-variants.{Read, Write}
+use Rattle.table.specs.Bytes.{part}
+use Rattle.protocol.specs.Calls.{Call, founding, read, write, send, check, Outcome, firstNo, upTo, questions, outcome, namesIn}
+use Rattle.history.specs.Book.{Book, opened, holdsQuorum, someHasAll, entered}
+
+-- "The refusals in demand 3 are by 6 where the quorum is wanting, and by 7 where it is held and no row of R has every done write."
+unfoldable pub verdict : Book → Kind → ℕ → ℕ
+verdict b kind r = cond (holdsQuorum b kind (has r)) (cond (someHasAll b (has r)) 0 7) 6
+
+-- "every done read in the list gives exactly its range of .. and its value is how many those are"
+pub record ReadGives (b : Book) (offset count : ℕ) (o : Outcome) : Type 0 where
+  pub value : o .value ≡ b .writes
+  pub bytes : o .buffer ≡ part offset count (b .file)
+
+-- "After fewer than 1,000,000 done writes, a read (write) that passes document 01's questions 1 to 5 is refused exactly when .."
+unfoldable pub RefusedRight : List ℕ → Book → Call → Kind → ℕ → Outcome → Type 0
+RefusedRight t b k kind r o = firstNo (upTo 5 (questions t k)) ≡ 0 → b .writes < 1_000_000 → o .refusal ≡ verdict b kind r
+
+-- what is claimed of one call, made on the table t with the book b
+unfoldable pub Right : List ℕ → Book → Call → Outcome → Type 0
+Right t b (read c r offset count buffer) o =
+    (o .refusal ≡ 0 → ReadGives b offset count o) × RefusedRight t b (read c r offset count buffer) Read r o
+Right t b (write c r offset patch) o = RefusedRight t b (write c r offset patch) Write r o
+Right t b (founding capacity file names) o = Unit {0}
+Right t b (send f to r) o = Unit {0}
+Right t b (check c r) o = Unit {0}
+
+-- and of a list of calls, each getting the table as the last one left it; the book is fed the call and whether it was done
+unfoldable pub AllRight : List ℕ → Book → List Call → Type 0
+AllRight t b [] = Unit {0}
+AllRight t b (k ∷ ks) =
+    let o = outcome t k in
+    Right t b k o × AllRight (o .table) (entered b k (eqb (o .refusal) 0)) ks
+
+-- Further foundings may stand in the list: a done one opens the book anew.
+unfoldable pub Demand3 : Type 0
+Demand3 = (t : List ℕ) (capacity file : ℕ) (names : List ℕ) (ks : List Call)
+    → let o = outcome t (founding capacity file names) in
+    o .refusal ≡ 0 → AllRight (o .table) (opened file (namesIn names)) ks

@@ -1,0 +1,4 @@
+pub mod Lists
+pub mod Polls
+pub mod Rows
+pub mod Calls

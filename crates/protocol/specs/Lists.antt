@@ -1,0 +1,41 @@
+-- A list of rows, laid in its grid in chain order.
+use mathlib.Core.Bool.{Bool, cond, _&&_}
+use mathlib.Core.List.{List, [], _∷_}
+use Prim.Native.Nat.{ℕ, _-_}
+use lib.Dec.{eqb, leb}
+use lib.ListN.{length, getD}
+use Rattle.rows.specs.Upto.{some, count}
+use Rattle.rows.specs.Sets.{has}
+use Rattle.grid.specs.declared.sizes.Grid.{Grid}
+use Rattle.grid.specs.declared.quorums.Kind.{Kind}
+use Rattle.grid.specs.Sizes.{published}
+use Rattle.grid.specs.Quorums.{quorum, choice}
+
+-- "The length N of a list is how many members it has."
+unfoldable pub size : ℕ → ℕ
+size v = count 64 (has v)
+
+-- the grid that a list is laid in
+unfoldable pub gridOf : ℕ → Grid
+gridOf v = published (size v)
+
+-- those of the list that pass
+unfoldable pub keep : (ℕ → Bool) → List ℕ → List ℕ
+keep p [] = []
+keep p (x ∷ xs) = cond (p x) (x ∷ keep p xs) (keep p xs)
+
+-- "Members in chain order fill row by row": the members of list v in chain order
+unfoldable pub seats : List ℕ → ℕ → List ℕ
+seats order v = keep (has v) order
+
+-- the row at position k, counted from 1, passes
+unfoldable pub atSeat : List ℕ → (ℕ → Bool) → ℕ → Bool
+atSeat rows p k = leb 1 k && leb k (length rows) && p (getD rows (k - 1) 0)
+
+-- the rows s hold a quorum of list v; "rows outside the list count for nothing here"
+unfoldable pub listQuorum : Kind → List ℕ → ℕ → (ℕ → Bool) → Bool
+listQuorum kind order v s = quorum kind (gridOf v) (size v) (atSeat (seats order v) s)
+
+-- row i is in the choice that the name a makes over list v: it stands at a chosen position
+unfoldable pub listChoice : Kind → List ℕ → ℕ → ℕ → ℕ → Bool
+listChoice kind order v a i = some (size v) (λ k. choice kind (gridOf v) (size v) a k && atSeat (seats order v) (eqb i) k)

@@ -1,0 +1,70 @@
+-- What the answering rows say, and the set that a call works on.
+use mathlib.Core.Bool.{Bool, not, cond, _&&_, _||_}
+use mathlib.Core.List.{List}
+use Prim.Native.Nat.{ℕ}
+use lib.Dec.{eqb, leb, ltb}
+use Rattle.rows.specs.Upto.{some, lowest, most}
+use Rattle.rows.specs.Sets.{has, cutTo}
+use Rattle.grid.specs.declared.quorums.Kind.{Kind}
+use Rattle.table.specs.Layout.{epochOf, membersOf, staleOf, versionOf, desiredOf}
+use Rattle.protocol.specs.Lists.{listQuorum, listChoice}
+
+-- "The state gathered by a poll is one value, with a place for each of the 64 rows."
+pub record Poll : Type 0 where
+  pub stale : ℕ → Bool
+  pub version : ℕ → ℕ
+  pub desired : ℕ → ℕ
+  pub epoch : ℕ → ℕ
+  pub members : ℕ → ℕ
+
+-- what the rows of s say; every other row reads as 0
+unfoldable pub polled : List ℕ → (ℕ → Bool) → Poll
+polled t s = record {
+  stale = λ i. s i && staleOf t i;
+  version = λ i. cond (s i) (versionOf t i) 0;
+  desired = λ i. cond (s i) (desiredOf t i) 0;
+  epoch = λ i. cond (s i) (epochOf t i) 0;
+  members = λ i. cond (s i) (membersOf t i) 0;
+}
+
+-- ---- of a set S of rows, by a poll
+module _ (p : Poll) (s : ℕ → Bool) where
+  -- "the highest epoch in S"
+  unfoldable pub highestEpoch : ℕ
+  highestEpoch = most 64 s (p .epoch)
+
+  -- "V the list of the highest epoch in S": that of the lowest row that has it
+  unfoldable pub inForce : ℕ
+  inForce = p .members (lowest 64 (λ i. s i && eqb (p .epoch i) highestEpoch))
+
+  unfoldable pub unmarked : ℕ → Bool
+  unmarked i = s i && not (p .stale i)
+
+  unfoldable pub marked : ℕ → Bool
+  marked i = s i && p .stale i
+
+  -- "the highest version among unmarked rows of S"
+  unfoldable pub goodVersion : ℕ
+  goodVersion = most 64 unmarked (p .version)
+
+  -- "Good rows are the unmarked rows of S with the highest version among unmarked rows of S."
+  unfoldable pub good : ℕ → Bool
+  good i = unmarked i && eqb (p .version i) goodVersion
+
+  -- "S is current if a good row exists and no marked row of S desires more than that version."
+  unfoldable pub current : Bool
+  current = some 64 good && not (some 64 (λ i. marked i && ltb goodVersion (p .desired i)))
+
+-- ---- questions 6 and 7, and the set worked on, for a chain order and a poll
+module _ (kind : Kind) (order : List ℕ) (p : Poll) where
+  -- "does S hold a read quorum of V; write, check: a write quorum?"; "For an empty P the answer to question 6 is no."
+  unfoldable pub quorumHeld : (ℕ → Bool) → Bool
+  quorumHeld s = some 64 s && listQuorum kind order (inForce p s) s
+
+  -- "P: c's own choice over c's own list, cut down to R", by c's name a
+  unfoldable pub ownTry : ℕ → ℕ → (ℕ → Bool) → ℕ → Bool
+  ownTry c a r = cutTo (listChoice kind order (p .members c) a) r
+
+  -- "If questions 6 and 7 are yes for P, the call works on P; otherwise on R."
+  unfoldable pub workedOn : ℕ → ℕ → (ℕ → Bool) → ℕ → Bool
+  workedOn c a r = let tried = ownTry c a r in cond (quorumHeld tried && current p tried) tried r

@@ -1,0 +1,41 @@
+-- Rows after a call: which fields of a row change, and which rows of the table.
+use mathlib.Core.Bool.{Bool, cond}
+use mathlib.Core.List.{List}
+use Prim.Native.Nat.{ℕ, zero, suc}
+use lib.ListN.{length}
+use Rattle.table.specs.Bytes.{part, put}
+use Rattle.table.specs.Layout.{get, store, mark, version, desired, epoch, members, contents, storeContents, rowLength, rowsEnd, rowBytes}
+
+-- "is marked and desires the new version"
+unfoldable pub markedRow : ℕ → List ℕ → List ℕ
+markedRow v row = store desired v (store mark 1 row)
+
+-- "a patch touches only the named bytes of that row's contents .. whose version grows by one"
+unfoldable pub patchedRow : ℕ → ℕ → List ℕ → List ℕ → List ℕ
+patchedRow v offset patch row = storeContents offset patch (store version v row)
+
+-- "gets list R and V's epoch number plus one"
+unfoldable pub enrolledRow : ℕ → ℕ → List ℕ → List ℕ
+enrolledRow e list row = store members list (store epoch e row)
+
+-- "t takes f's contents and version; mark and desired become 0"
+unfoldable pub refreshedRow : List ℕ → List ℕ → List ℕ
+refreshedRow source row = storeContents 0 (contents source) (store desired 0 (store version (get version source) (store mark 0 row)))
+
+-- the table with row i changed by f, and no other byte
+unfoldable pub withRow : List ℕ → ℕ → (List ℕ → List ℕ) → List ℕ
+withRow t zero f = t
+withRow t (suc k) f = put (rowsEnd t k) (f (rowBytes t (suc k))) t
+
+-- the table with each row i of s among 1 to n changed by f i, and no other byte
+unfoldable pub withRows : List ℕ → (ℕ → Bool) → (ℕ → List ℕ → List ℕ) → ℕ → List ℕ
+withRows t s f zero = t
+withRows t s f (suc n) = let u = withRows t s f n in cond (s (suc n)) (withRow u (suc n) (f (suc n))) u
+
+-- "in each good row ..; every other row of S is marked and desires the new version"
+unfoldable pub wroteRow : (ℕ → Bool) → ℕ → ℕ → List ℕ → ℕ → List ℕ → List ℕ
+wroteRow good v offset patch i row = cond (good i) (patchedRow v offset patch row) (markedRow v row)
+
+-- "every row of R gets list R and V's epoch number plus one; rows not good are marked and desire the good version"
+unfoldable pub checkedRow : (ℕ → Bool) → ℕ → ℕ → ℕ → ℕ → List ℕ → List ℕ
+checkedRow good v e list i row = enrolledRow e list (cond (good i) row (markedRow v row))
