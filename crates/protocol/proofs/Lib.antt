@@ -1,0 +1,4 @@
+pub mod ListLaws
+pub mod PollLaws
+pub mod RowLaws
+pub mod TableLaws

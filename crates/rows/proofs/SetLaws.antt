@@ -190,3 +190,19 @@ pub gain-where : (s : ℕ → Bool) (i : ℕ) (b : Bool) → Within 64 i → con
 unfolding gaining
 gain-where s i true w = fun-ext (λ j. rw (row-yes i w))
 gain-where s i false w = fun-ext (λ j. sym (or-false (s j)))
+
+-- a set below 2 ^ n has only rows 1 to n
+pub has-within : (n s i : ℕ) → s < 2 ^ n → has s i ≡ true → Within n i
+unfolding has
+has-within n s zero h e = absurd (clash e)
+has-within n s (suc k) h e = go (decLt k n)
+  where
+    go : Dec (k < n) → Within n (suc k)
+    go (yes l) = omega arith
+    go (no l) = absurd (clash (sym (on-high n s k h (omega arith)) ∙ e))
+
+-- the first n rows are members of their set
+pub has-all : (n i : ℕ) → Within n i → has (2 ^ n - 1) i ≡ true
+unfolding has
+has-all n zero w = absurd (omega arith)
+has-all n (suc k) w = on-ones n k ∙ lt-ltb k n (omega arith)

@@ -2,10 +2,12 @@
 use mathlib.Core.Path.{_≡_, refl, sym, _∙_, ap, ap₂}
 use mathlib.Core.Bool.{Bool, true, false, not, cond, _&&_, _||_}
 use mathlib.Core.Logic.{_⊎_, inl, inr}
-use Prim.Native.Nat.{ℕ, zero, suc, _+_, _≤_, _<_}
+use Prim.Native.Nat.{ℕ, zero, suc, _+_, _≤_, _<_, max}
 use native.Mathlib.Decide.{ℕ-discrete, decLe}
 use native.Mathlib.Omega.{arith}
-use Rattle.rows.specs.Upto.{Within, every, some, count, lowest}
+use lib.Dec.{leb}
+use borrow.Author.Tests.{leb-true, leb-false}
+use Rattle.rows.specs.Upto.{Within, every, some, count, lowest, most}
 use Rattle.rows.proofs.Bools.{and-l, and-r, and-i, or-l, or-r, or-e, clash, same-test, not-both}
 
 -- one of 1 to suc n is suc n, or one of 1 to n
@@ -147,3 +149,54 @@ lowest-below (suc n) p i h l = go (some n p) refl (p (suc n)) refl (p i) refl (l
     go false ea true eb true ex ih =
         let m : i < suc n = rw (ea, eb) at l in absurd (clash (sym ea ∙ some-of n p i (omega arith) ex))
     go false ea false eb true ex ih = let m : i < 0 = rw (ea, eb) at l in absurd (omega arith)
+
+-- ---- most
+pub most-le : (n : ℕ) (p : ℕ → Bool) (f : ℕ → ℕ) (i : ℕ) → Within n i → p i ≡ true → f i ≤ most n p f
+unfolding most
+most-le zero p f i h e = absurd (omega arith)
+most-le (suc n) p f i h e = go (most-le n p f i) (last n i h)
+  where
+    go : (Within n i → p i ≡ true → f i ≤ most n p f) → (i ≡ suc n) ⊎ Within n i → f i ≤ max (most n p f) (cond (p (suc n)) (f (suc n)) 0)
+    go ih (inl q) = let here : p (suc n) ≡ true = rw (← q) e in rw (here, q) (omega arith)
+    go ih (inr q) = omega (arith, ih q e)
+
+pub most-under : (n : ℕ) (p : ℕ → Bool) (f : ℕ → ℕ) (c : ℕ) → ((i : ℕ) → Within n i → p i ≡ true → f i ≤ c) → most n p f ≤ c
+unfolding most
+most-under zero p f c h = omega arith
+most-under (suc n) p f c h = go (p (suc n)) refl (most-under n p f c (λ i w. h i (omega arith)))
+  where
+    go : (b : Bool) → p (suc n) ≡ b → most n p f ≤ c → max (most n p f) (cond (p (suc n)) (f (suc n)) 0) ≤ c
+    go true e ih = rw e (omega (arith, h (suc n) (omega arith) e))
+    go false e ih = rw e (omega arith)
+
+-- where some one passes, one that passes has it
+pub most-at : (n : ℕ) (p : ℕ → Bool) (f : ℕ → ℕ) → some n p ≡ true → (i : ℕ) × Within n i × (p i ≡ true) × (f i ≡ most n p f)
+unfolding most some
+most-at zero p f e = absurd (clash e)
+most-at (suc n) p f e = go (some n p) refl (p (suc n)) refl (most-at n p f)
+  where
+    go : (a : Bool) → some n p ≡ a → (b : Bool) → p (suc n) ≡ b → (some n p ≡ true → (i : ℕ) × Within n i × (p i ≡ true) × (f i ≡ most n p f))
+        → (i : ℕ) × Within (suc n) i × (p i ≡ true) × (f i ≡ max (most n p f) (cond (p (suc n)) (f (suc n)) 0))
+    go true q true r ih = pick (ih q) (leb (most n p f) (f (suc n))) refl
+      where
+        pick : (i : ℕ) × Within n i × (p i ≡ true) × (f i ≡ most n p f) → (b : Bool) → leb (most n p f) (f (suc n)) ≡ b
+            → (i : ℕ) × Within (suc n) i × (p i ≡ true) × (f i ≡ max (most n p f) (cond (p (suc n)) (f (suc n)) 0))
+        pick w true l = (suc n, omega arith, r, rw r (omega (arith, leb-true)))
+        pick w false l = (w .0, omega arith, w .2, rw r (omega (arith, leb-false)))
+    go true q false r ih = let w = ih q in (w .0, omega arith, w .2, rw r (omega arith))
+    go false q true r ih =
+        let z : most n p f ≤ 0 = most-under n p f 0 (λ i h t. absurd (clash (sym q ∙ some-of n p i h t))) in
+        (suc n, omega arith, r, rw r (omega arith))
+    go false q false r ih = absurd (clash (rw (q, r) at e))
+
+pub most-ext : (n : ℕ) (p q : ℕ → Bool) (f g : ℕ → ℕ) → ((i : ℕ) → Within n i → p i ≡ q i) → ((i : ℕ) → Within n i → q i ≡ true → f i ≡ g i)
+    → most n p f ≡ most n q g
+unfolding most
+most-ext zero p q f g e d = refl
+most-ext (suc n) p q f g e d =
+    ap₂ (λ (x y : ℕ). max x y) (most-ext n p q f g (λ i h. e i (omega arith)) (λ i h. d i (omega arith)))
+    (rw (e (suc n) (omega arith)) (go (q (suc n)) refl))
+  where
+    go : (x : Bool) → q (suc n) ≡ x → cond x (f (suc n)) 0 ≡ cond x (g (suc n)) 0
+    go true h = d (suc n) (omega arith) h
+    go false h = refl

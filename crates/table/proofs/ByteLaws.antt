@@ -2,13 +2,13 @@
 use mathlib.Core.Path.{_≡_, refl, sym, _∙_, ap, ap₂}
 use mathlib.Core.Bool.{Bool, true, false, _&&_}
 use mathlib.Core.Logic.{_⊎_, inl, inr}
-use mathlib.Core.List.{List, [], _∷_, _++_}
+use mathlib.Core.List.{List, [], _∷_, _++_, append-nil}
 use Prim.Native.Nat.{ℕ, zero, suc, _+_, _-_, _*_, _/_, _%_, _^_, _≤_, _<_}
 use native.Mathlib.Nat.{pow-suc, div-lt-iff-lt-mul, zero-lt-suc, mul-comm, mul-add, mul-assoc, add-assoc, one-mul, zero-add, le-of-suc-le-suc}
 use native.Mathlib.Omega.{arith}
 use lib.Dec.{eqb}
 use lib.ListN.{length, getD, take, drop, replicate, length-append, length-take, length-drop, List·getD-append, take-append-drop}
-use lib.Seq.{drop-drop, take-at, drop-at, take-add, getD-take, getD-drop, getD-append-add, ext-getD, length-take-le, take-append-le, drop-append-le, take-take}
+use lib.Seq.{drop-drop, drop-length, take-at, drop-at, take-add, getD-take, getD-drop, getD-append-add, ext-getD, length-take-le, take-append-le, drop-append-le, take-take}
 use borrow.Author.Tests.{eqb-true, eq-eqb}
 use Rattle.rows.proofs.Bools.{and-l, and-r, and-i}
 use Rattle.table.specs.Bytes.{number, bytesOf, part, put, allZero}
@@ -143,3 +143,10 @@ module _ (xs : List ℕ) (a : ℕ) (p : List ℕ) (fits : a + length p ≤ lengt
       drop-take b a xs h = ext-getD 0 _ _ (simp (length-drop, length-take) (omega arith)) (λ i l.
           let m : i < a - b = omega (arith, length-drop b (take a xs), length-take a xs) in
           getD-drop b (take a xs) i 0 ∙ getD-take a xs (b + i) 0 (omega arith) ∙ sym (getD-take (a - b) (drop b xs) i 0 m ∙ getD-drop b xs i 0))
+
+-- bytes put over all that was there
+pub put-all : (p xs : List ℕ) → length p ≡ length xs → put 0 p xs ≡ p
+unfolding put
+put-all p xs e =
+    let z : 0 + length p ≡ length xs = omega arith in
+    ap (λ (n : ℕ). p ++ drop n xs) z ∙ ap (λ (l : List ℕ). p ++ l) (drop-length xs) ∙ append-nil p

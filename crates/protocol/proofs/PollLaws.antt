@@ -1,0 +1,201 @@
+-- What a poll says of a set of rows, row by row; and that it says nothing of rows outside the set.
+use mathlib.Core.Path.{_≡_, refl, sym, _∙_, ap, ap₂, fun-ext}
+use mathlib.Core.Bool.{Bool, true, false, not, cond, _&&_, _||_}
+use mathlib.Core.List.{List}
+use Prim.Native.Nat.{ℕ, _<_, _≤_}
+use native.Mathlib.Omega.{arith}
+use lib.Dec.{leb, ltb, eqb}
+use borrow.Author.Tests.{eqb-true, eq-eqb, leb-true, le-leb, not-true, ltb-true, ltb-false, lt-ltb, le-ltb}
+use Rattle.rows.specs.Upto.{Within, some, lowest, most}
+use Rattle.rows.specs.Sets.{has, cutTo}
+use Rattle.rows.proofs.Bools.{and-l, and-r, and-i, same-test, clash}
+use Rattle.rows.proofs.UptoLaws.{some-at, some-of, some-none, some-ext, most-le, most-at, most-under, most-ext, lowest-at, lowest-ext}
+use Rattle.grid.specs.declared.quorums.Kind.{Kind}
+use Rattle.protocol.specs.Lists.{listQuorum, listChoice}
+use Rattle.protocol.specs.Polls.{Poll, highestEpoch, inForce, unmarked, marked, goodVersion, good, current, quorumHeld, ownTry, workedOn}
+
+-- the row whose list is in force
+pub record Leads (p : Poll) (s : ℕ → Bool) (i : ℕ) : Type 0 where
+  pub place : Within 64 i
+  pub inside : s i ≡ true
+  pub highest : p .epoch i ≡ highestEpoch p s
+  pub list : p .members i ≡ inForce p s
+
+pub record Good (p : Poll) (s : ℕ → Bool) (i : ℕ) : Type 0 where
+  pub inside : s i ≡ true
+  pub clean : p .stale i ≡ false
+  pub newest : p .version i ≡ goodVersion p s
+
+module _ (p : Poll) (s : ℕ → Bool) where
+  pub epoch-le : (i : ℕ) → Within 64 i → s i ≡ true → p .epoch i ≤ highestEpoch p s
+  unfolding highestEpoch
+  epoch-le = most-le 64 s (p .epoch)
+
+  -- the lowest row of the highest epoch
+  leader : ℕ
+  leader = lowest 64 (λ i. s i && eqb (p .epoch i) (highestEpoch p s))
+
+  lead-is : some 64 s ≡ true → Leads p s leader
+  unfolding highestEpoch inForce leader
+  lead-is h =
+      let m = most-at 64 s (p .epoch) h in
+      let test : ℕ → Bool = λ i. s i && eqb (p .epoch i) (most 64 s (p .epoch)) in
+      let f = lowest-at 64 test (some-of 64 test (m .0) (m .1) (and-i (s (m .0)) _ (m .2) (eq-eqb _ _ (m .3)))) in
+      record { place = f .0; inside = and-l _ _ (f .1); highest = eqb-true _ _ (and-r (s (lowest 64 test)) _ (f .1)); list = refl }
+
+  pub leads : some 64 s ≡ true → (i : ℕ) × Leads p s i
+  leads h = (leader, lead-is h)
+
+  pub version-le : (i : ℕ) → Within 64 i → s i ≡ true → p .stale i ≡ false → p .version i ≤ goodVersion p s
+  unfolding goodVersion unmarked
+  version-le i w h z = most-le 64 (unmarked p s) (p .version) i w (rw (h, z))
+
+  pub version-under : (c : ℕ) → ((i : ℕ) → s i ≡ true → p .version i ≤ c) → goodVersion p s ≤ c
+  unfolding goodVersion unmarked
+  version-under c f = most-under 64 (unmarked p s) (p .version) c (λ i w h. f i (and-l _ _ h))
+
+  pub good-at : (i : ℕ) → good p s i ≡ true → Good p s i
+  unfolding good unmarked
+  good-at i h =
+      let u = and-l (s i && not (p .stale i)) _ h in
+      record { inside = and-l (s i) _ u; clean = not-true _ (and-r (s i) _ u); newest = eqb-true _ _ (and-r (s i && not (p .stale i)) _ h) }
+
+  pub good-of : (i : ℕ) → Good p s i → good p s i ≡ true
+  unfolding good unmarked
+  good-of i g = rw (g .inside, g .clean) (eq-eqb _ _ (g .newest))
+
+  -- where the set is current there is a good row, and no marked row desires more
+  pub current-good : current p s ≡ true → (i : ℕ) × Within 64 i × Good p s i
+  unfolding current
+  current-good h = let r = some-at 64 (good p s) (and-l _ _ h) in (r .0, r .1, good-at (r .0) (r .2))
+
+  pub current-desired : current p s ≡ true → (i : ℕ) → Within 64 i → s i ≡ true → p .stale i ≡ true → p .desired i ≤ goodVersion p s
+  unfolding current marked
+  current-desired h i w m z =
+      go (ltb (goodVersion p s) (p .desired i)) refl (not-true _ (and-r (some 64 (good p s)) _ h))
+    where
+      go : (b : Bool) → ltb (goodVersion p s) (p .desired i) ≡ b → some 64 (λ j. s j && p .stale j && ltb (goodVersion p s) (p .desired j)) ≡ false
+          → p .desired i ≤ goodVersion p s
+      go true e none = absurd (clash (sym none ∙ some-of 64 _ i w (rw (m, z) e)))
+      go false e none = ltb-false _ _ e
+
+  pub current-of : (i : ℕ) → Within 64 i → Good p s i → ((j : ℕ) → Within 64 j → s j ≡ true → p .stale j ≡ true → p .desired j ≤ goodVersion p s) → current p s ≡ true
+  unfolding current marked
+  current-of i w g f =
+      let none : some 64 (λ j. s j && p .stale j && ltb (goodVersion p s) (p .desired j)) ≡ false = some-none 64 _ (λ j u. out j u (s j) refl (p .stale j) refl) in
+      and-i _ _ (some-of 64 (good p s) i w (good-of i g)) (rw none)
+    where
+      out : (j : ℕ) → Within 64 j → (a : Bool) → s j ≡ a → (b : Bool) → p .stale j ≡ b → (s j && p .stale j && ltb (goodVersion p s) (p .desired j)) ≡ false
+      out j u true ea true eb = rw (ea, eb) (le-ltb (goodVersion p s) (p .desired j) (f j u ea eb))
+      out j u true ea false eb = rw (ea, eb)
+      out j u false ea b eb = rw ea
+
+  -- the good row of lowest index
+  pub lowest-good : current p s ≡ true → Within 64 (lowest 64 (good p s)) × Good p s (lowest 64 (good p s))
+  lowest-good h =
+      let r = current-good h in
+      let f = lowest-at 64 (good p s) (some-of 64 (good p s) (r .0) (r .1) (good-of (r .0) (r .2))) in
+      (f .0, good-at (lowest 64 (good p s)) (f .1))
+
+-- ---- two polls that agree on the rows of s say the same of s
+pub record Agree (p q : Poll) (s : ℕ → Bool) : Type 0 where
+  pub stale : (i : ℕ) → s i ≡ true → p .stale i ≡ q .stale i
+  pub version : (i : ℕ) → s i ≡ true → p .version i ≡ q .version i
+  pub desired : (i : ℕ) → s i ≡ true → p .desired i ≡ q .desired i
+  pub epoch : (i : ℕ) → s i ≡ true → p .epoch i ≡ q .epoch i
+  pub members : (i : ℕ) → s i ≡ true → p .members i ≡ q .members i
+
+-- a test of what is in s
+within : (s : ℕ → Bool) (a b : ℕ → Bool) → ((i : ℕ) → s i ≡ true → a i ≡ b i) → (i : ℕ) → (s i && a i) ≡ (s i && b i)
+within s a b f i = go (s i) refl
+  where
+    go : (x : Bool) → s i ≡ x → (x && a i) ≡ (x && b i)
+    go true e = f i e
+    go false e = refl
+
+module _ (p q : Poll) (s : ℕ → Bool) (g : Agree p q s) where
+  pub epoch-same : highestEpoch p s ≡ highestEpoch q s
+  unfolding highestEpoch
+  epoch-same = most-ext 64 s s (p .epoch) (q .epoch) (λ i w. refl) (λ i w. g .epoch i)
+
+  pub list-same : some 64 s ≡ true → inForce p s ≡ inForce q s
+  unfolding inForce leader
+  list-same h =
+      let here : (i : ℕ) → s i ≡ true → eqb (p .epoch i) (highestEpoch p s) ≡ eqb (q .epoch i) (highestEpoch q s) =
+          λ i m. ap₂ eqb (g .epoch i m) epoch-same in
+      let e : leader p s ≡ leader q s = lowest-ext 64 _ _ (λ i w. within s _ _ here i) in
+      ap (p .members) e ∙ g .members (leader q s) (lead-is q s h .inside)
+
+  unmarked-same : (i : ℕ) → unmarked p s i ≡ unmarked q s i
+  unfolding unmarked
+  unmarked-same = within s (λ i. not (p .stale i)) (λ i. not (q .stale i)) (λ i m. ap not (g .stale i m))
+
+  pub version-same : goodVersion p s ≡ goodVersion q s
+  unfolding goodVersion unmarked
+  version-same = most-ext 64 (unmarked p s) (unmarked q s) (p .version) (q .version) (λ i w. unmarked-same i) (λ i w m. g .version i (and-l _ _ m))
+
+  pub good-same : good p s ≡ good q s
+  unfolding good unmarked
+  good-same = fun-ext (λ i. go i (s i) refl)
+    where
+      go : (i : ℕ) (x : Bool) → s i ≡ x → (s i && not (p .stale i) && eqb (p .version i) (goodVersion p s)) ≡ (s i && not (q .stale i) && eqb (q .version i) (goodVersion q s))
+      go i true e = rw (e, g .stale i e, g .version i e, version-same)
+      go i false e = rw e
+
+  pub current-same : current p s ≡ current q s
+  unfolding current marked
+  current-same = ap₂ (λ (x y : Bool). x && not y) (ap (some 64) good-same) (some-ext 64 _ _ (λ i w. go i (s i) refl))
+    where
+      go : (i : ℕ) (x : Bool) → s i ≡ x → (s i && p .stale i && ltb (goodVersion p s) (p .desired i)) ≡ (s i && q .stale i && ltb (goodVersion q s) (q .desired i))
+      go i true e = rw (e, g .stale i e, g .desired i e, version-same)
+      go i false e = rw e
+
+  pub quorum-same : (kind : Kind) (order : List ℕ) → quorumHeld kind order p s ≡ quorumHeld kind order q s
+  unfolding quorumHeld
+  quorum-same kind order = go (some 64 s) refl
+    where
+      go : (x : Bool) → some 64 s ≡ x → (x && listQuorum kind order (inForce p s) s) ≡ (x && listQuorum kind order (inForce q s) s)
+      go true e = rw (list-same e)
+      go false e = refl
+
+-- a set cut down to r is within r
+pub cut-in : (s r : ℕ → Bool) (i : ℕ) → cutTo s r i ≡ true → r i ≡ true
+unfolding cutTo
+cut-in s r i h = and-r (s i) _ h
+
+-- polls that agree on r agree on less
+pub agree-less : (p q : Poll) (s r : ℕ → Bool) → ((i : ℕ) → s i ≡ true → r i ≡ true) → Agree p q r → Agree p q s
+agree-less p q s r sub g = record {
+  stale = λ i m. g .stale i (sub i m);
+  version = λ i m. g .version i (sub i m);
+  desired = λ i m. g .desired i (sub i m);
+  epoch = λ i m. g .epoch i (sub i m);
+  members = λ i m. g .members i (sub i m);
+}
+
+module _ (kind : Kind) (order : List ℕ) (p q : Poll) (c a : ℕ) (r : ℕ → Bool) (answers : r c ≡ true) (g : Agree p q r) where
+  pub try-same : ownTry kind order p c a r ≡ ownTry kind order q c a r
+  unfolding ownTry
+  try-same = ap (λ (v : ℕ). cutTo (listChoice kind order v a) r) (g .members c answers)
+
+  pub try-in : (i : ℕ) → ownTry kind order q c a r i ≡ true → r i ≡ true
+  unfolding ownTry
+  try-in i h = cut-in (listChoice kind order (q .members c) a) r i h
+
+  pub worked-same : workedOn kind order p c a r ≡ workedOn kind order q c a r
+  unfolding workedOn
+  worked-same =
+      let less = agree-less p q (ownTry kind order q c a r) r try-in g in
+      rw (try-same, quorum-same p q (ownTry kind order q c a r) less kind order, current-same p q (ownTry kind order q c a r) less)
+
+-- the set worked on is within R
+pub worked-in : (kind : Kind) (order : List ℕ) (p : Poll) (c a : ℕ) (r : ℕ → Bool) (i : ℕ) → workedOn kind order p c a r i ≡ true → r i ≡ true
+unfolding workedOn ownTry
+worked-in kind order p c a r i = go (quorumHeld kind order p tried && current p tried)
+  where
+    tried : ℕ → Bool
+    tried = cutTo (listChoice kind order (p .members c) a) r
+
+    go : (b : Bool) → cond b tried r i ≡ true → r i ≡ true
+    go true h = cut-in (listChoice kind order (p .members c) a) r i h
+    go false h = h

@@ -1,0 +1,138 @@
+-- What a row's bytes say after each change of a row.
+use mathlib.Core.Path.{_≡_, refl, sym, _∙_, ap}
+use mathlib.Core.Bool.{Bool, true, false, cond, _&&_, _||_}
+use mathlib.Core.Logic.{_⊎_, inl, inr}
+use mathlib.Core.List.{List, [], _∷_}
+use Prim.Native.Nat.{ℕ, _+_, _-_, _^_, _≤_, _<_}
+use native.Mathlib.Omega.{arith}
+use lib.Dec.{leb, eqb}
+use lib.ListN.{length, getD, drop, length-drop}
+use borrow.Author.Tests.{leb-true, eqb-true}
+use Rattle.rows.specs.Upto.{Within, every}
+use Rattle.rows.proofs.Bools.{and-l, and-r, or-e, clash}
+use Rattle.rows.proofs.UptoLaws.{every-at}
+use Rattle.table.specs.Bytes.{put}
+use Rattle.table.specs.Layout.{Field, get, store, name, link, mark, version, desired, epoch, members, reserved, contents, storeContents}
+use Rattle.table.proofs.ByteLaws.{put-all}
+use Rattle.table.proofs.FieldLaws.{Apart, length-store, get-store, get-other, reserved-store, contents-store, length-contents, get-contents, reserved-contents, contents-contents}
+use Rattle.protocol.specs.Rows.{markedRow, patchedRow, enrolledRow, refreshedRow}
+
+-- ---- the seven fields of a row, numbered from 1: name, link, mark, version, desired, epoch, members
+pub fieldAt : ℕ → Field
+fieldAt j = getD (name ∷ link ∷ mark ∷ version ∷ desired ∷ epoch ∷ members ∷ []) (j - 1) name
+
+ends : ℕ → ℕ
+ends j = fieldAt j .place + fieldAt j .width
+
+-- the one computed test: each ends by byte 24, and two of them lie apart
+apartTest : ℕ → ℕ → Bool
+apartTest i j = leb (ends i) 24 && (eqb j i || (leb (ends j) (fieldAt i .place) || leb (ends i) (fieldAt j .place)))
+
+all-apart : every 7 (λ i. every 7 (apartTest i)) ≡ true
+unfolding every apartTest ends fieldAt name link mark version desired epoch members
+all-apart = refl
+
+apart-at : (i j : ℕ) → Within 7 i → Within 7 j → apartTest i j ≡ true
+apart-at i j u w = every-at 7 (apartTest i) (every-at 7 (λ i. every 7 (apartTest i)) all-apart i u) j w
+
+pub ends-24 : (i : ℕ) → Within 7 i → fieldAt i .place + fieldAt i .width ≤ 24
+unfolding apartTest ends
+ends-24 i u = leb-true _ 24 (and-l _ _ (apart-at i i u u))
+
+-- ---- one field stored
+module _ (row : List ℕ) (long : 32 ≤ length row) (i v : ℕ) (u : Within 7 i) where
+  fits : fieldAt i .place + fieldAt i .width ≤ length row
+  fits = omega (arith, ends-24 i u)
+
+  pub stored-length : length (store (fieldAt i) v row) ≡ length row
+  stored-length = length-store (fieldAt i) v row fits
+
+  pub stored-get : v < 256 ^ fieldAt i .width → (j : ℕ) → Within 7 j → get (fieldAt j) (store (fieldAt i) v row) ≡ cond (eqb j i) v (get (fieldAt j) row)
+  unfolding apartTest ends
+  stored-get h j w = go (eqb j i) refl (and-r (leb (ends i) 24) _ (apart-at i j u w))
+    where
+      side : (leb (ends j) (fieldAt i .place) ≡ true) ⊎ (leb (ends i) (fieldAt j .place) ≡ true) → Apart (fieldAt j) (fieldAt i .place) (fieldAt i .place + fieldAt i .width)
+      side (inl q) = inl (leb-true _ _ q)
+      side (inr q) = inr (leb-true _ _ q)
+
+      go : (b : Bool) → eqb j i ≡ b → (b || (leb (ends j) (fieldAt i .place) || leb (ends i) (fieldAt j .place))) ≡ true
+          → get (fieldAt j) (store (fieldAt i) v row) ≡ cond b v (get (fieldAt j) row)
+      go true e t = ap (λ (x : ℕ). get (fieldAt x) (store (fieldAt i) v row)) (eqb-true j i e) ∙ get-store (fieldAt i) v row fits h
+      go false e t = get-other (fieldAt i) v row fits (fieldAt j) (side (or-e (leb (ends j) (fieldAt i .place)) _ t))
+
+  pub stored-reserved : reserved (store (fieldAt i) v row) ≡ reserved row
+  stored-reserved = reserved-store (fieldAt i) v row fits (ends-24 i u)
+
+  pub stored-contents : contents (store (fieldAt i) v row) ≡ contents row
+  stored-contents = contents-store (fieldAt i) v row fits (omega (arith, ends-24 i u))
+
+-- ---- a row after a change: its length and reserved bytes stay, its fields are f, its contents are c
+pub record Becomes (row new : List ℕ) (f : ℕ → ℕ) (c : List ℕ) : Type 0 where
+  pub long : length new ≡ length row
+  pub spare : reserved new ≡ reserved row
+  pub fields : (j : ℕ) → Within 7 j → get (fieldAt j) new ≡ f j
+  pub bytes : contents new ≡ c
+
+-- the fields of a row
+pub fieldsOf : List ℕ → ℕ → ℕ
+fieldsOf row j = get (fieldAt j) row
+
+-- the fields with the i-th changed
+pub changed : (ℕ → ℕ) → ℕ → ℕ → ℕ → ℕ
+changed f i v j = cond (eqb j i) v (f j)
+
+pub unchanged : (row : List ℕ) → Becomes row row (fieldsOf row) (contents row)
+unfolding fieldsOf
+unchanged row = record { long = refl; spare = refl; fields = λ j w. refl; bytes = refl }
+
+-- one field more stored
+pub then-store : {row new c : List ℕ} {f : ℕ → ℕ} (i v : ℕ) → Within 7 i → v < 256 ^ fieldAt i .width → 32 ≤ length row → Becomes row new f c
+    → Becomes row (store (fieldAt i) v new) (changed f i v) c
+unfolding changed
+then-store {row} {new} {c} {f} i v u h long b =
+    let l : 32 ≤ length new = omega (arith, b .long) in
+    record {
+      long = stored-length new l i v u ∙ b .long;
+      spare = stored-reserved new l i v u ∙ b .spare;
+      fields = λ j w. stored-get new l i v u h j w ∙ ap (λ (x : ℕ). cond (eqb j i) v x) (b .fields j w);
+      bytes = stored-contents new l i v u ∙ b .bytes;
+    }
+
+-- bytes put into the contents
+pub then-contents : {row new c : List ℕ} {f : ℕ → ℕ} (offset : ℕ) (p : List ℕ) → 32 + offset + length p ≤ length row → Becomes row new f c
+    → Becomes row (storeContents offset p new) f (put offset p c)
+then-contents {row} {new} {c} {f} offset p h b =
+    let l : 32 + offset + length p ≤ length new = omega (arith, b .long) in
+    record {
+      long = length-contents offset p new l ∙ b .long;
+      spare = reserved-contents offset p new l ∙ b .spare;
+      fields = λ j w. get-contents offset p new l (fieldAt j) (omega (arith, ends-24 j w)) ∙ b .fields j w;
+      bytes = contents-contents offset p new l ∙ ap (put offset p) (b .bytes);
+    }
+
+-- ---- the four changes
+module _ (row : List ℕ) (long : 32 ≤ length row) where
+  pub marked-row : (v : ℕ) → v < 256 ^ 4 → Becomes row (markedRow v row) (changed (changed (fieldsOf row) 3 1) 5 v) (contents row)
+  unfolding markedRow fieldAt mark desired
+  marked-row v h = then-store 5 v (omega arith) h long (then-store 3 1 (omega arith) (omega arith) long (unchanged row))
+
+  pub patched-row : (v offset : ℕ) (p : List ℕ) → v < 256 ^ 4 → 32 + offset + length p ≤ length row
+      → Becomes row (patchedRow v offset p row) (changed (fieldsOf row) 4 v) (put offset p (contents row))
+  unfolding patchedRow fieldAt version
+  patched-row v offset p h l = then-contents offset p l (then-store 4 v (omega arith) h long (unchanged row))
+
+  -- a row that became new is enrolled
+  pub then-enrolled : {new c : List ℕ} {f : ℕ → ℕ} (e list : ℕ) → e < 256 ^ 4 → list < 256 ^ 8 → Becomes row new f c
+      → Becomes row (enrolledRow e list new) (changed (changed f 6 e) 7 list) c
+  unfolding enrolledRow fieldAt epoch members
+  then-enrolled e list he hl b = then-store 7 list (omega arith) hl long (then-store 6 e (omega arith) he long b)
+
+  pub refreshed-row : (source : List ℕ) → get version source < 256 ^ 4 → length source ≡ length row
+      → Becomes row (refreshedRow source row) (changed (changed (changed (fieldsOf row) 3 0) 4 (get version source)) 5 0) (contents source)
+  unfolding refreshedRow fieldAt mark version desired contents
+  refreshed-row source h l =
+      let fill : 32 + 0 + length (drop 32 source) ≤ length row = rw (length-drop 32 source) (omega arith) in
+      let b = then-contents 0 (drop 32 source) fill (then-store 5 0 (omega arith) (omega arith) long (then-store 4 (get version source) (omega arith) h long
+          (then-store 3 0 (omega arith) (omega arith) long (unchanged row)))) in
+      let whole = put-all (drop 32 source) (drop 32 row) (length-drop 32 source ∙ ap (λ (n : ℕ). n - 32) l ∙ sym (length-drop 32 row)) in
+      record { long = b .long; spare = b .spare; fields = b .fields; bytes = b .bytes ∙ whole }
