@@ -122,7 +122,7 @@ module _ (p q : Poll) (s : ℕ → Bool) (g : Agree p q s) where
   unfolding inForce leader
   list-same h =
       let here : (i : ℕ) → s i ≡ true → eqb (p .epoch i) (highestEpoch p s) ≡ eqb (q .epoch i) (highestEpoch q s) =
-          λ i m. ap₂ eqb (g .epoch i m) epoch-same in
+      λ i m. ap₂ eqb (g .epoch i m) epoch-same in
       let e : leader p s ≡ leader q s = lowest-ext 64 _ _ (λ i w. within s _ _ here i) in
       ap (p .members) e ∙ g .members (leader q s) (lead-is q s h .inside)
 

@@ -133,6 +133,6 @@ module _ (row : List ℕ) (long : 32 ≤ length row) where
   refreshed-row source h l =
       let fill : 32 + 0 + length (drop 32 source) ≤ length row = rw (length-drop 32 source) (omega arith) in
       let b = then-contents 0 (drop 32 source) fill (then-store 5 0 (omega arith) (omega arith) long (then-store 4 (get version source) (omega arith) h long
-          (then-store 3 0 (omega arith) (omega arith) long (unchanged row)))) in
+      (then-store 3 0 (omega arith) (omega arith) long (unchanged row)))) in
       let whole = put-all (drop 32 source) (drop 32 row) (length-drop 32 source ∙ ap (λ (n : ℕ). n - 32) l ∙ sym (length-drop 32 row)) in
       record { long = b .long; spare = b .spare; fields = b .fields; bytes = b .bytes ∙ whole }

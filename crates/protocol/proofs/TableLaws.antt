@@ -8,7 +8,7 @@ use native.Mathlib.Nat.{mul-le-mul-right}
 use native.Mathlib.Decide.{decLt, ℕ-discrete}
 use native.Mathlib.Omega.{arith}
 use lib.Dec.{eqb}
-use lib.ListN.{length, drop}
+use lib.ListN.{length, take, drop}
 use borrow.Author.Tests.{eqb-true, eq-eqb, ne-eqb}
 use Rattle.rows.specs.Upto.{Within}
 use Rattle.rows.proofs.UptoLaws.{last}
@@ -62,8 +62,14 @@ end-le t a b h = omega (arith, mul-le-mul-right (rowLength t) h)
 pub record Changed (t u : List ℕ) (n : ℕ) (s : ℕ → Bool) (f : ℕ → List ℕ → List ℕ) : Type 0 where
   pub like : Like t u
   pub rows : (i : ℕ) → Within n i → rowBytes u i ≡ cond (s i) (f i (rowBytes t i)) (rowBytes t i)
-  pub others : (i : ℕ) → n < i → (m : ℕ) → i ≤ m → Roomy t m → rowBytes u i ≡ rowBytes t i
   pub tail : (b : ℕ) → rowsEnd t n ≤ b → drop b u ≡ drop b t
+
+-- the rows behind the n-th stay
+pub behind : {t u : List ℕ} {n : ℕ} {s : ℕ → Bool} {f : ℕ → List ℕ → List ℕ} → Changed t u n s f → (i : ℕ) → n < i → rowBytes u i ≡ rowBytes t i
+unfolding rowBytes part
+behind c zero h = refl
+behind {t} {u} {n} c (suc k) h =
+    ap₂ (λ (a m : ℕ). take m (drop a u)) (like-end (c .like) k) (like-length (c .like)) ∙ ap (take (rowLength t)) (c .tail (rowsEnd t k) (end-le t n k (omega arith)))
 
 -- ---- one row
 module _ (t : List ℕ) (n k : ℕ) (r : Roomy t n) (h : k < n) (f : List ℕ → List ℕ) (keeps : length (f (rowBytes t (suc k))) ≡ rowLength t) where
@@ -104,7 +110,7 @@ module _ (t : List ℕ) (n k : ℕ) (r : Roomy t n) (h : k < n) (f : List ℕ �
   row-tail b q = drop-put-after t (16 + k * rowLength t) new fits b (omega (arith, keeps))
 
   pub one-row : Changed t (withRow t (suc k) f) n (eqb (suc k)) (λ i. f)
-  one-row = record { like = row-like; rows = rows; others = λ i q m g rm. others i q m g rm; tail = λ b q. row-tail b (omega (arith, ends)) }
+  one-row = record { like = row-like; rows = rows; tail = λ b q. row-tail b (omega (arith, ends)) }
     where
       ends : rowsEnd t (suc k) ≤ rowsEnd t n
       ends = end-le t (suc k) n h
@@ -117,15 +123,11 @@ module _ (t : List ℕ) (n k : ℕ) (r : Roomy t n) (h : k < n) (f : List ℕ �
           go (yes e) = rw (eq-eqb (suc k) (suc j) e, ← e) row-changed
           go (no d) = rw (ne-eqb (suc k) (suc j) d) (row-other j n (omega arith) r (λ e. d (ap suc (sym e))))
 
-      others : (i : ℕ) → n < i → (m : ℕ) → i ≤ m → Roomy t m → rowBytes (withRow t (suc k) f) i ≡ rowBytes t i
-      others zero q m g rm = absurd (omega arith)
-      others (suc j) q m g rm = row-other j m (omega arith) rm (λ e. omega arith)
-
 -- ---- the rows of a set, one after another
 module _ (t : List ℕ) (s : ℕ → Bool) (f : ℕ → List ℕ → List ℕ) where
   pub many-rows : (n : ℕ) → Roomy t n → ((i : ℕ) → Within n i → s i ≡ true → length (f i (rowBytes t i)) ≡ rowLength t) → Changed t (withRows t s f n) n s f
   unfolding withRows
-  many-rows zero r keeps = record { like = like-refl t; rows = λ i w. absurd (omega arith); others = λ i q m g rm. refl; tail = λ b q. refl }
+  many-rows zero r keeps = record { like = like-refl t; rows = λ i w. absurd (omega arith); tail = λ b q. refl }
   many-rows (suc n) r keeps = go (s (suc n)) refl (many-rows n (omega (arith, end-le t n (suc n) (omega arith))) (λ i w. keeps i (omega arith)))
     where
       u : List ℕ
@@ -135,17 +137,15 @@ module _ (t : List ℕ) (s : ℕ → Bool) (f : ℕ → List ℕ → List ℕ) w
       go false e c = record {
         like = c .like;
         rows = λ i w. at i (last n i w);
-        others = λ i q m g rm. c .others i (omega arith) m g rm;
         tail = λ b q. c .tail b (omega (arith, end-le t n (suc n) (omega arith)));
       }
         where
           at : (i : ℕ) → (i ≡ suc n) ⊎ Within n i → rowBytes u i ≡ cond (s i) (f i (rowBytes t i)) (rowBytes t i)
-          at i (inl q) = rw (q, e) (c .others (suc n) (omega arith) (suc n) (omega arith) r)
+          at i (inl q) = rw (q, e) (behind c (suc n) (omega arith))
           at i (inr w) = c .rows i w
       go true e c = record {
         like = like-trans (c .like) (o .like);
         rows = λ i w. at i (last n i w);
-        others = λ i q m g rm. o .others i q m g (room m rm) ∙ c .others i (omega arith) m g rm;
         tail = λ b q. o .tail b (omega (arith, like-end (c .like) (suc n))) ∙ c .tail b (omega (arith, end-le t n (suc n) (omega arith)));
       }
         where
@@ -153,7 +153,7 @@ module _ (t : List ℕ) (s : ℕ → Bool) (f : ℕ → List ℕ → List ℕ) w
           room m rm = omega (arith, like-end (c .like) m, c .like .long)
 
           same : rowBytes u (suc n) ≡ rowBytes t (suc n)
-          same = c .others (suc n) (omega arith) (suc n) (omega arith) r
+          same = behind c (suc n) (omega arith)
 
           o : Changed u (withRow u (suc n) (f (suc n))) (suc n) (eqb (suc n)) (λ i. f (suc n))
           o = one-row u (suc n) n (room (suc n) r) (omega arith) (f (suc n)) (rw same (keeps (suc n) (omega arith) e) ∙ sym (like-length (c .like)))
