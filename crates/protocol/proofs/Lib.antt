@@ -2,3 +2,5 @@ pub mod ListLaws
 pub mod PollLaws
 pub mod RowLaws
 pub mod TableLaws
+pub mod QuestionLaws
+pub mod FrameLaws

@@ -167,9 +167,13 @@ done t (send f to r) = record { refusal = 0; value = versionOf t f; table = with
 done t (check c r) =
     let p = answers t r in
     let e = highestEpoch p (has r) in
-    cond (eqb r (inForce p (has r)))
-    (record { refusal = 0; value = e; table = t; buffer = [] })
-    (record { refusal = 0; value = e + 1; table = withRows t (has r) (checkedRow (good p (has r)) (goodVersion p (has r)) (e + 1) r) (usedOf t); buffer = [] })
+    let same = eqb r (inForce p (has r)) in
+    record {
+      refusal = 0;
+      value = cond same e (e + 1);
+      table = cond same t (withRows t (has r) (checkedRow (good p (has r)) (goodVersion p (has r)) (e + 1) r) (usedOf t));
+      buffer = [];
+    }
 
 -- the read buffer that a call is lent
 unfoldable pub lent : Call → List ℕ

@@ -1,0 +1,83 @@
+-- What no call after a founding alters: header, names and links. And what follows: chain order, the header's and the chain's part of question 1.
+use mathlib.Core.Path.{_≡_, refl, sym, _∙_, ap, ap₂, fun-ext}
+use mathlib.Core.Bool.{Bool, true, false, cond}
+use mathlib.Core.List.{List, []}
+use Prim.Native.Nat.{ℕ, zero, suc, _+_, _≤_, _<_}
+use native.Mathlib.Decide.{decLe}
+use native.Mathlib.Omega.{arith}
+use lib.Dec.{eqb}
+use lib.ListN.{length, drop}
+use Rattle.rows.specs.Upto.{Within, every}
+use Rattle.table.specs.Bytes.{part, allZero}
+use Rattle.table.specs.Layout.{get, form, capacity, used, first, fileLength, name, link, capacityOf, usedOf, firstOf, fileOf, nameOf, linkOf, rowLength, rowsEnd, rowBytes}
+use Rattle.table.specs.Chain.{chain, orderOf, among, risesFrom}
+use Rattle.table.specs.WellFormed.{between, headerValues, lengthRight, visitsEach, namesRise, unusedZero}
+use Rattle.protocol.proofs.TableLaws.{Like, like-get, like-length, like-end, Changed, behind}
+
+pub record Frame (t u : List ℕ) : Type 0 where
+  pub like : Like t u
+  pub names : nameOf u ≡ nameOf t
+  pub links : linkOf u ≡ linkOf t
+
+module _ {t u : List ℕ} (f : Frame t u) where
+  pub same-used : usedOf u ≡ usedOf t
+  unfolding usedOf used
+  same-used = like-get (f .like) used (omega arith)
+
+  pub same-capacity : capacityOf u ≡ capacityOf t
+  unfolding capacityOf capacity
+  same-capacity = like-get (f .like) capacity (omega arith)
+
+  pub same-first : firstOf u ≡ firstOf t
+  unfolding firstOf first
+  same-first = like-get (f .like) first (omega arith)
+
+  pub same-file : fileOf u ≡ fileOf t
+  unfolding fileOf fileLength
+  same-file = like-get (f .like) fileLength (omega arith)
+
+  pub same-order : orderOf u ≡ orderOf t
+  unfolding orderOf
+  same-order = rw (f .links, same-used, same-first)
+
+  pub same-header : headerValues u ≡ headerValues t
+  unfolding headerValues form
+  same-header = rw (like-get (f .like) form (omega arith), same-capacity, same-used, same-first, same-file, f .like .header 6 10 (omega arith))
+
+  pub same-long : lengthRight u ≡ lengthRight t
+  unfolding lengthRight
+  same-long = rw (f .like .long, same-capacity, like-end (f .like) (capacityOf t))
+
+  pub same-visits : visitsEach u ≡ visitsEach t
+  unfolding visitsEach
+  same-visits = rw (f .links, same-used, same-first)
+
+  pub same-rise : namesRise u ≡ namesRise t
+  unfolding namesRise
+  same-rise = rw (f .links, f .names, same-used, same-first)
+
+-- ---- a table some of whose rows are changed, in neither name nor link
+module _ {t u : List ℕ} {n : ℕ} {s : ℕ → Bool} {g : ℕ → List ℕ → List ℕ} (c : Changed t u n s g) where
+  row-same : (field : List ℕ → ℕ) → ((i : ℕ) → Within n i → s i ≡ true → field (g i (rowBytes t i)) ≡ field (rowBytes t i))
+      → (i : ℕ) → field (rowBytes u i) ≡ field (rowBytes t i)
+  unfolding rowBytes
+  row-same field keeps zero = refl
+  row-same field keeps (suc k) = go (decLe (suc k) n)
+    where
+      go : Dec (suc k ≤ n) → field (rowBytes u (suc k)) ≡ field (rowBytes t (suc k))
+      go (yes l) = ap field (c .rows (suc k) (omega arith)) ∙ by (s (suc k)) refl
+        where
+          by : (b : Bool) → s (suc k) ≡ b → field (cond b (g (suc k) (rowBytes t (suc k))) (rowBytes t (suc k))) ≡ field (rowBytes t (suc k))
+          by true e = keeps (suc k) (omega arith) e
+          by false e = refl
+      go (no l) = ap field (behind c (suc k) (omega arith))
+
+  pub frame-of : ((i : ℕ) → Within n i → s i ≡ true → get name (g i (rowBytes t i)) ≡ get name (rowBytes t i))
+      → ((i : ℕ) → Within n i → s i ≡ true → get link (g i (rowBytes t i)) ≡ get link (rowBytes t i)) → Frame t u
+  unfolding nameOf linkOf
+  frame-of kn kl = record { like = c .like; names = fun-ext (row-same (get name) kn); links = fun-ext (row-same (get link) kl) }
+
+  -- the unused rows stay zero
+  pub zero-stays : usedOf t ≡ n → usedOf u ≡ usedOf t → unusedZero u ≡ unusedZero t
+  unfolding unusedZero
+  zero-stays e q = ap allZero (ap (λ (a : ℕ). drop a u) (ap (rowsEnd u) q ∙ like-end (c .like) (usedOf t)) ∙ c .tail (rowsEnd t (usedOf t)) (rw e (omega arith)))

@@ -1,0 +1,192 @@
+-- The first no is the refusal: what a done call has passed, and what a refused one leaves.
+use mathlib.Core.Path.{_≡_, refl, sym, _∙_, ap}
+use mathlib.Core.Bool.{Bool, true, false, not, cond, _&&_, _||_}
+use mathlib.Core.List.{List, [], _∷_}
+use Prim.Native.Nat.{ℕ, zero, suc, _+_, _%_, _*_, _/_, _^_, _≤_, _<_}
+use native.Mathlib.Omega.{arith}
+use lib.Dec.{eqb, leb, ltb, eqb·suc-zero}
+use lib.ListN.{length}
+use lib.Pow.{high, low}
+use borrow.Author.Tests.{eqb-true, eqb-false, eq-eqb, ltb-true, leb-true, not-true}
+use Rattle.rows.specs.Upto.{Within}
+use Rattle.rows.specs.Sets.{has}
+use Rattle.rows.proofs.Bools.{and-l, and-r}
+use Rattle.rows.proofs.SetLaws.{has-within}
+use Rattle.grid.specs.declared.quorums.Kind.the-variants.{Read, Write}
+use Rattle.table.specs.Layout.{usedOf, fileOf, staleOf, versionOf, desiredOf}
+use Rattle.table.specs.Chain.{orderOf}
+use Rattle.table.specs.WellFormed.{between, limit, onlyRows, wellFormed}
+use Rattle.table.proofs.FormLaws.{between-is}
+use Rattle.protocol.specs.Polls.{highestEpoch, inForce, goodVersion, current, quorumHeld}
+use Rattle.protocol.specs.Calls
+
+-- ---- the result is one number, from which refusal and value can be read off
+pub result-refusal : (o : Calls.Outcome) → o .value < 2 ^ 32 → Calls.resultOf o / 2 ^ 32 ≡ o .refusal
+unfolding Calls.resultOf
+result-refusal o h = high (o .refusal) 32 h
+
+pub result-value : (o : Calls.Outcome) → o .value < 2 ^ 32 → Calls.resultOf o % 2 ^ 32 ≡ o .value
+unfolding Calls.resultOf
+result-value o h = low (o .refusal) 32 h
+
+-- ---- the first no
+pub yes-first : (n : ℕ) (x : Bool) (qs : List Calls.Question) → Calls.firstNo (record { ask = suc n; yes = x } ∷ qs) ≡ 0 → (x ≡ true) × (Calls.firstNo qs ≡ 0)
+unfolding Calls.firstNo
+yes-first n true qs h = (refl, h)
+yes-first n false qs h = absurd (omega arith)
+
+pub no-first : (n : ℕ) (x : Bool) (qs : List Calls.Question) → x ≡ true → Calls.firstNo (record { ask = n; yes = x } ∷ qs) ≡ Calls.firstNo qs
+unfolding Calls.firstNo
+no-first n x qs e = rw e
+
+done-zero : (t : List ℕ) (k : Calls.Call) → Calls.done t k .refusal ≡ 0
+unfolding Calls.done
+done-zero t (Calls.founding capacity file names) = refl
+done-zero t (Calls.read c r offset count buffer) = refl
+done-zero t (Calls.write c r offset patch) = refl
+done-zero t (Calls.send f to r) = refl
+done-zero t (Calls.check c r) = refl
+
+module _ (t : List ℕ) (k : Calls.Call) where
+  -- the refusal is the first no
+  pub refusal-is : Calls.outcome t k .refusal ≡ Calls.firstNo (Calls.questions t k)
+  unfolding Calls.outcome Calls.refused
+  refusal-is = go (Calls.firstNo (Calls.questions t k)) refl
+    where
+      go : (n : ℕ) → Calls.firstNo (Calls.questions t k) ≡ n → cond (eqb n 0) (Calls.done t k) (Calls.refused t k n) .refusal ≡ n
+      go zero e = done-zero t k
+      go (suc n) e = rw (eqb·suc-zero n)
+
+  pub when-done : Calls.outcome t k .refusal ≡ 0 → Calls.outcome t k ≡ Calls.done t k
+  unfolding Calls.outcome
+  when-done h = let z : Calls.firstNo (Calls.questions t k) ≡ 0 = sym refusal-is ∙ h in rw (eq-eqb _ _ z)
+
+  -- a refusal has value 0 and alters no byte of table or buffer
+  pub when-refused : (Calls.outcome t k .refusal ≡ 0 → ⊥) → (Calls.outcome t k .value ≡ 0) × (Calls.outcome t k .table ≡ t) × (Calls.outcome t k .buffer ≡ Calls.lent k)
+  unfolding Calls.outcome Calls.refused
+  when-refused d = go (Calls.firstNo (Calls.questions t k)) refl
+    where
+      go : (n : ℕ) → Calls.firstNo (Calls.questions t k) ≡ n
+          → let o = cond (eqb n 0) (Calls.done t k) (Calls.refused t k n) in (o .value ≡ 0) × (o .table ≡ t) × (o .buffer ≡ Calls.lent k)
+      go zero e = absurd (d (refusal-is ∙ e))
+      go (suc n) e = rw (eqb·suc-zero n) (refl, refl, refl)
+
+-- ---- what a done call has passed
+pub record ByCoordinator (t : List ℕ) (c r : ℕ) : Type 0 where
+  pub formed : wellFormed t ≡ true
+  pub coordinator : Within (usedOf t) c
+  pub rows : r < 2 ^ usedOf t
+  pub answered : has r c ≡ true
+
+used-is : (t : List ℕ) (i : ℕ) → Calls.isUsed t i ≡ true → Within (usedOf t) i
+unfolding Calls.isUsed
+used-is t i h = between-is 1 i (usedOf t) h
+
+only-is : (n s : ℕ) → onlyRows n s ≡ true → s < 2 ^ n
+unfolding onlyRows
+only-is n s h = ltb-true s (2 ^ n) h
+
+module _ (t : List ℕ) (c r : ℕ) (qs : List Calls.Question) where
+  pub passed-first : Calls.firstNo (Calls.byCoordinator t c r qs) ≡ 0 → ByCoordinator t c r × (Calls.firstNo qs ≡ 0)
+  unfolding Calls.byCoordinator
+  passed-first h =
+      let a = yes-first 0 (wellFormed t) _ h in
+      let b = yes-first 1 (Calls.isUsed t c && onlyRows (usedOf t) r) _ (a .1) in
+      let d = yes-first 2 (has r c) qs (b .1) in
+      (record {
+        formed = a .0;
+        coordinator = used-is t c (and-l _ _ (b .0));
+        rows = only-is (usedOf t) r (and-r (Calls.isUsed t c) _ (b .0));
+        answered = d .0;
+      }, d .1)
+
+  -- rows that answered are used rows
+  pub answered-used : ByCoordinator t c r → (i : ℕ) → has r i ≡ true → Within (usedOf t) i
+  answered-used b i m = has-within (usedOf t) r i (b .rows) m
+
+pub record ReadYes (t : List ℕ) (c r offset count : ℕ) (buffer : List ℕ) : Type 0 where
+  pub first : ByCoordinator t c r
+  pub range : (1 ≤ count) × (offset + count ≤ fileOf t)
+  pub quorum : quorumHeld Read (orderOf t) (Calls.answers t r) (Calls.workSet Read t c r) ≡ true
+  pub current : current (Calls.answers t r) (Calls.workSet Read t c r) ≡ true
+
+range-is : (t : List ℕ) (offset count : ℕ) → Calls.inFile t offset count ≡ true → (1 ≤ count) × (offset + count ≤ fileOf t)
+unfolding Calls.inFile
+range-is t offset count h = (leb-true 1 count (and-l _ _ h), leb-true _ _ (and-r (leb 1 count) _ h))
+
+pub read-yes : (t : List ℕ) (c r offset count : ℕ) (buffer : List ℕ) → Calls.firstNo (Calls.questions t (Calls.read c r offset count buffer)) ≡ 0 → ReadYes t c r offset count buffer
+unfolding Calls.questions
+read-yes t c r offset count buffer h =
+    let a = passed-first t c r _ h in
+    let d = yes-first 3 (Calls.inFile t offset count) _ (a .1) in
+    let e = yes-first 4 (eqb (length buffer) count) _ (d .1) in
+    let q = yes-first 5 (quorumHeld Read (orderOf t) (Calls.answers t r) (Calls.workSet Read t c r)) _ (e .1) in
+    let m = yes-first 6 (current (Calls.answers t r) (Calls.workSet Read t c r)) _ (q .1) in
+    record { first = a .0; range = range-is t offset count (d .0); quorum = q .0; current = m .0 }
+
+pub record WriteYes (t : List ℕ) (c r offset : ℕ) (patch : List ℕ) : Type 0 where
+  pub first : ByCoordinator t c r
+  pub range : (1 ≤ length patch) × (offset + length patch ≤ fileOf t)
+  pub quorum : quorumHeld Write (orderOf t) (Calls.answers t r) (Calls.workSet Write t c r) ≡ true
+  pub current : current (Calls.answers t r) (Calls.workSet Write t c r) ≡ true
+  pub room : goodVersion (Calls.answers t r) (Calls.workSet Write t c r) < limit
+
+pub write-yes : (t : List ℕ) (c r offset : ℕ) (patch : List ℕ) → Calls.firstNo (Calls.questions t (Calls.write c r offset patch)) ≡ 0 → WriteYes t c r offset patch
+unfolding Calls.questions
+write-yes t c r offset patch h =
+    let a = passed-first t c r _ h in
+    let d = yes-first 3 (Calls.inFile t offset (length patch)) _ (a .1) in
+    let q = yes-first 5 (quorumHeld Write (orderOf t) (Calls.answers t r) (Calls.workSet Write t c r)) _ (d .1) in
+    let m = yes-first 6 (current (Calls.answers t r) (Calls.workSet Write t c r)) _ (q .1) in
+    let l = yes-first 7 (ltb (goodVersion (Calls.answers t r) (Calls.workSet Write t c r)) limit) _ (m .1) in
+    record { first = a .0; range = range-is t offset (length patch) (d .0); quorum = q .0; current = m .0; room = ltb-true _ _ (l .0) }
+
+pub record SendYes (t : List ℕ) (f to r : ℕ) : Type 0 where
+  pub formed : wellFormed t ≡ true
+  pub from-used : Within (usedOf t) f
+  pub to-used : Within (usedOf t) to
+  pub rows : r < 2 ^ usedOf t
+  pub apart : f ≡ to → ⊥
+  pub from-answered : has r f ≡ true
+  pub to-answered : has r to ≡ true
+  pub clean : staleOf t f ≡ false
+  pub mark : staleOf t to ≡ true
+  pub enough : desiredOf t to ≤ versionOf t f
+
+pub send-yes : (t : List ℕ) (f to r : ℕ) → Calls.firstNo (Calls.questions t (Calls.send f to r)) ≡ 0 → SendYes t f to r
+unfolding Calls.questions
+send-yes t f to r h =
+    let a = yes-first 0 (wellFormed t) _ h in
+    let b = yes-first 1 (Calls.isUsed t f && Calls.isUsed t to && onlyRows (usedOf t) r && not (eqb f to)) _ (a .1) in
+    let d = yes-first 2 (has r f && has r to) _ (b .1) in
+    let e = yes-first 8 (not (staleOf t f)) _ (d .1) in
+    let g = yes-first 9 (staleOf t to && leb (desiredOf t to) (versionOf t f)) _ (e .1) in
+    let b1 = and-l (Calls.isUsed t f && Calls.isUsed t to && onlyRows (usedOf t) r) _ (b .0) in
+    let b2 = and-l (Calls.isUsed t f && Calls.isUsed t to) _ b1 in
+    record {
+      formed = a .0;
+      from-used = used-is t f (and-l _ _ b2);
+      to-used = used-is t to (and-r (Calls.isUsed t f) _ b2);
+      rows = only-is (usedOf t) r (and-r (Calls.isUsed t f && Calls.isUsed t to) _ b1);
+      apart = eqb-false f to (not-true _ (and-r (Calls.isUsed t f && Calls.isUsed t to && onlyRows (usedOf t) r) _ (b .0)));
+      from-answered = and-l _ _ (d .0);
+      to-answered = and-r (has r f) _ (d .0);
+      clean = not-true _ (e .0);
+      mark = and-l _ _ (g .0);
+      enough = leb-true _ _ (and-r (staleOf t to) _ (g .0));
+    }
+
+pub record CheckYes (t : List ℕ) (c r : ℕ) : Type 0 where
+  pub first : ByCoordinator t c r
+  pub quorum : quorumHeld Write (orderOf t) (Calls.answers t r) (has r) ≡ true
+  pub current : (eqb r (inForce (Calls.answers t r) (has r)) || current (Calls.answers t r) (has r)) ≡ true
+  pub room : (eqb r (inForce (Calls.answers t r) (has r)) || ltb (highestEpoch (Calls.answers t r) (has r)) limit) ≡ true
+
+pub check-yes : (t : List ℕ) (c r : ℕ) → Calls.firstNo (Calls.questions t (Calls.check c r)) ≡ 0 → CheckYes t c r
+unfolding Calls.questions
+check-yes t c r h =
+    let a = passed-first t c r _ h in
+    let q = yes-first 5 (quorumHeld Write (orderOf t) (Calls.answers t r) (has r)) _ (a .1) in
+    let m = yes-first 6 (eqb r (inForce (Calls.answers t r) (has r)) || current (Calls.answers t r) (has r)) _ (q .1) in
+    let l = yes-first 7 (eqb r (inForce (Calls.answers t r) (has r)) || ltb (highestEpoch (Calls.answers t r) (has r)) limit) _ (m .1) in
+    record { first = a .0; quorum = q .0; current = m .0; room = l .0 }
