@@ -4,3 +4,4 @@ pub mod RowLaws
 pub mod TableLaws
 pub mod QuestionLaws
 pub mod FrameLaws
+pub mod DoneLaws

@@ -18,7 +18,7 @@ use Rattle.table.proofs.FieldLaws.{Apart, length-store, get-store, get-other, r
 use Rattle.protocol.specs.Rows.{markedRow, patchedRow, enrolledRow, refreshedRow}
 
 -- ---- the seven fields of a row, numbered from 1: name, link, mark, version, desired, epoch, members
-pub fieldAt : ℕ → Field
+unfoldable pub fieldAt : ℕ → Field
 fieldAt j = getD (name ∷ link ∷ mark ∷ version ∷ desired ∷ epoch ∷ members ∷ []) (j - 1) name
 
 ends : ℕ → ℕ
@@ -74,11 +74,11 @@ pub record Becomes (row new : List ℕ) (f : ℕ → ℕ) (c : List ℕ) : Type 
   pub bytes : contents new ≡ c
 
 -- the fields of a row
-pub fieldsOf : List ℕ → ℕ → ℕ
+unfoldable pub fieldsOf : List ℕ → ℕ → ℕ
 fieldsOf row j = get (fieldAt j) row
 
 -- the fields with the i-th changed
-pub changed : (ℕ → ℕ) → ℕ → ℕ → ℕ → ℕ
+unfoldable pub changed : (ℕ → ℕ) → ℕ → ℕ → ℕ → ℕ
 changed f i v j = cond (eqb j i) v (f j)
 
 pub unchanged : (row : List ℕ) → Becomes row row (fieldsOf row) (contents row)

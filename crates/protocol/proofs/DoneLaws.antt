@@ -1,0 +1,221 @@
+-- What a done write, send and check leave in each row.
+use mathlib.Core.Path.{_≡_, refl, sym, _∙_, ap, subst}
+use mathlib.Core.Bool.{Bool, true, false, not, cond, _&&_, _||_}
+use mathlib.Core.List.{List, []}
+use Prim.Native.Nat.{ℕ, zero, suc, _+_, _-_, _*_, _^_, _≤_, _<_}
+use native.Mathlib.Nat.{lt-of-lt-of-le}
+use native.Mathlib.Omega.{arith}
+use lib.Dec.{eqb, leb, ltb}
+use lib.Pow.{pow-mono}
+use lib.ListN.{length}
+use borrow.Author.Tests.{eqb-true, eq-eqb, ne-eqb, ltb-true}
+use Rattle.rows.specs.Upto.{Within}
+use Rattle.rows.specs.Sets.{has}
+use Rattle.rows.proofs.Bools.{and-l, and-r, or-e, clash}
+use Rattle.grid.specs.declared.quorums.Kind.{Kind}
+use Rattle.grid.specs.declared.quorums.Kind.the-variants.{Read, Write}
+use Rattle.table.specs.Bytes.{put}
+use Rattle.table.specs.Layout.{get, name, link, mark, version, desired, epoch, members, contents, rowLength, rowBytes, usedOf, fileOf, nameOf, linkOf, epochOf, membersOf, staleOf, versionOf, desiredOf, contentsOf}
+use Rattle.table.specs.Chain.{orderOf}
+use Rattle.table.specs.WellFormed.{limit, wellFormed}
+use Rattle.table.proofs.FormLaws.{RowFacts, Formed, formed, HeaderFacts, header-facts, rows-room}
+use Rattle.protocol.specs.Polls.{Poll, polled, highestEpoch, inForce, goodVersion, good, current, workedOn}
+use Rattle.protocol.specs.Rows.{markedRow, patchedRow, enrolledRow, refreshedRow, withRow, withRows, wroteRow, checkedRow}
+use Rattle.protocol.specs.Calls.{answers, workSet}
+use Rattle.protocol.proofs.RowLaws.{fieldAt, Becomes, fieldsOf, changed, unchanged, marked-row, patched-row, then-enrolled, refreshed-row}
+use Rattle.protocol.proofs.TableLaws.{Like, row-long, Changed, one-row, many-rows}
+use Rattle.protocol.proofs.PollLaws.{Good, good-at, worked-in, version-under}
+use Rattle.protocol.proofs.FrameLaws.{Frame, frame-of}
+use Rattle.protocol.proofs.QuestionLaws.{ByCoordinator, answered-used, WriteYes, SendYes, CheckYes}
+
+-- rows of a well-formed table are long enough for their head
+module _ (t : List ℕ) (w : Formed t) where
+  pub row-length : (i : ℕ) → Within (usedOf t) i → length (rowBytes t i) ≡ 32 + fileOf t
+  unfolding rowLength fileOf
+  row-length i u = row-long t (usedOf t) (rows-room t w) i u
+
+  long-row : (i : ℕ) → Within (usedOf t) i → 32 ≤ length (rowBytes t i)
+  long-row i u = omega (arith, row-length i u)
+
+-- a table after a call: u is t with the rows of s changed; names and links stay
+pub record Leaves (t u : List ℕ) (s : ℕ → Bool) : Type 0 where
+  pub how : ℕ → List ℕ → List ℕ
+  pub change : Changed t u (usedOf t) s how
+  pub frame : Frame t u
+  pub out : (i : ℕ) → Within (usedOf t) i → s i ≡ false → rowBytes u i ≡ rowBytes t i
+
+-- row i of t becomes row i of u, with fields f and contents c
+abbrev pub RowBecomes : List ℕ → List ℕ → ℕ → (ℕ → ℕ) → List ℕ → Type 0
+RowBecomes t u i f c = Becomes (rowBytes t i) (rowBytes u i) f c
+
+leaves-of : (t u : List ℕ) (s : ℕ → Bool) (g : ℕ → List ℕ → List ℕ) → Changed t u (usedOf t) s g
+    → ((i : ℕ) → Within (usedOf t) i → s i ≡ true → (f : ℕ → ℕ) × (c : List ℕ) × Becomes (rowBytes t i) (g i (rowBytes t i)) f c × (f 1 ≡ get name (rowBytes t i)) × (f 2 ≡ get link (rowBytes t i)))
+    → Leaves t u s
+unfolding fieldAt
+leaves-of t u s g c b = record {
+  how = g;
+  change = c;
+  frame = frame-of c (λ i w m. let r = b i w m in r .2 .fields 1 (omega arith) ∙ r .3) (λ i w m. let r = b i w m in r .2 .fields 2 (omega arith) ∙ r .4);
+  out = λ i w m. c .rows i w ∙ ap (λ (x : Bool). cond x (g i (rowBytes t i)) (rowBytes t i)) m;
+}
+
+changed-row : {t u : List ℕ} {s : ℕ → Bool} {n : ℕ} {g : ℕ → List ℕ → List ℕ} → Changed t u n s g → (i : ℕ) → Within n i → s i ≡ true → rowBytes u i ≡ g i (rowBytes t i)
+changed-row {t} {u} {s} {n} {g} c i w m = c .rows i w ∙ ap (λ (x : Bool). cond x (g i (rowBytes t i)) (rowBytes t i)) m
+
+becomes-at : {row new new′ c : List ℕ} {f : ℕ → ℕ} → new′ ≡ new → Becomes row new f c → Becomes row new′ f c
+becomes-at {row} {new} {new′} {c} {f} e b = subst (λ (x : List ℕ). Becomes row x f c) (sym e) b
+
+-- ---- a write
+module _ (t : List ℕ) (c r offset : ℕ) (patch : List ℕ) (y : WriteYes t c r offset patch) where
+  w : Formed t
+  w = formed t (y .first .formed)
+
+  s : ℕ → Bool
+  s = workSet Write t c r
+
+  p : Poll
+  p = answers t r
+
+  v : ℕ
+  v = goodVersion p s + 1
+
+  pub write-used : (i : ℕ) → workSet Write t c r i ≡ true → Within (usedOf t) i
+  unfolding workSet
+  write-used i m = answered-used t c r [] (y .first) i (worked-in Write (orderOf t) (answers t r) c (nameOf t c) (has r) i m)
+
+  v-fits : v < 256 ^ 4
+  unfolding v s p limit
+  v-fits = omega (arith, y .room)
+
+  pub writeTable : List ℕ
+  writeTable = withRows t (workSet Write t c r) (wroteRow (good (answers t r) (workSet Write t c r)) (goodVersion (answers t r) (workSet Write t c r) + 1) offset patch) (usedOf t)
+
+  wrote : (i : ℕ) → Within (usedOf t) i → (b : Bool) → good p s i ≡ b
+      → Becomes (rowBytes t i) (wroteRow (good p s) v offset patch i (rowBytes t i))
+        (cond b (changed (fieldsOf (rowBytes t i)) 4 v) (changed (changed (fieldsOf (rowBytes t i)) 3 1) 5 v))
+        (cond b (put offset patch (contents (rowBytes t i))) (contents (rowBytes t i)))
+  unfolding wroteRow
+  wrote i u true e = rw e (patched-row (rowBytes t i) (long-row t w i u) v offset patch v-fits (omega (arith, row-length t w i u, y .range)))
+  wrote i u false e = rw e (marked-row (rowBytes t i) (long-row t w i u) v v-fits)
+
+  write-changed : Changed t writeTable (usedOf t) s (wroteRow (good p s) v offset patch)
+  unfolding writeTable s p v rowLength fileOf
+  write-changed = many-rows t s (wroteRow (good p s) v offset patch) (usedOf t) (rows-room t w) (λ i u m. wrote i u (good p s i) refl .long ∙ row-length t w i u)
+
+  pub write-leaves : Leaves t writeTable (workSet Write t c r)
+  unfolding s changed fieldsOf fieldAt
+  write-leaves = leaves-of t writeTable s (wroteRow (good p s) v offset patch) write-changed (λ i u m. go i u (good p s i) refl)
+    where
+      go : (i : ℕ) → Within (usedOf t) i → (b : Bool) → good p s i ≡ b
+          → (f : ℕ → ℕ) × (d : List ℕ) × Becomes (rowBytes t i) (wroteRow (good p s) v offset patch i (rowBytes t i)) f d × (f 1 ≡ get name (rowBytes t i)) × (f 2 ≡ get link (rowBytes t i))
+      go i u true e = (_, _, wrote i u true e, refl, refl)
+      go i u false e = (_, _, wrote i u false e, refl, refl)
+
+  pub write-taken : (i : ℕ) → Within (usedOf t) i → workSet Write t c r i ≡ true → good (answers t r) (workSet Write t c r) i ≡ true
+      → RowBecomes t writeTable i (changed (fieldsOf (rowBytes t i)) 4 (goodVersion (answers t r) (workSet Write t c r) + 1)) (put offset patch (contents (rowBytes t i)))
+  unfolding s p v
+  write-taken i u m e = becomes-at (changed-row write-changed i u m) (wrote i u true e)
+
+  pub write-marked : (i : ℕ) → Within (usedOf t) i → workSet Write t c r i ≡ true → good (answers t r) (workSet Write t c r) i ≡ false
+      → RowBecomes t writeTable i (changed (changed (fieldsOf (rowBytes t i)) 3 1) 5 (goodVersion (answers t r) (workSet Write t c r) + 1)) (contents (rowBytes t i))
+  unfolding s p v
+  write-marked i u m e = becomes-at (changed-row write-changed i u m) (wrote i u false e)
+
+-- ---- a send
+module _ (t : List ℕ) (f to r : ℕ) (y : SendYes t f to r) where
+  sw : Formed t
+  sw = formed t (y .formed)
+
+  pub sendTable : List ℕ
+  sendTable = withRow t to (refreshedRow (rowBytes t f))
+
+  refreshed : Becomes (rowBytes t to) (refreshedRow (rowBytes t f) (rowBytes t to))
+      (changed (changed (changed (fieldsOf (rowBytes t to)) 3 0) 4 (versionOf t f)) 5 0) (contents (rowBytes t f))
+  unfolding versionOf limit
+  refreshed = refreshed-row (rowBytes t to) (long-row t sw to (y .to-used)) (rowBytes t f) (omega (arith, sw .rows f (y .from-used) .small-version))
+      (row-length t sw f (y .from-used) ∙ sym (row-length t sw to (y .to-used)))
+
+  send-changed : Changed t sendTable (usedOf t) (eqb to) (λ i. refreshedRow (rowBytes t f))
+  unfolding sendTable rowLength fileOf
+  send-changed = go to (y .to-used) (refreshed .long ∙ row-length t sw to (y .to-used))
+    where
+      go : (i : ℕ) → Within (usedOf t) i → length (refreshedRow (rowBytes t f) (rowBytes t i)) ≡ 32 + fileOf t
+          → Changed t (withRow t i (refreshedRow (rowBytes t f))) (usedOf t) (eqb i) (λ i. refreshedRow (rowBytes t f))
+      go zero u l = absurd (omega arith)
+      go (suc k) u l = one-row t (usedOf t) k (rows-room t sw) (omega arith) (refreshedRow (rowBytes t f)) l
+
+  pub send-target : RowBecomes t sendTable to (changed (changed (changed (fieldsOf (rowBytes t to)) 3 0) 4 (versionOf t f)) 5 0) (contentsOf t f)
+  unfolding contentsOf
+  send-target = becomes-at (changed-row send-changed to (y .to-used) (eq-eqb to to refl)) refreshed
+
+  pub send-leaves : Leaves t sendTable (eqb to)
+  unfolding changed fieldsOf fieldAt
+  send-leaves = leaves-of t sendTable (eqb to) (λ i. refreshedRow (rowBytes t f)) send-changed (λ i u m. go i (eqb-true to i m))
+    where
+      go : (i : ℕ) → to ≡ i
+          → (g : ℕ → ℕ) × (d : List ℕ) × Becomes (rowBytes t i) (refreshedRow (rowBytes t f) (rowBytes t i)) g d × (g 1 ≡ get name (rowBytes t i)) × (g 2 ≡ get link (rowBytes t i))
+      go i e = subst (λ (x : ℕ). (g : ℕ → ℕ) × (d : List ℕ) × Becomes (rowBytes t x) (refreshedRow (rowBytes t f) (rowBytes t x)) g d × (g 1 ≡ get name (rowBytes t x)) × (g 2 ≡ get link (rowBytes t x))) e
+          (_, _, refreshed, refl, refl)
+
+-- ---- a check that changes the list
+module _ (t : List ℕ) (c r : ℕ) (y : CheckYes t c r) (room : highestEpoch (answers t r) (has r) < limit) where
+  cw : Formed t
+  cw = formed t (y .first .formed)
+
+  cg : ℕ → Bool
+  cg = good (answers t r) (has r)
+
+  cv : ℕ
+  cv = goodVersion (answers t r) (has r)
+
+  ce : ℕ
+  ce = highestEpoch (answers t r) (has r) + 1
+
+  -- the good version is that of a row
+  pub check-version : goodVersion (answers t r) (has r) ≤ limit
+  unfolding answers polled versionOf
+  check-version = version-under (answers t r) (has r) limit (λ i m. masked i (has r i) m)
+    where
+      masked : (i : ℕ) (b : Bool) → has r i ≡ true → cond b (versionOf t i) 0 ≤ limit
+      masked i true m = cw .rows i (answered-used t c r [] (y .first) i m) .small-version
+      masked i false m = omega arith
+
+  pub checkTable : List ℕ
+  checkTable = withRows t (has r) (checkedRow (good (answers t r) (has r)) (goodVersion (answers t r) (has r)) (highestEpoch (answers t r) (has r) + 1) r) (usedOf t)
+
+  list-fits : r < 256 ^ 8
+  list-fits =
+      let h = header-facts t (cw .header) in
+      let few : usedOf t ≤ 64 = omega arith in
+      lt-of-lt-of-le (y .first .rows) (pow-mono few)
+
+  enrolled : (i : ℕ) → Within (usedOf t) i → (b : Bool) → cg i ≡ b
+      → Becomes (rowBytes t i) (checkedRow cg cv ce r i (rowBytes t i))
+        (changed (changed (cond b (fieldsOf (rowBytes t i)) (changed (changed (fieldsOf (rowBytes t i)) 3 1) 5 cv)) 6 ce) 7 r) (contents (rowBytes t i))
+  unfolding checkedRow cv ce limit
+  enrolled i u true e = rw e (then-enrolled (rowBytes t i) (long-row t cw i u) ce r (omega arith) list-fits (unchanged (rowBytes t i)))
+  enrolled i u false e = rw e (then-enrolled (rowBytes t i) (long-row t cw i u) ce r (omega arith) list-fits (marked-row (rowBytes t i) (long-row t cw i u) cv (omega (arith, check-version))))
+
+  check-changed : Changed t checkTable (usedOf t) (has r) (checkedRow cg cv ce r)
+  unfolding checkTable cg cv ce rowLength fileOf
+  check-changed = many-rows t (has r) (checkedRow cg cv ce r) (usedOf t) (rows-room t cw) (λ i u m. enrolled i u (cg i) refl .long ∙ row-length t cw i u)
+
+  pub check-leaves : Leaves t checkTable (has r)
+  unfolding changed fieldsOf fieldAt
+  check-leaves = leaves-of t checkTable (has r) (checkedRow cg cv ce r) check-changed (λ i u m. go i u (cg i) refl)
+    where
+      go : (i : ℕ) → Within (usedOf t) i → (b : Bool) → cg i ≡ b
+          → (f : ℕ → ℕ) × (d : List ℕ) × Becomes (rowBytes t i) (checkedRow cg cv ce r i (rowBytes t i)) f d × (f 1 ≡ get name (rowBytes t i)) × (f 2 ≡ get link (rowBytes t i))
+      go i u true e = (_, _, enrolled i u true e, refl, refl)
+      go i u false e = (_, _, enrolled i u false e, refl, refl)
+
+  pub check-taken : (i : ℕ) → Within (usedOf t) i → has r i ≡ true → good (answers t r) (has r) i ≡ true
+      → RowBecomes t checkTable i (changed (changed (fieldsOf (rowBytes t i)) 6 (highestEpoch (answers t r) (has r) + 1)) 7 r) (contents (rowBytes t i))
+  unfolding cg cv ce
+  check-taken i u m e = becomes-at (changed-row check-changed i u m) (enrolled i u true e)
+
+  pub check-marked : (i : ℕ) → Within (usedOf t) i → has r i ≡ true → good (answers t r) (has r) i ≡ false
+      → RowBecomes t checkTable i
+        (changed (changed (changed (changed (fieldsOf (rowBytes t i)) 3 1) 5 (goodVersion (answers t r) (has r))) 6 (highestEpoch (answers t r) (has r) + 1)) 7 r) (contents (rowBytes t i))
+  unfolding cg cv ce
+  check-marked i u m e = becomes-at (changed-row check-changed i u m) (enrolled i u false e)
