@@ -5,3 +5,4 @@ pub mod TableLaws
 pub mod QuestionLaws
 pub mod FrameLaws
 pub mod DoneLaws
+pub mod KeepLaws

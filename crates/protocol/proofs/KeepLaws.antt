@@ -1,0 +1,282 @@
+-- Writes and sends keep every well-formed table well formed; so does a check, unless a row that did not answer has the new epoch already.
+use mathlib.Core.Path.{_≡_, refl, sym, _∙_, ap, subst}
+use mathlib.Core.Bool.{Bool, true, false, not, cond, _&&_, _||_}
+use mathlib.Core.List.{List, []}
+use Prim.Native.Nat.{ℕ, zero, suc, _+_, _-_, _*_, _^_, _≤_, _<_}
+use native.Mathlib.Decide.{ℕ-discrete}
+use native.Mathlib.Omega.{arith}
+use lib.Dec.{eqb, leb, ltb}
+use lib.ListN.{length}
+use borrow.Author.Tests.{eqb-true, eq-eqb, ne-eqb, ltb-true}
+use Rattle.rows.specs.Upto.{Within}
+use Rattle.rows.specs.Sets.{has}
+use Rattle.rows.proofs.Bools.{and-l, and-r, or-e, clash}
+use Rattle.grid.specs.declared.quorums.Kind.the-variants.{Read, Write}
+use Rattle.table.specs.Bytes.{allZero, put}
+use Rattle.table.specs.Layout.{get, name, link, mark, version, desired, epoch, members, reserved, contents, rowBytes, usedOf, epochOf, membersOf, staleOf, versionOf, desiredOf}
+use Rattle.table.specs.WellFormed.{limit, wellFormed}
+use Rattle.table.proofs.FormLaws.{RowFacts, Formed, formed, well-formed-of, HeaderFacts, header-facts}
+use Rattle.protocol.specs.Polls.{Poll, polled, highestEpoch, goodVersion, good, current}
+use Rattle.protocol.specs.Calls.{answers, workSet}
+use Rattle.protocol.proofs.RowLaws.{fieldAt, Becomes, fieldsOf, changed}
+use Rattle.protocol.proofs.TableLaws.{Changed}
+use Rattle.protocol.proofs.PollLaws.{Good, good-at, good-of, version-le, current-desired, worked-in}
+use Rattle.protocol.proofs.FrameLaws.{Frame, same-used, same-header, same-long, same-visits, same-rise, zero-stays}
+use Rattle.protocol.proofs.QuestionLaws.{ByCoordinator, answered-used, WriteYes, SendYes, CheckYes}
+use Rattle.protocol.proofs.DoneLaws.{Leaves, RowBecomes, write-used, writeTable, write-leaves, write-taken, write-marked, sendTable, send-leaves, send-target, checkTable, check-version, check-leaves, check-taken, check-marked}
+
+-- what is asked of a row, in terms of its seven fields
+record Fields (n i : ℕ) (f : ℕ → ℕ) : Type 0 where
+  flag : f 3 ≤ 1
+  small-version : f 4 ≤ limit
+  small-desired : f 5 ≤ limit
+  small-epoch : f 6 ≤ limit
+  behind : eqb (f 3) 1 ≡ true → f 4 < f 5
+  level : eqb (f 3) 1 ≡ false → f 5 ≡ 0
+  only : f 7 < 2 ^ n
+  own : has (f 7) i ≡ true
+
+facts-after : {n i : ℕ} {row new c : List ℕ} {f : ℕ → ℕ} → RowFacts n i row → Becomes row new f c → f 1 ≡ get name row → f 2 ≡ get link row → Fields n i f → RowFacts n i new
+unfolding fieldAt
+facts-after {n} {i} {row} {new} {c} {f} r b e1 e2 g = record {
+  named = rw (b .fields 1 (omega arith), e1) (r .named);
+  linked = rw (b .fields 2 (omega arith), e2) (r .linked);
+  flag = rw (b .fields 3 (omega arith)) (g .flag);
+  spare = rw (b .spare) (r .spare);
+  small-version = rw (b .fields 4 (omega arith)) (g .small-version);
+  small-desired = rw (b .fields 5 (omega arith)) (g .small-desired);
+  small-epoch = rw (b .fields 6 (omega arith)) (g .small-epoch);
+  behind = rw (b .fields 3 (omega arith), b .fields 4 (omega arith), b .fields 5 (omega arith)) (g .behind);
+  level = rw (b .fields 3 (omega arith), b .fields 5 (omega arith)) (g .level);
+  only = rw (b .fields 7 (omega arith)) (g .only);
+  own = rw (b .fields 7 (omega arith)) (g .own);
+}
+
+-- a table whose changed rows are right, and whose rows agree on lists, is well formed
+keep-formed : {t u : List ℕ} {s : ℕ → Bool} → Formed t → Leaves t u s
+    → ((i : ℕ) → Within (usedOf t) i → s i ≡ true → RowFacts (usedOf t) i (rowBytes u i))
+    → ((i j : ℕ) → Within (usedOf t) i → Within (usedOf t) j → epochOf u i ≡ epochOf u j → membersOf u i ≡ membersOf u j)
+    → Formed u
+unfolding epochOf membersOf
+keep-formed {t} {u} {s} w l facts agree = record {
+  header = same-header (l .frame) ∙ w .header;
+  long = same-long (l .frame) ∙ w .long;
+  rows = rw (same-used (l .frame)) (λ i v. go i v (s i) refl);
+  visits = same-visits (l .frame) ∙ w .visits;
+  rise = same-rise (l .frame) ∙ w .rise;
+  zero = zero-stays (l .change) refl (same-used (l .frame)) ∙ w .zero;
+  agree = rw (same-used (l .frame)) agree;
+}
+  where
+    go : (i : ℕ) → Within (usedOf t) i → (b : Bool) → s i ≡ b → RowFacts (usedOf t) i (rowBytes u i)
+    go i v true m = facts i v m
+    go i v false m = rw (l .out i v m) (w .rows i v)
+
+-- ---- of the rows of a set within R, in a well-formed table
+module _ (t : List ℕ) (r : ℕ) (s : ℕ → Bool) (w : Formed t) (sub : (i : ℕ) → s i ≡ true → has r i ≡ true) (ins : (i : ℕ) → s i ≡ true → Within (usedOf t) i) (cur : current (answers t r) s ≡ true) where
+  few : (i : ℕ) → s i ≡ true → Within 64 i
+  few i m = let h = header-facts t (w .header) in omega (arith, ins i m)
+
+  -- a marked row has less than it desires, which is no more than the good version; an unmarked one no more than that
+  version-by : (i : ℕ) → s i ≡ true → (b : Bool) → staleOf t i ≡ b → cond b (versionOf t i + 1) (versionOf t i) ≤ goodVersion (answers t r) s
+  unfolding answers polled staleOf versionOf desiredOf
+  version-by i m true z =
+      let d : get desired (rowBytes t i) ≤ goodVersion (answers t r) s = rw (sub i m) at (current-desired (answers t r) s cur i (few i m) m (rw (sub i m) z)) in
+      omega (arith, w .rows i (ins i m) .behind z)
+  version-by i m false z = rw (sub i m) at (version-le (answers t r) s i (few i m) m (rw (sub i m) z))
+
+  pub version-at : (i : ℕ) → s i ≡ true → versionOf t i ≤ goodVersion (answers t r) s
+  version-at i m = go (staleOf t i) refl
+    where
+      go : (b : Bool) → staleOf t i ≡ b → versionOf t i ≤ goodVersion (answers t r) s
+      go true z = omega (arith, version-by i m true z)
+      go false z = version-by i m false z
+
+  -- a row that is not good has less than the good version
+  pub version-less : (i : ℕ) → s i ≡ true → good (answers t r) s i ≡ false → versionOf t i < goodVersion (answers t r) s
+  unfolding answers polled
+  version-less i m g = go (staleOf t i) refl (ℕ-discrete (versionOf t i) (goodVersion (answers t r) s))
+    where
+      go : (b : Bool) → staleOf t i ≡ b → Dec (versionOf t i ≡ goodVersion (answers t r) s) → versionOf t i < goodVersion (answers t r) s
+      go true z d = omega (arith, version-by i m true z)
+      go false z (no d) = omega (arith, version-by i m false z)
+      go false z (yes e) = absurd (clash (sym g ∙ good-of (answers t r) s i (record { inside = m; clean = rw (sub i m) z; newest = rw (sub i m) e })))
+
+  -- a good row is not marked
+  pub good-clean : (i : ℕ) → s i ≡ true → good (answers t r) s i ≡ true → staleOf t i ≡ false
+  unfolding answers polled
+  good-clean i m g = rw (sub i m) at (good-at (answers t r) s i g .clean)
+
+-- ---- a write
+module _ (t : List ℕ) (c r offset : ℕ) (patch : List ℕ) (y : WriteYes t c r offset patch) where
+  ww : Formed t
+  ww = formed t (y .first .formed)
+
+  write-sub : (i : ℕ) → workSet Write t c r i ≡ true → has r i ≡ true
+  unfolding workSet
+  write-sub i m = worked-in Write _ (answers t r) c _ (has r) i m
+
+  write-facts : (i : ℕ) → Within (usedOf t) i → workSet Write t c r i ≡ true → RowFacts (usedOf t) i (rowBytes (writeTable t c r offset patch y) i)
+  unfolding changed fieldsOf fieldAt staleOf versionOf
+  write-facts i u m = go (good (answers t r) (workSet Write t c r) i) refl
+    where
+      f : RowFacts (usedOf t) i (rowBytes t i)
+      f = ww .rows i u
+
+      go : (b : Bool) → good (answers t r) (workSet Write t c r) i ≡ b → RowFacts (usedOf t) i (rowBytes (writeTable t c r offset patch y) i)
+      go true g =
+          let z = good-clean t r (workSet Write t c r) ww write-sub (write-used t c r offset patch y) (y .current) i m g in
+          facts-after f (write-taken t c r offset patch y i u m g) refl refl (record {
+            flag = f .flag;
+            small-version = omega (arith, y .room);
+            small-desired = f .small-desired;
+            small-epoch = f .small-epoch;
+            behind = λ e. absurd (clash (sym z ∙ e));
+            level = f .level;
+            only = f .only;
+            own = f .own;
+          })
+      go false g =
+          let l = version-at t r (workSet Write t c r) ww write-sub (write-used t c r offset patch y) (y .current) i m in
+          facts-after f (write-marked t c r offset patch y i u m g) refl refl (record {
+            flag = omega arith;
+            small-version = f .small-version;
+            small-desired = omega (arith, y .room);
+            small-epoch = f .small-epoch;
+            behind = λ e. omega arith;
+            level = λ e. absurd (clash (sym e));
+            only = f .only;
+            own = f .own;
+          })
+
+  -- epochs and lists stay
+  pub write-membership : (i : ℕ) → Within (usedOf t) i
+      → (epochOf (writeTable t c r offset patch y) i ≡ epochOf t i) × (membersOf (writeTable t c r offset patch y) i ≡ membersOf t i)
+  unfolding changed fieldsOf fieldAt epochOf membersOf
+  write-membership i u = go (workSet Write t c r i) refl (good (answers t r) (workSet Write t c r) i) refl
+    where
+      new : List ℕ
+      new = rowBytes (writeTable t c r offset patch y) i
+
+      go : (a : Bool) → workSet Write t c r i ≡ a → (b : Bool) → good (answers t r) (workSet Write t c r) i ≡ b
+          → (get epoch new ≡ get epoch (rowBytes t i)) × (get members new ≡ get members (rowBytes t i))
+      go false m b g = let e = write-leaves t c r offset patch y .out i u m in (ap (get epoch) e, ap (get members) e)
+      go true m true g = let e = write-taken t c r offset patch y i u m g .fields in (e 6 (omega arith), e 7 (omega arith))
+      go true m false g = let e = write-marked t c r offset patch y i u m g .fields in (e 6 (omega arith), e 7 (omega arith))
+
+  pub write-formed : Formed (writeTable t c r offset patch y)
+  unfolding epochOf membersOf
+  write-formed = keep-formed ww (write-leaves t c r offset patch y) write-facts (λ i j u v e.
+      let a = write-membership i u in
+      let b = write-membership j v in
+      a .1 ∙ ww .agree i j u v (sym (a .0) ∙ e ∙ b .0) ∙ sym (b .1))
+
+-- ---- a send
+module _ (t : List ℕ) (f to r : ℕ) (y : SendYes t f to r) where
+  sw : Formed t
+  sw = formed t (y .formed)
+
+  send-facts : (i : ℕ) → Within (usedOf t) i → eqb to i ≡ true → RowFacts (usedOf t) i (rowBytes (sendTable t f to r y) i)
+  unfolding changed fieldsOf fieldAt versionOf limit
+  send-facts i u m = subst (λ (x : ℕ). RowFacts (usedOf t) x (rowBytes (sendTable t f to r y) x)) (eqb-true to i m)
+      (facts-after (sw .rows to (y .to-used)) (send-target t f to r y) refl refl (record {
+        flag = omega arith;
+        small-version = sw .rows f (y .from-used) .small-version;
+        small-desired = omega arith;
+        small-epoch = sw .rows to (y .to-used) .small-epoch;
+        behind = λ e. absurd (clash e);
+        level = λ e. refl;
+        only = sw .rows to (y .to-used) .only;
+        own = sw .rows to (y .to-used) .own;
+      }))
+
+  pub send-membership : (i : ℕ) → Within (usedOf t) i
+      → (epochOf (sendTable t f to r y) i ≡ epochOf t i) × (membersOf (sendTable t f to r y) i ≡ membersOf t i)
+  unfolding changed fieldsOf fieldAt epochOf membersOf
+  send-membership i u = go (eqb to i) refl
+    where
+      go : (a : Bool) → eqb to i ≡ a
+          → (get epoch (rowBytes (sendTable t f to r y) i) ≡ get epoch (rowBytes t i)) × (get members (rowBytes (sendTable t f to r y) i) ≡ get members (rowBytes t i))
+      go false m = let e = send-leaves t f to r y .out i u m in (ap (get epoch) e, ap (get members) e)
+      go true m = subst (λ (x : ℕ). (get epoch (rowBytes (sendTable t f to r y) x) ≡ get epoch (rowBytes t x)) × (get members (rowBytes (sendTable t f to r y) x) ≡ get members (rowBytes t x))) (eqb-true to i m)
+          (let e = send-target t f to r y .fields in (e 6 (omega arith), e 7 (omega arith)))
+
+  pub send-formed : Formed (sendTable t f to r y)
+  unfolding epochOf membersOf
+  send-formed = keep-formed sw (send-leaves t f to r y) send-facts (λ i j u v e.
+      let a = send-membership i u in
+      let b = send-membership j v in
+      a .1 ∙ sw .agree i j u v (sym (a .0) ∙ e ∙ b .0) ∙ sym (b .1))
+
+-- ---- a check that changes the list
+module _ (t : List ℕ) (c r : ℕ) (y : CheckYes t c r) (room : highestEpoch (answers t r) (has r) < limit) (cur : current (answers t r) (has r) ≡ true) where
+  chw : Formed t
+  chw = formed t (y .first .formed)
+
+  check-used : (i : ℕ) → has r i ≡ true → Within (usedOf t) i
+  check-used = answered-used t c r [] (y .first)
+
+  check-facts : (i : ℕ) → Within (usedOf t) i → has r i ≡ true → RowFacts (usedOf t) i (rowBytes (checkTable t c r y room) i)
+  unfolding changed fieldsOf fieldAt versionOf
+  check-facts i u m = go (good (answers t r) (has r) i) refl
+    where
+      f : RowFacts (usedOf t) i (rowBytes t i)
+      f = chw .rows i u
+
+      go : (b : Bool) → good (answers t r) (has r) i ≡ b → RowFacts (usedOf t) i (rowBytes (checkTable t c r y room) i)
+      go true g = facts-after f (check-taken t c r y room i u m g) refl refl (record {
+        flag = f .flag;
+        small-version = f .small-version;
+        small-desired = f .small-desired;
+        small-epoch = omega arith;
+        behind = f .behind;
+        level = f .level;
+        only = y .first .rows;
+        own = m;
+      })
+      go false g =
+          let l = version-less t r (has r) chw (λ j h. h) check-used cur i m g in
+          facts-after f (check-marked t c r y room i u m g) refl refl (record {
+            flag = omega arith;
+            small-version = f .small-version;
+            small-desired = check-version t c r y room;
+            small-epoch = omega arith;
+            behind = λ e. l;
+            level = λ e. absurd (clash (sym e));
+            only = y .first .rows;
+            own = m;
+          })
+
+  -- rows that answered have the new epoch and list, the others keep theirs
+  pub check-membership : (i : ℕ) → Within (usedOf t) i
+      → (epochOf (checkTable t c r y room) i ≡ cond (has r i) (highestEpoch (answers t r) (has r) + 1) (epochOf t i)) × (membersOf (checkTable t c r y room) i ≡ cond (has r i) r (membersOf t i))
+  unfolding changed fieldsOf fieldAt epochOf membersOf
+  check-membership i u = go (has r i) refl (good (answers t r) (has r) i) refl
+    where
+      new : List ℕ
+      new = rowBytes (checkTable t c r y room) i
+
+      go : (a : Bool) → has r i ≡ a → (b : Bool) → good (answers t r) (has r) i ≡ b
+          → (get epoch new ≡ cond a (highestEpoch (answers t r) (has r) + 1) (get epoch (rowBytes t i))) × (get members new ≡ cond a r (get members (rowBytes t i)))
+      go false m b g = let e = check-leaves t c r y room .out i u m in (ap (get epoch) e, ap (get members) e)
+      go true m true g = let e = check-taken t c r y room i u m g .fields in (e 6 (omega arith), e 7 (omega arith))
+      go true m false g = let e = check-marked t c r y room i u m g .fields in (e 6 (omega arith), e 7 (omega arith))
+
+  old-agree : (i j : ℕ) → Within (usedOf t) i → Within (usedOf t) j → epochOf t i ≡ epochOf t j → membersOf t i ≡ membersOf t j
+  unfolding epochOf membersOf
+  old-agree = chw .agree
+
+  -- where no used row outside R has the new epoch already
+  pub check-formed : ((i : ℕ) → Within (usedOf t) i → has r i ≡ false → epochOf t i ≡ highestEpoch (answers t r) (has r) + 1 → ⊥) → Formed (checkTable t c r y room)
+  check-formed new = keep-formed chw (check-leaves t c r y room) check-facts (λ i j u v e.
+      let a = check-membership i u in
+      let b = check-membership j v in
+      a .1 ∙ go i j u v (has r i) refl (has r j) refl (sym (a .0) ∙ e ∙ b .0) ∙ sym (b .1))
+    where
+      go : (i j : ℕ) → Within (usedOf t) i → Within (usedOf t) j → (x : Bool) → has r i ≡ x → (y : Bool) → has r j ≡ y
+          → cond x (highestEpoch (answers t r) (has r) + 1) (epochOf t i) ≡ cond y (highestEpoch (answers t r) (has r) + 1) (epochOf t j)
+          → cond x r (membersOf t i) ≡ cond y r (membersOf t j)
+      go i j u v true ex true ey e = refl
+      go i j u v true ex false ey e = absurd (new j v ey (sym e))
+      go i j u v false ex true ey e = absurd (new i u ex e)
+      go i j u v false ex false ey e = old-agree i j u v e
