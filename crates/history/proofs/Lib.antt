@@ -1,3 +1,5 @@
 pub mod Computed
 pub mod Invariant
 pub mod Steps
+pub mod State
+pub mod Answers

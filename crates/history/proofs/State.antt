@@ -1,0 +1,101 @@
+-- A table against the book: it is well formed, its frame is the founding's, and the invariant holds of its rows.
+use mathlib.Core.Path.{_≡_, refl, sym, _∙_, ap, ap₂, subst}
+use mathlib.Core.Bool.{Bool, true, false, not, cond, _&&_, _||_}
+use mathlib.Core.List.{List, [], _∷_}
+use Prim.Native.Nat.{ℕ, zero, suc, _+_, _-_, _*_, _^_, _≤_, _<_}
+use native.Mathlib.Omega.{arith}
+use lib.Dec.{eqb, leb, ltb}
+use lib.ListN.{length}
+use Rattle.rows.specs.Upto.{Within, lowest}
+use Rattle.rows.specs.Sets.{has}
+use Rattle.grid.specs.declared.quorums.Kind.{Kind}
+use Rattle.grid.specs.declared.quorums.Kind.the-variants.{Read, Write}
+use Rattle.table.specs.Layout.{usedOf, fileOf, nameOf, contentsOf}
+use Rattle.table.specs.Chain.{orderOf}
+use Rattle.table.proofs.FormLaws.{Formed, header-facts}
+use Rattle.protocol.specs.Polls.{Poll, polled, highestEpoch, inForce, goodVersion, good, current, quorumHeld, workedOn}
+use Rattle.protocol.specs.Calls.{answers, workSet}
+use Rattle.protocol.proofs.PollLaws.{Agree, agree-less, epoch-same, list-same, version-same, good-same, current-same, quorum-same, worked-same, worked-in}
+use Rattle.protocol.proofs.QuestionLaws.{ByCoordinator, answered-used}
+use Rattle.history.specs.Book.{Book, order, nameIn, holdsQuorum, someHasAll}
+use Rattle.history.proofs.Invariant.{Inv, quorum-is, answers-are, worked-used}
+
+-- what all rows say
+unfoldable pub whole : List ℕ → Poll
+whole t = polled t (λ i. true)
+
+pub record State (t : List ℕ) (b : Book) (e : ℕ) : Type 0 where
+  pub formed : Formed t
+  pub used : usedOf t ≡ length (b .names)
+  pub chain : orderOf t ≡ order b
+  pub names : (i : ℕ) → Within (usedOf t) i → nameOf t i ≡ nameIn b i
+  pub file : length (b .file) ≡ fileOf t
+  pub inv : Inv (usedOf t) (whole t) (contentsOf t) b e
+
+-- the poll of R says of R what all rows say
+masked : (t : List ℕ) (r : ℕ) → Agree (answers t r) (whole t) (has r)
+unfolding answers whole polled
+masked t r = record {
+  stale = λ i m. rw m;
+  version = λ i m. rw m;
+  desired = λ i m. rw m;
+  epoch = λ i m. rw m;
+  members = λ i m. rw m;
+}
+
+module _ (t : List ℕ) (b : Book) (e : ℕ) (S : State t b e) (r : ℕ) where
+  pub few : usedOf t ≤ 64
+  few = let h = header-facts t (S .formed .header) in omega arith
+
+  -- ---- a set within R
+  module _ (s : ℕ → Bool) (sub : (i : ℕ) → s i ≡ true → has r i ≡ true) where
+    agree : Agree (answers t r) (whole t) s
+    agree = agree-less (answers t r) (whole t) s (has r) sub (masked t r)
+
+    pub quorum-whole : (kind : Kind) → quorumHeld kind (orderOf t) (answers t r) s ≡ quorumHeld kind (order b) (whole t) s
+    quorum-whole kind = quorum-same (answers t r) (whole t) s agree kind (orderOf t) ∙ ap (λ (o : List ℕ). quorumHeld kind o (whole t) s) (S .chain)
+
+    pub current-whole : current (answers t r) s ≡ current (whole t) s
+    current-whole = current-same (answers t r) (whole t) s agree
+
+    pub good-whole : good (answers t r) s ≡ good (whole t) s
+    good-whole = good-same (answers t r) (whole t) s agree
+
+    pub version-whole : goodVersion (answers t r) s ≡ goodVersion (whole t) s
+    version-whole = version-same (answers t r) (whole t) s agree
+
+  -- ---- a call by c
+  module _ (kind : Kind) (c : ℕ) (B : ByCoordinator t c r) where
+    pub answered : (i : ℕ) → has r i ≡ true → Within (usedOf t) i
+    answered = answered-used t c r [] B
+
+    pub work-is : workSet kind t c r ≡ workedOn kind (order b) (whole t) c (nameIn b c) (has r)
+    unfolding workSet
+    work-is =
+        worked-same kind (orderOf t) (answers t r) (whole t) c (nameOf t c) (has r) (B .answered) (masked t r)
+        ∙ ap₂ (λ (o : List ℕ) (a : ℕ). workedOn kind o (whole t) c a (has r)) (S .chain) (S .names c (B .coordinator))
+
+    pub work-sub : (i : ℕ) → workSet kind t c r i ≡ true → has r i ≡ true
+    unfolding workSet
+    work-sub i m = worked-in kind (orderOf t) (answers t r) c (nameOf t c) (has r) i m
+
+    pub work-used : (i : ℕ) → workSet kind t c r i ≡ true → Within (usedOf t) i
+    work-used i m = answered i (work-sub i m)
+
+    -- question 6 of the set worked on is the book's quorum of R
+    pub six-is : quorumHeld kind (orderOf t) (answers t r) (workSet kind t c r) ≡ holdsQuorum b kind (has r)
+    six-is =
+        quorum-whole (workSet kind t c r) work-sub kind ∙ ap (quorumHeld kind (order b) (whole t)) work-is
+        ∙ answers-are (usedOf t) (whole t) (contentsOf t) b e few (S .inv) kind c (nameIn b c) (has r) answered .0
+
+    -- question 7 is "a row of R has every done write"
+    pub seven-is : holdsQuorum b kind (has r) ≡ true → current (answers t r) (workSet kind t c r) ≡ someHasAll b (has r)
+    seven-is q =
+        current-whole (workSet kind t c r) work-sub ∙ ap (current (whole t)) work-is
+        ∙ answers-are (usedOf t) (whole t) (contentsOf t) b e few (S .inv) kind c (nameIn b c) (has r) answered .1 q
+
+    -- the set worked on holds the quorum that it was asked for
+    pub work-quorum : quorumHeld kind (orderOf t) (answers t r) (workSet kind t c r) ≡ true → holdsQuorum b kind (workSet kind t c r) ≡ true
+    work-quorum h =
+        sym (quorum-is (usedOf t) (whole t) (contentsOf t) b e few (S .inv) (workSet kind t c r) work-used kind)
+        ∙ sym (quorum-whole (workSet kind t c r) work-sub kind) ∙ h
