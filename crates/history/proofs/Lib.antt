@@ -3,3 +3,4 @@ pub mod Invariant
 pub mod Steps
 pub mod State
 pub mod Answers
+pub mod Next

@@ -6,7 +6,7 @@ use Prim.Native.Nat.{ℕ, zero, suc, _+_, _-_, _*_, _^_, _≤_, _<_}
 use native.Mathlib.Omega.{arith}
 use lib.Dec.{eqb, leb, ltb}
 use lib.ListN.{length}
-use Rattle.rows.specs.Upto.{Within, lowest}
+use Rattle.rows.specs.Upto.{Within, some, lowest}
 use Rattle.rows.specs.Sets.{has}
 use Rattle.grid.specs.declared.quorums.Kind.{Kind}
 use Rattle.grid.specs.declared.quorums.Kind.the-variants.{Read, Write}
@@ -54,6 +54,12 @@ module _ (t : List ℕ) (b : Book) (e : ℕ) (S : State t b e) (r : ℕ) where
 
     pub quorum-whole : (kind : Kind) → quorumHeld kind (orderOf t) (answers t r) s ≡ quorumHeld kind (order b) (whole t) s
     quorum-whole kind = quorum-same (answers t r) (whole t) s agree kind (orderOf t) ∙ ap (λ (o : List ℕ). quorumHeld kind o (whole t) s) (S .chain)
+
+    pub epoch-whole : highestEpoch (answers t r) s ≡ highestEpoch (whole t) s
+    epoch-whole = epoch-same (answers t r) (whole t) s agree
+
+    pub list-whole : some 64 s ≡ true → inForce (answers t r) s ≡ inForce (whole t) s
+    list-whole h = list-same (answers t r) (whole t) s agree h
 
     pub current-whole : current (answers t r) s ≡ current (whole t) s
     current-whole = current-same (answers t r) (whole t) s agree

@@ -1,0 +1,182 @@
+-- The table after a call against the book after it.
+use mathlib.Core.Path.{_≡_, refl, sym, _∙_, ap, ap₂, subst}
+use mathlib.Core.Bool.{Bool, true, false, not, cond, _&&_, _||_}
+use mathlib.Core.List.{List, [], _∷_}
+use Prim.Native.Nat.{ℕ, zero, suc, _+_, _-_, _*_, _^_, _≤_, _<_}
+use native.Mathlib.Omega.{arith}
+use lib.Dec.{eqb, leb, ltb}
+use lib.ListN.{length, getD}
+use borrow.Author.Tests.{eqb-true, eqb-false, ne-eqb, ltb-true}
+use Rattle.rows.specs.Upto.{Within}
+use Rattle.rows.specs.Sets.{has}
+use Rattle.rows.proofs.UptoLaws.{some-of}
+use Rattle.protocol.proofs.ListLaws.{reads}
+use Rattle.grid.specs.declared.quorums.Kind.{Kind}
+use Rattle.grid.specs.declared.quorums.Kind.the-variants.{Read, Write}
+use Rattle.table.specs.Bytes.{put}
+use Rattle.table.specs.Layout.{get, mark, version, desired, contents, rowBytes, usedOf, fileOf, nameOf, staleOf, versionOf, desiredOf, contentsOf, epochOf, membersOf}
+use Rattle.table.specs.Chain.{orderOf}
+use Rattle.table.specs.WellFormed.{limit}
+use Rattle.table.proofs.ByteLaws.{length-put}
+use Rattle.table.proofs.FormLaws.{Formed}
+use Rattle.protocol.specs.Polls.{Poll, polled, highestEpoch, inForce, goodVersion, good, current, quorumHeld, workedOn}
+use Rattle.protocol.specs.Calls.{answers, workSet}
+use Rattle.protocol.proofs.RowLaws.{fieldAt, Becomes, fieldsOf, changed}
+use Rattle.protocol.proofs.PollLaws.{epoch-same}
+use Rattle.protocol.proofs.FrameLaws.{Frame, same-used, same-file, same-order}
+use Rattle.protocol.proofs.QuestionLaws.{ByCoordinator, WriteYes, SendYes, CheckYes}
+use Rattle.protocol.proofs.DoneLaws.{Leaves, RowBecomes, writeTable, write-leaves, write-taken, write-marked, sendTable, send-leaves, send-target, checkTable, check-leaves, check-taken, check-marked}
+use Rattle.protocol.proofs.KeepLaws.{write-formed, write-membership, send-formed, send-membership, check-formed, check-membership}
+use Rattle.history.specs.Book.{Book, upward, order, nameIn, holdsQuorum, writeSet, written, passedOn, agreed}
+use Rattle.history.proofs.Invariant.{Inv, set-is, quorum-is, in-force}
+use Rattle.history.proofs.Steps.{Is, Stays, Wrote, keep-write, Sent, keep-send, Checked, keep-list, keep-check}
+use Rattle.history.proofs.State.{whole, State, few, quorum-whole, epoch-whole, list-whole, good-whole, version-whole, current-whole, answered, work-is, work-sub, work-used, work-quorum}
+use Rattle.history.proofs.Answers.{current-all}
+
+-- what row i of u says, where it became so
+is-of : (t u : List ℕ) (i : ℕ) {f : ℕ → ℕ} {c : List ℕ} → RowBecomes t u i f c → Is (whole u) (contentsOf u) i (eqb (f 3) 1) (f 4) (f 5) c
+unfolding whole polled staleOf versionOf desiredOf contentsOf fieldAt
+is-of t u i b = record {
+  stale = ap (λ (x : ℕ). eqb x 1) (b .fields 3 (omega arith));
+  version = b .fields 4 (omega arith);
+  desired = b .fields 5 (omega arith);
+  contents = b .bytes;
+}
+
+-- a row that stays as it was
+stays-of : (t u : List ℕ) (i : ℕ) → rowBytes u i ≡ rowBytes t i → Stays (whole t) (contentsOf t) (whole u) (contentsOf u) i
+unfolding whole polled staleOf versionOf desiredOf contentsOf
+stays-of t u i e = record {
+  stale = ap (λ (x : List ℕ). eqb (get mark x) 1) e;
+  version = ap (get version) e;
+  desired = ap (get desired) e;
+  contents = ap contents e;
+}
+
+-- the frame of the book is that of the table before and after
+framed : {t u : List ℕ} {b b′ : Book} {e e′ : ℕ} → State t b e → Frame t u → Formed u → b′ .names ≡ b .names → length (b′ .file) ≡ length (b .file)
+    → Inv (usedOf t) (whole u) (contentsOf u) b′ e′ → State u b′ e′
+unfolding order nameIn
+framed {t} {u} {b} {b′} {e} {e′} S f w n l I = record {
+  formed = w;
+  used = same-used f ∙ S .used ∙ sym (ap length n);
+  chain = same-order f ∙ S .chain ∙ ap (λ (x : List ℕ). upward (length x) 1) (sym n);
+  names = rw (same-used f) (λ i u. ap (λ (g : ℕ → ℕ). g i) (f .names) ∙ S .names i u ∙ ap (λ (x : List ℕ). getD x (i - 1) 0) (sym n));
+  file = l ∙ S .file ∙ sym (same-file f);
+  inv = rw (same-used f) I;
+}
+
+-- ---- a done write
+module _ (t : List ℕ) (b : Book) (e : ℕ) (S : State t b e) (c r offset : ℕ) (patch : List ℕ) (y : WriteYes t c r offset patch) where
+  u : List ℕ
+  u = writeTable t c r offset patch y
+
+  s : ℕ → Bool
+  s = workSet Write t c r
+
+  sub : (i : ℕ) → s i ≡ true → has r i ≡ true
+  unfolding s
+  sub = work-sub t b e S r Write c (y .first)
+
+  good-is : good (whole t) s ≡ good (answers t r) s
+  unfolding s
+  good-is = sym (good-whole t b e S r s sub)
+
+  version-is : goodVersion (whole t) s ≡ goodVersion (answers t r) s
+  unfolding s
+  version-is = sym (version-whole t b e S r s sub)
+
+  wrote : Wrote (usedOf t) (whole t) (contentsOf t) b e (few t b e S r) (S .inv) (whole u) (contentsOf u) s (goodVersion (whole t) s + 1) offset patch
+  unfolding u s whole polled changed fieldsOf fieldAt staleOf versionOf desiredOf contentsOf
+  wrote = record {
+    epoch = λ i v. write-membership t c r offset patch y i v .0;
+    members = λ i v. write-membership t c r offset patch y i v .1;
+    out = λ i v m. stays-of t u i (write-leaves t c r offset patch y .out i v m);
+    taken = rw (good-is, version-is) (λ i v m g. is-of t u i (write-taken t c r offset patch y i v m g));
+    marked = rw (good-is, version-is) (λ i v m g. is-of t u i (write-marked t c r offset patch y i v m g));
+  }
+
+  pub next-write : State (writeTable t c r offset patch y) (written b (writeSet b c r) offset patch) e
+  unfolding u s written
+  next-write = framed S (write-leaves t c r offset patch y .frame) (write-formed t c r offset patch y) refl (length-put (b .file) offset patch (omega (arith, S .file, y .range)))
+      (subst (λ (x : ℕ → Bool). Inv (usedOf t) (whole u) (contentsOf u) (written b x offset patch) e) set
+      (keep-write (usedOf t) (whole t) (contentsOf t) b e (few t b e S r) (S .inv) (whole u) (contentsOf u) s offset patch
+      (work-used t b e S r Write c (y .first)) (work-quorum t b e S r Write c (y .first) (y .quorum)) (current-all t b e S Write c r (y .first) (y .quorum) (y .current)) wrote))
+    where
+      set : workSet Write t c r ≡ writeSet b c r
+      set = work-is t b e S r Write c (y .first)
+          ∙ set-is (usedOf t) (whole t) (contentsOf t) b e (few t b e S r) (S .inv) c r (y .first .coordinator) (answered t b e S r Write c (y .first))
+
+-- ---- a done send
+module _ (t : List ℕ) (b : Book) (e : ℕ) (S : State t b e) (f to r : ℕ) (y : SendYes t f to r) where
+  su : List ℕ
+  su = sendTable t f to r y
+
+  sent : Sent (usedOf t) (whole t) (contentsOf t) b e (few t b e S r) (S .inv) (whole su) (contentsOf su) f to
+  unfolding su whole polled changed fieldsOf fieldAt staleOf versionOf desiredOf contentsOf
+  sent = record {
+    epoch = λ i v. send-membership t f to r y i v .0;
+    members = λ i v. send-membership t f to r y i v .1;
+    out = λ i v m. stays-of t su i (send-leaves t f to r y .out i v (ne-eqb to i (λ q. eqb-false i to m (sym q))));
+    target = is-of t su to (send-target t f to r y);
+  }
+
+  pub next-send : State (sendTable t f to r y) (passedOn b f to) e
+  unfolding su passedOn whole polled
+  next-send = framed S (send-leaves t f to r y .frame) (send-formed t f to r y) refl refl
+      (keep-send (usedOf t) (whole t) (contentsOf t) b e (few t b e S r) (S .inv) (whole su) (contentsOf su) f to (y .from-used) (y .to-used) (y .mark) (y .enough) sent)
+
+-- ---- a done check
+module _ (t : List ℕ) (b : Book) (e : ℕ) (S : State t b e) (c r : ℕ) (y : CheckYes t c r) where
+  all : (i : ℕ) → has r i ≡ true → has r i ≡ true
+  all i m = m
+
+  check-quorum : holdsQuorum b Write (has r) ≡ true
+  check-quorum =
+      sym (quorum-is (usedOf t) (whole t) (contentsOf t) b e (few t b e S r) (S .inv) (has r) (answered t b e S r Write c (y .first)) Write)
+      ∙ sym (quorum-whole t b e S r (has r) all Write) ∙ y .quorum
+
+  check-reads : holdsQuorum b Read (has r) ≡ true
+  unfolding holdsQuorum
+  check-reads = reads (order b) (b .inForce) Write (has r) check-quorum
+
+  -- V is the list in force, and its epoch the highest
+  pub force-is : (highestEpoch (answers t r) (has r) ≡ e) × (inForce (answers t r) (has r) ≡ b .inForce)
+  force-is =
+      let q = in-force (usedOf t) (whole t) (contentsOf t) b e (few t b e S r) (S .inv) (has r) (answered t b e S r Write c (y .first)) check-reads in
+      (epoch-whole t b e S r (has r) all ∙ q .0, list-whole t b e S r (has r) all (some-of 64 (has r) c (omega (arith, few t b e S r, y .first .coordinator)) (y .first .answered)) ∙ q .1)
+
+  pub next-same : r ≡ inForce (answers t r) (has r) → State t (agreed b r) e
+  unfolding agreed order nameIn
+  next-same z = record {
+    formed = S .formed;
+    used = S .used;
+    chain = S .chain;
+    names = S .names;
+    file = S .file;
+    inv = keep-list (usedOf t) (whole t) (contentsOf t) b e (few t b e S r) (S .inv) (whole t) (contentsOf t) r (y .first .rows) check-quorum (z ∙ force-is .1);
+  }
+
+  module _ (room : highestEpoch (answers t r) (has r) < limit) (cur : current (answers t r) (has r) ≡ true) where
+    cu : List ℕ
+    cu = checkTable t c r y room
+
+    fresh : (i : ℕ) → Within (usedOf t) i → has r i ≡ false → epochOf t i ≡ highestEpoch (answers t r) (has r) + 1 → ⊥
+    unfolding whole polled
+    fresh i u m q = omega (arith, force-is .0, S .inv .epochs .below i u)
+
+    checked : Checked (usedOf t) (whole t) (contentsOf t) b e (few t b e S r) (S .inv) (whole cu) (contentsOf cu) r (highestEpoch (whole t) (has r) + 1)
+    unfolding cu whole polled changed fieldsOf fieldAt staleOf versionOf desiredOf contentsOf
+    checked = record {
+      epoch = rw (sym (epoch-whole t b e S r (has r) all)) (λ i v. check-membership t c r y room cur i v .0);
+      members = λ i v. check-membership t c r y room cur i v .1;
+      out = λ i v m. stays-of t cu i (check-leaves t c r y room .out i v m);
+      taken = rw (sym (good-whole t b e S r (has r) all)) (λ i v m g. is-of t cu i (check-taken t c r y room i v m g));
+      marked = rw (sym (good-whole t b e S r (has r) all), sym (version-whole t b e S r (has r) all)) (λ i v m g. is-of t cu i (check-marked t c r y room i v m g));
+    }
+
+    pub next-check : State (checkTable t c r y room) (agreed b r) (suc e)
+    unfolding cu agreed
+    next-check = framed S (check-leaves t c r y room .frame) (check-formed t c r y room cur fresh) refl refl
+        (keep-check (usedOf t) (whole t) (contentsOf t) b e (few t b e S r) (S .inv) (whole cu) (contentsOf cu) r (y .first .rows) check-quorum
+        (sym (current-whole t b e S r (has r) all) ∙ cur) checked)
