@@ -7,7 +7,7 @@ use native.Mathlib.Omega.{arith}
 use lib.Dec.{eqb, leb, ltb}
 use lib.ListN.{length, getD}
 use borrow.Author.Tests.{eqb-true, eqb-false, ne-eqb, ltb-true}
-use Rattle.rows.specs.Upto.{Within}
+use Rattle.rows.specs.Upto.{Within, upward}
 use Rattle.rows.specs.Sets.{has}
 use Rattle.rows.proofs.UptoLaws.{some-of}
 use Rattle.protocol.proofs.ListLaws.{reads}
@@ -27,7 +27,7 @@ use Rattle.protocol.proofs.FrameLaws.{Frame, same-used, same-file, same-order}
 use Rattle.protocol.proofs.QuestionLaws.{ByCoordinator, WriteYes, SendYes, CheckYes}
 use Rattle.protocol.proofs.DoneLaws.{Leaves, RowBecomes, writeTable, write-leaves, write-taken, write-marked, sendTable, send-leaves, send-target, checkTable, check-leaves, check-taken, check-marked}
 use Rattle.protocol.proofs.KeepLaws.{write-formed, write-membership, send-formed, send-membership, check-formed, check-membership}
-use Rattle.history.specs.Book.{Book, upward, order, nameIn, holdsQuorum, writeSet, written, passedOn, agreed}
+use Rattle.history.specs.Book.{Book, order, nameIn, holdsQuorum, writeSet, written, passedOn, agreed}
 use Rattle.history.proofs.Invariant.{Inv, set-is, quorum-is, in-force}
 use Rattle.history.proofs.Steps.{Is, Stays, Wrote, keep-write, Sent, keep-send, Checked, keep-list, keep-check}
 use Rattle.history.proofs.State.{whole, State, few, quorum-whole, epoch-whole, list-whole, good-whole, version-whole, current-whole, answered, work-is, work-sub, work-used, work-quorum}

@@ -4,7 +4,7 @@ use mathlib.Core.List.{List, [], _∷_}
 use Prim.Native.Nat.{ℕ, zero, suc, _+_, _-_, _^_}
 use lib.Dec.{eqb}
 use lib.ListN.{length, getD}
-use Rattle.rows.specs.Upto.{every, some}
+use Rattle.rows.specs.Upto.{every, some, upward}
 use Rattle.rows.specs.Sets.{has, cutTo}
 use Rattle.grid.specs.declared.quorums.Kind.{Kind}
 use Rattle.grid.specs.declared.quorums.Kind.the-variants.{Read, Write}
@@ -23,11 +23,6 @@ pub record Book : Type 0 where
   pub own : ℕ → ℕ
   -- row i has done write k, the first being write 1
   pub hasWrite : ℕ → ℕ → Bool
-
--- n, n + 1, .., so many
-unfoldable pub upward : ℕ → ℕ → List ℕ
-upward zero n = []
-upward (suc k) n = n ∷ upward k (suc n)
 
 -- the rows in the order of their names: names rise, so it is that of their indexes
 unfoldable pub order : Book → List ℕ

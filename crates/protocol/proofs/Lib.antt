@@ -6,3 +6,4 @@ pub mod QuestionLaws
 pub mod FrameLaws
 pub mod DoneLaws
 pub mod KeepLaws
+pub mod FoundedLaws

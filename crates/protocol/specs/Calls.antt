@@ -84,9 +84,9 @@ zeros n = replicate n 0
 unfoldable pub foundedHeader : ℕ → ℕ → ℕ → List ℕ
 foundedHeader capacity n file = 1 ∷ capacity ∷ n ∷ 1 ∷ (bytesOf 2 file ++ zeros 10)
 
--- row i of n: its name, the next row (0 after the last), all else 0 but the list of all used rows
+-- row i of n: its name, the next row (0 after the last), the list of all used rows, and all else 0
 unfoldable pub foundedRow : ℕ → ℕ → ℕ → ℕ → List ℕ
-foundedRow n file i x = bytesOf 2 x ++ (cond (eqb i n) 0 (i + 1) ∷ (zeros 13 ++ (bytesOf 8 (2 ^ n - 1) ++ zeros (8 + file))))
+foundedRow n file i x = bytesOf 2 x ++ (cond (eqb i n) 0 (i + 1) ∷ (zeros 13 ++ (bytesOf 8 (2 ^ n - 1) ++ (zeros 8 ++ zeros file))))
 
 -- "It puts them in rows 1 upward": the rows from row i on
 unfoldable pub foundedRows : ℕ → ℕ → ℕ → List ℕ → List ℕ

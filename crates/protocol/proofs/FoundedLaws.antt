@@ -1,0 +1,347 @@
+-- What a founded table says: its header, each row, the chain; and that it is well formed, whatever lay in the table before.
+use mathlib.Core.Path.{_≡_, refl, sym, _∙_, ap, ap₂, subst}
+use mathlib.Core.Bool.{Bool, true, false, not, cond, _&&_, _||_}
+use mathlib.Core.Logic.{_⊎_, inl, inr}
+use mathlib.Core.List.{List, [], _∷_, _++_, append-assoc}
+use Prim.Native.Nat.{ℕ, zero, suc, _+_, _-_, _*_, _^_, _≤_, _<_}
+use native.Mathlib.Nat.{add-mul, suc-mul, zero-mul, mul-comm, lt-of-lt-of-le, le-of-suc-le-suc, not-suc-le-zero}
+use native.Mathlib.Numerals.{one-add}
+use native.Mathlib.Decide.{ℕ-discrete}
+use native.Mathlib.Omega.{arith}
+use lib.Dec.{eqb, leb, ltb}
+use lib.Pow.{pow-mono, ones-lt}
+use lib.ListN.{length, getD, take, drop, replicate, length-append, length-replicate}
+use lib.Seq.{take-at, drop-at, drop-drop}
+use borrow.Author.Tests.{eqb-true, eq-eqb, ne-eqb, ltb-true, lt-ltb, leb-true, le-leb}
+use Rattle.rows.specs.Upto.{Within, every, upward}
+use Rattle.rows.specs.Sets.{has}
+use Rattle.rows.proofs.Bools.{and-l, and-r, and-i, or-l, or-r, clash}
+use Rattle.rows.proofs.UptoLaws.{every-of}
+use Rattle.rows.proofs.SetLaws.{has-all}
+use Rattle.table.specs.Bytes.{number, bytesOf, part, allZero}
+use Rattle.table.specs.Layout.{get, form, capacity, used, first, fileLength, name, link, mark, version, desired, epoch, members, reserved, contents, rowLength, rowsEnd, rowBytes, capacityOf, usedOf, firstOf, fileOf, nameOf, linkOf}
+use Rattle.table.specs.Chain.{chain, orderOf, among, risesFrom}
+use Rattle.table.specs.WellFormed.{between, limit, headerValues, lengthRight, visitsEach, namesRise, unusedZero}
+use Rattle.table.proofs.ByteLaws.{length-bytes, number-bytes}
+use Rattle.table.proofs.FormLaws.{is-between, RowFacts, Formed}
+use Rattle.protocol.specs.Calls
+
+-- what the founding's questions settle
+pub record Founds (capacity file : ℕ) (names : List ℕ) : Type 0 where
+  pub some : 1 ≤ length names
+  pub room : length names ≤ capacity
+  pub most : capacity ≤ 64
+  pub bytes : Within 4_096 file
+  pub rising : Calls.namesRise 0 names ≡ true
+
+-- ---- the pieces
+length-zeros : (n : ℕ) → length (Calls.zeros n) ≡ n
+unfolding Calls.zeros
+length-zeros n = length-replicate {A = ℕ} n 0
+
+pub zeros-zero : (n : ℕ) → allZero (Calls.zeros n) ≡ true
+unfolding allZero Calls.zeros
+zeros-zero zero = refl
+zeros-zero (suc n) = zeros-zero n
+
+length-header : (c n file : ℕ) → length (Calls.foundedHeader c n file) ≡ 16
+unfolding Calls.foundedHeader Calls.zeros bytesOf
+length-header c n file = refl
+
+length-row : (n file i x : ℕ) → length (Calls.foundedRow n file i x) ≡ 32 + file
+unfolding Calls.foundedRow
+length-row n file i x = simp (length-append, length-bytes, length-zeros) (omega arith)
+
+length-rows : (n file i : ℕ) (l : List ℕ) → length (Calls.foundedRows n file i l) ≡ length l * (32 + file)
+unfolding Calls.foundedRows
+length-rows n file i [] = sym (zero-mul (32 + file))
+length-rows n file i (x ∷ l) =
+    length-append (Calls.foundedRow n file i x) _ ∙ ap₂ (λ (a b : ℕ). a + b) (length-row n file i x) (length-rows n file (suc i) l) ∙ omega (arith, suc-mul (length l) (32 + file))
+
+-- the rows one after another: row i + k
+rows-at : (n file : ℕ) (l : List ℕ) (i k : ℕ) (tail : List ℕ) → k < length l
+    → part (k * (32 + file)) (32 + file) (Calls.foundedRows n file i l ++ tail) ≡ Calls.foundedRow n file (i + k) (getD l k 0)
+unfolding Calls.foundedRows part
+rows-at n file [] i k tail h = absurd (not-suc-le-zero h)
+rows-at n file (x ∷ l) i zero tail h =
+    let z : 0 * (32 + file) ≡ 0 = zero-mul (32 + file) in
+    let q : i + 0 ≡ i = omega arith in
+    rw (z, q, append-assoc (Calls.foundedRow n file i x) (Calls.foundedRows n file (suc i) l) tail) (take-at (Calls.foundedRow n file i x) _ (32 + file) (length-row n file i x))
+rows-at n file (x ∷ l) i (suc k) tail h =
+    let z : suc k * (32 + file) ≡ (32 + file) + k * (32 + file) = omega (arith, suc-mul k (32 + file)) in
+    let q : suc i + k ≡ i + suc k = omega arith in
+    rw (z, ← (drop-drop (k * (32 + file)) (32 + file) ((Calls.foundedRow n file i x ++ Calls.foundedRows n file (suc i) l) ++ tail)),
+    append-assoc (Calls.foundedRow n file i x) (Calls.foundedRows n file (suc i) l) tail,
+    drop-at (Calls.foundedRow n file i x) (Calls.foundedRows n file (suc i) l ++ tail) (32 + file) (length-row n file i x))
+    (rows-at n file l (suc i) k tail (le-of-suc-le-suc h) ∙ ap (λ (j : ℕ). Calls.foundedRow n file j (getD l k 0)) q)
+
+module _ (c file : ℕ) (names : List ℕ) (f : Founds c file names) where
+  n : ℕ
+  n = length names
+
+  t : List ℕ
+  t = Calls.founded c file names
+
+  tail : List ℕ
+  tail = Calls.zeros ((c - length names) * (32 + file))
+
+  rows : List ℕ
+  rows = Calls.foundedRows (length names) file 1 names
+
+  after-header : drop 16 t ≡ rows ++ tail
+  unfolding t rows tail Calls.founded n
+  after-header = drop-at (Calls.foundedHeader c (length names) file) _ 16 (length-header c (length names) file)
+
+  -- ---- the header
+  pub founded-capacity : capacityOf (Calls.founded c file names) ≡ c
+  unfolding Calls.founded Calls.foundedHeader capacityOf get capacity part number bytesOf Calls.zeros
+  founded-capacity = omega arith
+
+  pub founded-used : usedOf (Calls.founded c file names) ≡ length names
+  unfolding Calls.founded Calls.foundedHeader usedOf get used part number bytesOf Calls.zeros
+  founded-used = omega arith
+
+  pub founded-first : firstOf (Calls.founded c file names) ≡ 1
+  unfolding Calls.founded Calls.foundedHeader firstOf get first part number bytesOf Calls.zeros
+  founded-first = refl
+
+  pub founded-file : fileOf (Calls.founded c file names) ≡ file
+  unfolding Calls.founded Calls.foundedHeader fileOf get fileLength part Calls.zeros bytesOf
+  founded-file = number-bytes 2 file (omega (arith, f .bytes))
+
+  header-form : get form (Calls.founded c file names) ≡ 1
+  unfolding Calls.founded Calls.foundedHeader get form part number bytesOf Calls.zeros
+  header-form = refl
+
+  header-rest : allZero (part 6 10 (Calls.founded c file names)) ≡ true
+  unfolding Calls.founded Calls.foundedHeader part allZero bytesOf Calls.zeros
+  header-rest = refl
+
+  founded-bytes : length (Calls.founded c file names) ≡ 16 + c * (32 + file)
+  unfolding Calls.founded
+  founded-bytes = simp (length-append, length-header, length-rows, length-zeros) (omega (arith, f .room, split))
+    where
+      split : length names * (32 + file) + (c - length names) * (32 + file) ≡ c * (32 + file)
+      split = sym (add-mul (length names) (c - length names) (32 + file)) ∙ ap (λ (x : ℕ). x * (32 + file)) (omega (arith, f .room))
+
+  founded-length : rowLength (Calls.founded c file names) ≡ 32 + file
+  unfolding rowLength fileOf
+  founded-length = ap (λ (x : ℕ). 32 + x) founded-file
+
+  founded-end : (k : ℕ) → rowsEnd (Calls.founded c file names) k ≡ 16 + k * (32 + file)
+  unfolding rowsEnd
+  founded-end k = ap (λ (w : ℕ). 16 + k * w) founded-length
+
+  -- ---- the rows
+  pub founded-row : (k : ℕ) → k < length names → rowBytes (Calls.founded c file names) (suc k) ≡ Calls.foundedRow (length names) file (suc k) (getD names k 0)
+  unfolding rowBytes part t rows tail
+  founded-row k h =
+      ap₂ (λ (a m : ℕ). take m (drop a (Calls.founded c file names))) (founded-end k) founded-length
+      ∙ ap (take (32 + file)) (sym (drop-drop (k * (32 + file)) 16 (Calls.founded c file names)) ∙ ap (drop (k * (32 + file))) after-header)
+      ∙ rows-at (length names) file names 1 k (Calls.zeros ((c - length names) * (32 + file))) h
+      ∙ ap (λ (j : ℕ). Calls.foundedRow (length names) file j (getD names k 0)) (one-add k)
+
+  -- each name is one of 1 to 65,535
+  named : (a : ℕ) (l : List ℕ) → Calls.namesRise a l ≡ true → (k : ℕ) → k < length l → Within 65_535 (getD l k 0)
+  unfolding Calls.namesRise
+  named a [] h k q = absurd (not-suc-le-zero q)
+  named a (x ∷ l) h zero q =
+      let e : (ltb a x && leb x 65_535) ≡ true = and-l _ _ h in
+      let low : a < x = ltb-true a x (and-l _ _ e) in
+      (omega arith, leb-true x 65_535 (and-r (ltb a x) _ e))
+  named a (x ∷ l) h (suc k) q = named x l (and-r (ltb a x && leb x 65_535) _ h) k (le-of-suc-le-suc q)
+
+  few : length names ≤ 64
+  few = omega (arith, f .room, f .most)
+
+  list-fits : 2 ^ length names - 1 < 256 ^ 8
+  list-fits = lt-of-lt-of-le (ones-lt (length names)) (pow-mono few)
+
+  -- ---- one row's fields
+  module _ (i x : ℕ) (w : Within (length names) i) (h : Within 65_535 x) where
+    row : List ℕ
+    row = Calls.foundedRow (length names) file i x
+
+    row-name : get name (Calls.foundedRow (length names) file i x) ≡ x
+    unfolding Calls.foundedRow get name part Calls.zeros bytesOf
+    row-name = number-bytes 2 x (omega arith)
+
+    row-link : get link (Calls.foundedRow (length names) file i x) ≡ cond (eqb i (length names)) 0 (i + 1)
+    unfolding Calls.foundedRow get link part number Calls.zeros bytesOf
+    row-link = omega arith
+
+    row-members : get members (Calls.foundedRow (length names) file i x) ≡ 2 ^ length names - 1
+    unfolding Calls.foundedRow get members part Calls.zeros bytesOf
+    row-members = number-bytes 8 (2 ^ length names - 1) list-fits
+
+    zero-mark : get mark (Calls.foundedRow (length names) file i x) ≡ 0
+    unfolding Calls.foundedRow get mark part number Calls.zeros bytesOf
+    zero-mark = refl
+
+    zero-version : get version (Calls.foundedRow (length names) file i x) ≡ 0
+    unfolding Calls.foundedRow get version part number Calls.zeros bytesOf
+    zero-version = refl
+
+    zero-desired : get desired (Calls.foundedRow (length names) file i x) ≡ 0
+    unfolding Calls.foundedRow get desired part number Calls.zeros bytesOf
+    zero-desired = refl
+
+    zero-epoch : get epoch (Calls.foundedRow (length names) file i x) ≡ 0
+    unfolding Calls.foundedRow get epoch part number Calls.zeros bytesOf
+    zero-epoch = refl
+
+    spare-zero : allZero (reserved (Calls.foundedRow (length names) file i x)) ≡ true
+    unfolding Calls.foundedRow reserved part allZero Calls.zeros bytesOf
+    spare-zero = refl
+
+    row-contents : contents (Calls.foundedRow (length names) file i x) ≡ Calls.zeros file
+    unfolding Calls.foundedRow contents Calls.zeros bytesOf
+    row-contents = refl
+
+    row-facts : RowFacts (length names) i (Calls.foundedRow (length names) file i x)
+    unfolding limit
+    row-facts = record {
+      named = rw row-name h;
+      linked = rw row-link (go (ℕ-discrete i (length names)));
+      flag = rw (zero-mark) (omega arith);
+      spare = spare-zero;
+      small-version = rw zero-version (omega arith);
+      small-desired = rw zero-desired (omega arith);
+      small-epoch = rw zero-epoch (omega arith);
+      behind = λ e. absurd (clash (rw zero-mark at e));
+      level = λ e. zero-desired;
+      only = rw row-members (ones-lt (length names));
+      own = rw row-members (has-all (length names) i w);
+    }
+      where
+        go : Dec (i ≡ length names) → cond (eqb i (length names)) 0 (i + 1) ≤ length names
+        go (yes e) = rw (eq-eqb i (length names) e) (omega arith)
+        go (no d) = rw (ne-eqb i (length names) d) (omega arith)
+
+  -- ---- what row i says
+  pub at-row : (P : ℕ → List ℕ → Type 0) → ((i x : ℕ) → Within (length names) i → Within 65_535 x → P i (Calls.foundedRow (length names) file i x))
+      → (i : ℕ) → Within (length names) i → P i (rowBytes (Calls.founded c file names) i)
+  at-row P g zero w = absurd (omega arith)
+  at-row P g (suc k) w = subst (P (suc k)) (sym (founded-row k (omega arith))) (g (suc k) (getD names k 0) w (named 0 names (f .rising) k (omega arith)))
+
+  pub founded-name : (i : ℕ) → Within (length names) i → nameOf (Calls.founded c file names) i ≡ getD names (i - 1) 0
+  unfolding nameOf
+  founded-name zero w = absurd (omega arith)
+  founded-name (suc k) w =
+      let z : suc k - 1 ≡ k = omega arith in
+      rw z (ap (get name) (founded-row k (omega arith)) ∙ row-name (suc k) (getD names k 0) w (named 0 names (f .rising) k (omega arith)))
+
+  founded-link : (i : ℕ) → Within (length names) i → linkOf (Calls.founded c file names) i ≡ cond (eqb i (length names)) 0 (i + 1)
+  unfolding linkOf
+  founded-link zero w = absurd (omega arith)
+  founded-link (suc k) w = ap (get link) (founded-row k (omega arith)) ∙ row-link (suc k) (getD names k 0) w (named 0 names (f .rising) k (omega arith))
+
+  -- ---- the chain: rows 1, 2, .. to the last
+  chain-up : (k j m : ℕ) → j + suc k ≡ length names → suc k ≤ m → chain (linkOf (Calls.founded c file names)) m (suc j) ≡ upward (suc k) (suc j)
+  unfolding chain upward
+  chain-up zero j zero e l = absurd (omega arith)
+  chain-up zero j (suc m) e l =
+      let here : linkOf (Calls.founded c file names) (suc j) ≡ 0 = founded-link (suc j) (omega arith) ∙ rw (eq-eqb (suc j) (length names) (omega arith)) in
+      ap (λ (l : List ℕ). suc j ∷ l) (ap (chain (linkOf (Calls.founded c file names)) m) here ∙ stops m)
+    where
+      stops : (m : ℕ) → chain (linkOf (Calls.founded c file names)) m 0 ≡ []
+      stops zero = refl
+      stops (suc m) = refl
+  chain-up (suc k) j zero e l = absurd (omega arith)
+  chain-up (suc k) j (suc m) e l =
+      let here : linkOf (Calls.founded c file names) (suc j) ≡ suc (suc j) =
+          founded-link (suc j) (omega arith) ∙ rw (ne-eqb (suc j) (length names) (λ q. omega arith)) (omega arith) in
+      ap (λ (l : List ℕ). suc j ∷ l) (ap (chain (linkOf (Calls.founded c file names)) m) here ∙ chain-up k (suc j) m (omega arith) (omega arith))
+
+  path-is : (m : ℕ) → length names ≤ m → chain (linkOf (Calls.founded c file names)) m 1 ≡ upward (length names) 1
+  path-is m l =
+      let e : suc (length names - 1) ≡ length names = omega (arith, f .some) in
+      chain-up (length names - 1) 0 m (omega (arith, f .some)) (omega (arith, f .some)) ∙ ap (λ (x : ℕ). upward x 1) e
+
+  pub founded-order : orderOf (Calls.founded c file names) ≡ upward (length names) 1
+  unfolding orderOf
+  founded-order = ap₂ (chain (linkOf (Calls.founded c file names))) founded-used founded-first ∙ path-is (length names) (omega arith)
+
+  founded-path : chain (linkOf (Calls.founded c file names)) (suc (usedOf (Calls.founded c file names))) (firstOf (Calls.founded c file names)) ≡ upward (length names) 1
+  founded-path = ap₂ (λ (m i : ℕ). chain (linkOf (Calls.founded c file names)) (suc m) i) founded-used founded-first ∙ path-is (suc (length names)) (omega arith)
+
+  length-upward : (k j : ℕ) → length (upward k j) ≡ k
+  unfolding upward
+  length-upward zero j = refl
+  length-upward (suc k) j = ap suc (length-upward k (suc j))
+
+  among-upward : (k j i : ℕ) → j ≤ i → i < j + k → among (upward k j) i ≡ true
+  unfolding upward among
+  among-upward zero j i l h = absurd (omega arith)
+  among-upward (suc k) j i l h = go (ℕ-discrete j i) (among-upward k (suc j) i)
+    where
+      go : Dec (j ≡ i) → (suc j ≤ i → i < suc j + k → among (upward k (suc j)) i ≡ true) → (among (upward k (suc j)) i || eqb j i) ≡ true
+      go (yes e) ih = or-r (among (upward k (suc j)) i) _ (eq-eqb j i e)
+      go (no d) ih = or-l _ (eqb j i) (ih (omega arith) (omega arith))
+
+  founded-visits : visitsEach (Calls.founded c file names) ≡ true
+  unfolding visitsEach
+  founded-visits =
+      rw (founded-path, founded-used) (and-i (eqb (length (upward (length names) 1)) (length names)) _ (eq-eqb _ _ (length-upward (length names) 1))
+      (every-of (length names) _ (λ i w. among-upward (length names) 1 i (omega arith) (omega arith))))
+
+  -- names rise along the rows from row j + 1 on as they do in the list
+  rise-from : (l : List ℕ) (a j : ℕ) → Calls.namesRise a l ≡ true → ((k : ℕ) → k < length l → nameOf (Calls.founded c file names) (suc j + k) ≡ getD l k 0)
+      → risesFrom a (nameOf (Calls.founded c file names)) (upward (length l) (suc j)) ≡ true
+  unfolding upward risesFrom Calls.namesRise
+  rise-from [] a j h g = refl
+  rise-from (x ∷ l) a j h g =
+      let z : suc j + 0 ≡ suc j = omega arith in
+      let here : nameOf (Calls.founded c file names) (suc j) ≡ x = ap (nameOf (Calls.founded c file names)) (sym z) ∙ g 0 (omega arith) in
+      rw here (and-i (ltb a x) _ (and-l _ _ (and-l (ltb a x && leb x 65_535) _ h))
+      (rise-from l x (suc j) (and-r (ltb a x && leb x 65_535) _ h) (λ k q.
+      let s : suc (suc j) + k ≡ suc j + suc k = omega arith in ap (nameOf (Calls.founded c file names)) s ∙ g (suc k) (omega arith))))
+
+  founded-rise : namesRise (Calls.founded c file names) ≡ true
+  unfolding namesRise
+  founded-rise = rw founded-path (rise-from names 0 0 (f .rising) (λ k q.
+      let s : 1 + k ≡ suc k = omega arith in
+      let z : suc k - 1 ≡ k = omega arith in
+      ap (nameOf (Calls.founded c file names)) s ∙ founded-name (suc k) (omega arith) ∙ ap (λ (m : ℕ). getD names m 0) z))
+
+  -- ---- the rest of question 1
+  founded-header : headerValues (Calls.founded c file names) ≡ true
+  unfolding headerValues
+  founded-header = rw (founded-capacity, founded-used, founded-first, founded-file, founded-form, founded-rest,
+      is-between 1 c 64 (omega (arith, f .some, f .room)) (f .most), is-between 1 (length names) c (f .some) (f .room), is-between 1 1 (length names) (omega arith) (f .some))
+      (and-i _ true (is-between 1 file 4_096 (f .bytes .0) (f .bytes .1)) refl)
+    where
+      founded-form : get form (Calls.founded c file names) ≡ 1
+      founded-form = header-form
+
+      founded-rest : allZero (part 6 10 (Calls.founded c file names)) ≡ true
+      founded-rest = header-rest
+
+  founded-tail : drop (rowsEnd (Calls.founded c file names) (length names)) (Calls.founded c file names) ≡ Calls.zeros ((c - length names) * (32 + file))
+  unfolding t rows tail
+  founded-tail =
+      ap (λ (a : ℕ). drop a (Calls.founded c file names)) (founded-end (length names))
+      ∙ sym (drop-drop (length names * (32 + file)) 16 (Calls.founded c file names)) ∙ ap (drop (length names * (32 + file))) after-header
+      ∙ drop-at rows tail (length names * (32 + file)) (length-rows (length names) file 1 names)
+
+  founded-zero : unusedZero (Calls.founded c file names) ≡ true
+  unfolding unusedZero
+  founded-zero = ap allZero (ap (λ (k : ℕ). drop (rowsEnd (Calls.founded c file names) k) (Calls.founded c file names)) founded-used ∙ founded-tail) ∙ zeros-zero ((c - length names) * (32 + file))
+
+  founded-long : lengthRight (Calls.founded c file names) ≡ true
+  unfolding lengthRight
+  founded-long = eq-eqb _ _ (founded-bytes ∙ sym (ap (rowsEnd (Calls.founded c file names)) founded-capacity ∙ founded-end c))
+
+  listed : (i : ℕ) → Within (length names) i → get members (rowBytes (Calls.founded c file names) i) ≡ 2 ^ length names - 1
+  listed = at-row (λ i r. get members r ≡ 2 ^ length names - 1) row-members
+
+  pub founded-formed : Formed (Calls.founded c file names)
+  founded-formed = record {
+    header = founded-header;
+    long = founded-long;
+    rows = rw founded-used (at-row (RowFacts (length names)) row-facts);
+    visits = founded-visits;
+    rise = founded-rise;
+    zero = founded-zero;
+    agree = rw founded-used (λ i j u v e. listed i u ∙ sym (listed j v));
+  }
