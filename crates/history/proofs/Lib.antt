@@ -4,3 +4,5 @@ pub mod Steps
 pub mod State
 pub mod Answers
 pub mod Next
+pub mod Founded
+pub mod Theorems

@@ -87,13 +87,13 @@ module _ (t : List ℕ) (c r offset : ℕ) (patch : List ℕ) (y : WriteYes t c 
   unfolding v s p limit
   v-fits = omega (arith, y .room)
 
-  pub writeTable : List ℕ
+  unfoldable pub writeTable : List ℕ
   writeTable = withRows t (workSet Write t c r) (wroteRow (good (answers t r) (workSet Write t c r)) (goodVersion (answers t r) (workSet Write t c r) + 1) offset patch) (usedOf t)
 
   wrote : (i : ℕ) → Within (usedOf t) i → (b : Bool) → good p s i ≡ b
       → Becomes (rowBytes t i) (wroteRow (good p s) v offset patch i (rowBytes t i))
-        (cond b (changed (fieldsOf (rowBytes t i)) 4 v) (changed (changed (fieldsOf (rowBytes t i)) 3 1) 5 v))
-        (cond b (put offset patch (contents (rowBytes t i))) (contents (rowBytes t i)))
+      (cond b (changed (fieldsOf (rowBytes t i)) 4 v) (changed (changed (fieldsOf (rowBytes t i)) 3 1) 5 v))
+      (cond b (put offset patch (contents (rowBytes t i))) (contents (rowBytes t i)))
   unfolding wroteRow
   wrote i u true e = rw e (patched-row (rowBytes t i) (long-row t w i u) v offset patch v-fits (omega (arith, row-length t w i u, y .range)))
   wrote i u false e = rw e (marked-row (rowBytes t i) (long-row t w i u) v v-fits)
@@ -126,7 +126,7 @@ module _ (t : List ℕ) (f to r : ℕ) (y : SendYes t f to r) where
   sw : Formed t
   sw = formed t (y .formed)
 
-  pub sendTable : List ℕ
+  unfoldable pub sendTable : List ℕ
   sendTable = withRow t to (refreshedRow (rowBytes t f))
 
   refreshed : Becomes (rowBytes t to) (refreshedRow (rowBytes t f) (rowBytes t to))
@@ -180,7 +180,7 @@ module _ (t : List ℕ) (c r : ℕ) (y : CheckYes t c r) (room : highestEpoch (a
       masked i true m = cw .rows i (answered-used t c r [] (y .first) i m) .small-version
       masked i false m = omega arith
 
-  pub checkTable : List ℕ
+  unfoldable pub checkTable : List ℕ
   checkTable = withRows t (has r) (checkedRow (good (answers t r) (has r)) (goodVersion (answers t r) (has r)) (highestEpoch (answers t r) (has r) + 1) r) (usedOf t)
 
   list-fits : r < 256 ^ 8
@@ -191,7 +191,7 @@ module _ (t : List ℕ) (c r : ℕ) (y : CheckYes t c r) (room : highestEpoch (a
 
   enrolled : (i : ℕ) → Within (usedOf t) i → (b : Bool) → cg i ≡ b
       → Becomes (rowBytes t i) (checkedRow cg cv ce r i (rowBytes t i))
-        (changed (changed (cond b (fieldsOf (rowBytes t i)) (changed (changed (fieldsOf (rowBytes t i)) 3 1) 5 cv)) 6 ce) 7 r) (contents (rowBytes t i))
+      (changed (changed (cond b (fieldsOf (rowBytes t i)) (changed (changed (fieldsOf (rowBytes t i)) 3 1) 5 cv)) 6 ce) 7 r) (contents (rowBytes t i))
   unfolding checkedRow cv ce limit
   enrolled i u true e = rw e (then-enrolled (rowBytes t i) (long-row t cw i u) ce r (omega arith) list-fits (unchanged (rowBytes t i)))
   enrolled i u false e = rw e (then-enrolled (rowBytes t i) (long-row t cw i u) ce r (omega arith) list-fits (marked-row (rowBytes t i) (long-row t cw i u) cv (omega (arith, check-version))))
@@ -216,6 +216,6 @@ module _ (t : List ℕ) (c r : ℕ) (y : CheckYes t c r) (room : highestEpoch (a
 
   pub check-marked : (i : ℕ) → Within (usedOf t) i → has r i ≡ true → good (answers t r) (has r) i ≡ false
       → RowBecomes t checkTable i
-        (changed (changed (changed (changed (fieldsOf (rowBytes t i)) 3 1) 5 (goodVersion (answers t r) (has r))) 6 (highestEpoch (answers t r) (has r) + 1)) 7 r) (contents (rowBytes t i))
+      (changed (changed (changed (changed (fieldsOf (rowBytes t i)) 3 1) 5 (goodVersion (answers t r) (has r))) 6 (highestEpoch (answers t r) (has r) + 1)) 7 r) (contents (rowBytes t i))
   unfolding cg cv ce
   check-marked i u m e = becomes-at (changed-row check-changed i u m) (enrolled i u false e)

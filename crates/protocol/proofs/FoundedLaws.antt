@@ -70,9 +70,12 @@ rows-at n file (x ∷ l) i zero tail h =
 rows-at n file (x ∷ l) i (suc k) tail h =
     let z : suc k * (32 + file) ≡ (32 + file) + k * (32 + file) = omega (arith, suc-mul k (32 + file)) in
     let q : suc i + k ≡ i + suc k = omega arith in
-    rw (z, ← (drop-drop (k * (32 + file)) (32 + file) ((Calls.foundedRow n file i x ++ Calls.foundedRows n file (suc i) l) ++ tail)),
-    append-assoc (Calls.foundedRow n file i x) (Calls.foundedRows n file (suc i) l) tail,
-    drop-at (Calls.foundedRow n file i x) (Calls.foundedRows n file (suc i) l ++ tail) (32 + file) (length-row n file i x))
+    rw (
+      z,
+      ← (drop-drop (k * (32 + file)) (32 + file) ((Calls.foundedRow n file i x ++ Calls.foundedRows n file (suc i) l) ++ tail)),
+      append-assoc (Calls.foundedRow n file i x) (Calls.foundedRows n file (suc i) l) tail,
+      drop-at (Calls.foundedRow n file i x) (Calls.foundedRows n file (suc i) l ++ tail) (32 + file) (length-row n file i x),
+    )
     (rows-at n file l (suc i) k tail (le-of-suc-le-suc h) ∙ ap (λ (j : ℕ). Calls.foundedRow n file j (getD l k 0)) q)
 
 module _ (c file : ℕ) (names : List ℕ) (f : Founds c file names) where
@@ -170,23 +173,23 @@ module _ (c file : ℕ) (names : List ℕ) (f : Founds c file names) where
     unfolding Calls.foundedRow get link part number Calls.zeros bytesOf
     row-link = omega arith
 
-    row-members : get members (Calls.foundedRow (length names) file i x) ≡ 2 ^ length names - 1
+    pub row-members : get members (Calls.foundedRow (length names) file i x) ≡ 2 ^ length names - 1
     unfolding Calls.foundedRow get members part Calls.zeros bytesOf
     row-members = number-bytes 8 (2 ^ length names - 1) list-fits
 
-    zero-mark : get mark (Calls.foundedRow (length names) file i x) ≡ 0
+    pub zero-mark : get mark (Calls.foundedRow (length names) file i x) ≡ 0
     unfolding Calls.foundedRow get mark part number Calls.zeros bytesOf
     zero-mark = refl
 
-    zero-version : get version (Calls.foundedRow (length names) file i x) ≡ 0
+    pub zero-version : get version (Calls.foundedRow (length names) file i x) ≡ 0
     unfolding Calls.foundedRow get version part number Calls.zeros bytesOf
     zero-version = refl
 
-    zero-desired : get desired (Calls.foundedRow (length names) file i x) ≡ 0
+    pub zero-desired : get desired (Calls.foundedRow (length names) file i x) ≡ 0
     unfolding Calls.foundedRow get desired part number Calls.zeros bytesOf
     zero-desired = refl
 
-    zero-epoch : get epoch (Calls.foundedRow (length names) file i x) ≡ 0
+    pub zero-epoch : get epoch (Calls.foundedRow (length names) file i x) ≡ 0
     unfolding Calls.foundedRow get epoch part number Calls.zeros bytesOf
     zero-epoch = refl
 
@@ -194,7 +197,7 @@ module _ (c file : ℕ) (names : List ℕ) (f : Founds c file names) where
     unfolding Calls.foundedRow reserved part allZero Calls.zeros bytesOf
     spare-zero = refl
 
-    row-contents : contents (Calls.foundedRow (length names) file i x) ≡ Calls.zeros file
+    pub row-contents : contents (Calls.foundedRow (length names) file i x) ≡ Calls.zeros file
     unfolding Calls.foundedRow contents Calls.zeros bytesOf
     row-contents = refl
 
@@ -250,7 +253,7 @@ module _ (c file : ℕ) (names : List ℕ) (f : Founds c file names) where
   chain-up (suc k) j zero e l = absurd (omega arith)
   chain-up (suc k) j (suc m) e l =
       let here : linkOf (Calls.founded c file names) (suc j) ≡ suc (suc j) =
-          founded-link (suc j) (omega arith) ∙ rw (ne-eqb (suc j) (length names) (λ q. omega arith)) (omega arith) in
+      founded-link (suc j) (omega arith) ∙ rw (ne-eqb (suc j) (length names) (λ q. omega arith)) (omega arith) in
       ap (λ (l : List ℕ). suc j ∷ l) (ap (chain (linkOf (Calls.founded c file names)) m) here ∙ chain-up k (suc j) m (omega arith) (omega arith))
 
   path-is : (m : ℕ) → length names ≤ m → chain (linkOf (Calls.founded c file names)) m 1 ≡ upward (length names) 1
@@ -307,8 +310,17 @@ module _ (c file : ℕ) (names : List ℕ) (f : Founds c file names) where
   -- ---- the rest of question 1
   founded-header : headerValues (Calls.founded c file names) ≡ true
   unfolding headerValues
-  founded-header = rw (founded-capacity, founded-used, founded-first, founded-file, founded-form, founded-rest,
-      is-between 1 c 64 (omega (arith, f .some, f .room)) (f .most), is-between 1 (length names) c (f .some) (f .room), is-between 1 1 (length names) (omega arith) (f .some))
+  founded-header = rw (
+    founded-capacity,
+    founded-used,
+    founded-first,
+    founded-file,
+    founded-form,
+    founded-rest,
+    is-between 1 c 64 (omega (arith, f .some, f .room)) (f .most),
+    is-between 1 (length names) c (f .some) (f .room),
+    is-between 1 1 (length names) (omega arith) (f .some),
+  )
       (and-i _ true (is-between 1 file 4_096 (f .bytes .0) (f .bytes .1)) refl)
     where
       founded-form : get form (Calls.founded c file names) ≡ 1

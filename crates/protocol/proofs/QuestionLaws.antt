@@ -92,13 +92,15 @@ module _ (t : List ℕ) (c r : ℕ) (qs : List Calls.Question) where
   passed-first h =
       let a = yes-first 0 (wellFormed t) _ h in
       let b = yes-first 1 (Calls.isUsed t c && onlyRows (usedOf t) r) _ (a .1) in
-      let d = yes-first 2 (has r c) qs (b .1) in
-      (record {
-        formed = a .0;
-        coordinator = used-is t c (and-l _ _ (b .0));
-        rows = only-is (usedOf t) r (and-r (Calls.isUsed t c) _ (b .0));
-        answered = d .0;
-      }, d .1)
+      let d = yes-first 2 (has r c) qs (b .1) in (
+        record {
+          formed = a .0;
+          coordinator = used-is t c (and-l _ _ (b .0));
+          rows = only-is (usedOf t) r (and-r (Calls.isUsed t c) _ (b .0));
+          answered = d .0;
+        },
+        d .1,
+      )
 
   -- what passes the questions up to 5, and then meets those after
   pub early-passed : Calls.firstNo (Calls.upTo 5 (Calls.byCoordinator t c r qs)) ≡ 0
@@ -107,13 +109,16 @@ module _ (t : List ℕ) (c r : ℕ) (qs : List Calls.Question) where
   early-passed h =
       let a = yes-first 0 (wellFormed t) _ h in
       let b = yes-first 1 (Calls.isUsed t c && onlyRows (usedOf t) r) _ (a .1) in
-      let d = yes-first 2 (has r c) (Calls.upTo 5 qs) (b .1) in
-      (record {
-        formed = a .0;
-        coordinator = used-is t c (and-l _ _ (b .0));
-        rows = only-is (usedOf t) r (and-r (Calls.isUsed t c) _ (b .0));
-        answered = d .0;
-      }, d .1, no-first 1 (wellFormed t) _ (a .0) ∙ no-first 2 (Calls.isUsed t c && onlyRows (usedOf t) r) _ (b .0) ∙ no-first 3 (has r c) qs (d .0))
+      let d = yes-first 2 (has r c) (Calls.upTo 5 qs) (b .1) in (
+        record {
+          formed = a .0;
+          coordinator = used-is t c (and-l _ _ (b .0));
+          rows = only-is (usedOf t) r (and-r (Calls.isUsed t c) _ (b .0));
+          answered = d .0;
+        },
+        d .1,
+        no-first 1 (wellFormed t) _ (a .0) ∙ no-first 2 (Calls.isUsed t c && onlyRows (usedOf t) r) _ (b .0) ∙ no-first 3 (has r c) qs (d .0),
+      )
 
   -- rows that answered are used rows
   pub answered-used : ByCoordinator t c r → (i : ℕ) → has r i ≡ true → Within (usedOf t) i

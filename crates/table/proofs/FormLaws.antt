@@ -69,9 +69,17 @@ pub row-right : (n i : ℕ) (row : List ℕ) → RowFacts n i row → rowRight n
 unfolding rowRight rowValues numbersSmall desiredRight listRight onlyRows
 row-right n i row f =
     let want : (b : Bool) → eqb (get mark row) 1 ≡ b → cond b (ltb (get version row) (get desired row)) (eqb (get desired row) 0) ≡ true = wanted in
-    rw (is-between 1 (get name row) 65_535 (f .named .0) (f .named .1), le-leb (get link row) n (f .linked), le-leb (get mark row) 1 (f .flag), f .spare,
-    le-leb (get version row) limit (f .small-version), le-leb (get desired row) limit (f .small-desired), le-leb (get epoch row) limit (f .small-epoch),
-    want (eqb (get mark row) 1) refl, lt-ltb (get members row) (2 ^ n) (f .only)) (f .own)
+    rw (
+      is-between 1 (get name row) 65_535 (f .named .0) (f .named .1),
+      le-leb (get link row) n (f .linked),
+      le-leb (get mark row) 1 (f .flag),
+      f .spare,
+      le-leb (get version row) limit (f .small-version),
+      le-leb (get desired row) limit (f .small-desired),
+      le-leb (get epoch row) limit (f .small-epoch),
+      want (eqb (get mark row) 1) refl,
+      lt-ltb (get members row) (2 ^ n) (f .only),
+    ) (f .own)
   where
     wanted : (b : Bool) → eqb (get mark row) 1 ≡ b → cond b (ltb (get version row) (get desired row)) (eqb (get desired row) 0) ≡ true
     wanted true m = lt-ltb _ _ (f .behind m)

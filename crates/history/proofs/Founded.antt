@@ -1,0 +1,104 @@
+-- A done founding opens the book that its table stands against.
+use mathlib.Core.Path.{_≡_, refl, sym, _∙_, ap, ap₂, subst}
+use mathlib.Core.Bool.{Bool, true, false, not, cond, _&&_, _||_}
+use mathlib.Core.List.{List, [], _∷_}
+use Prim.Native.Nat.{ℕ, zero, suc, _+_, _-_, _*_, _%_, _^_, _≤_, _<_}
+use native.Mathlib.Omega.{arith}
+use lib.Dec.{eqb, leb, ltb}
+use lib.Pow.{ones-lt}
+use lib.ListN.{length, getD, length-replicate}
+use borrow.Author.Tests.{leb-true, lt-leb}
+use Rattle.rows.specs.Upto.{Within, upward}
+use Rattle.rows.specs.Sets.{has}
+use Rattle.rows.proofs.Bools.{and-l, and-r, clash}
+use Rattle.rows.proofs.SetLaws.{has-within}
+use Rattle.grid.specs.declared.quorums.Kind.the-variants.{Read, Write}
+use Rattle.table.specs.Layout.{get, mark, version, desired, epoch, members, contents, rowBytes, usedOf, fileOf, epochOf, membersOf, staleOf, versionOf, desiredOf, contentsOf}
+use Rattle.table.specs.WellFormed.{between}
+use Rattle.table.proofs.FormLaws.{between-is}
+use Rattle.protocol.specs.Polls.{polled}
+use Rattle.protocol.specs.Calls.{founding, questions, firstNo, namesIn, namesRise, zeros, founded}
+use Rattle.protocol.proofs.ListLaws.{inhabited}
+use Rattle.protocol.proofs.QuestionLaws.{yes-first}
+use Rattle.protocol.proofs.FoundedLaws.{Founds, founded-used, founded-file, founded-name, founded-order, founded-formed, at-row, row-members, zero-mark, zero-version, zero-desired, zero-epoch, row-contents}
+use Rattle.history.specs.Book.{Book, order, nameIn, opened}
+use Rattle.history.proofs.Invariant.{aim, Inv}
+use Rattle.history.proofs.State.{whole, State}
+
+pub founds-of : (t : List ℕ) (capacity file : ℕ) (names : List ℕ) → firstNo (questions t (founding capacity file names)) ≡ 0 → Founds capacity file (namesIn names)
+unfolding questions
+founds-of t capacity file names h =
+    let a = yes-first 10 (eqb (length names % 2) 0 && between 1 (length (namesIn names)) 64 && namesRise 0 (namesIn names)) _ h in
+    let b = yes-first 11 (between 1 capacity 64 && leb (length (namesIn names)) capacity && between 1 file 4_096 && eqb (length t) (16 + capacity * (32 + file))) _ (a .1) in
+    let a1 = and-l (eqb (length names % 2) 0 && between 1 (length (namesIn names)) 64) _ (a .0) in
+    let b1 = and-l (between 1 capacity 64 && leb (length (namesIn names)) capacity && between 1 file 4_096) _ (b .0) in
+    let b2 = and-l (between 1 capacity 64 && leb (length (namesIn names)) capacity) _ b1 in
+    record {
+      some = between-is 1 (length (namesIn names)) 64 (and-r (eqb (length names % 2) 0) _ a1) .0;
+      room = leb-true _ _ (and-r (between 1 capacity 64) _ b2);
+      most = between-is 1 capacity 64 (and-l _ _ b2) .1;
+      bytes = between-is 1 file 4_096 (and-r (between 1 capacity 64 && leb (length (namesIn names)) capacity) _ b1);
+      rising = and-r (eqb (length names % 2) 0 && between 1 (length (namesIn names)) 64) _ (a .0);
+    }
+
+module _ (c file : ℕ) (names : List ℕ) (f : Founds c file names) where
+  t : List ℕ
+  t = founded c file names
+
+  n : ℕ
+  n = length names
+
+  -- each row: epoch, version and desired version 0, no mark, all rows its list, zero bytes
+  epoch-zero : (i : ℕ) → Within (length names) i → epochOf t i ≡ 0
+  unfolding epochOf t
+  epoch-zero = at-row c file names f (λ i r. get epoch r ≡ 0) (zero-epoch c file names f)
+
+  members-all : (i : ℕ) → Within (length names) i → membersOf t i ≡ 2 ^ length names - 1
+  unfolding membersOf t
+  members-all = at-row c file names f (λ i r. get members r ≡ 2 ^ length names - 1) (row-members c file names f)
+
+  version-zero : (i : ℕ) → Within (length names) i → versionOf t i ≡ 0
+  unfolding versionOf t
+  version-zero = at-row c file names f (λ i r. get version r ≡ 0) (zero-version c file names f)
+
+  no-mark : (i : ℕ) → Within (length names) i → staleOf t i ≡ false
+  unfolding staleOf t
+  no-mark = at-row c file names f (λ i r. eqb (get mark r) 1 ≡ false) (λ i x w h. ap (λ (m : ℕ). eqb m 1) (zero-mark c file names f i x w h))
+
+  zero-contents : (i : ℕ) → Within (length names) i → contentsOf t i ≡ zeros file
+  unfolding contentsOf t
+  zero-contents = at-row c file names f (λ i r. contents r ≡ zeros file) (row-contents c file names f)
+
+  start : Inv (length names) (whole t) (contentsOf t) (opened file names) 0
+  unfolding opened aim whole polled order
+  start = record {
+    epochs = record {
+      below = λ i u. rw (epoch-zero i u) (omega arith);
+      inside = λ i u m. epoch-zero i u;
+      forced = λ i u q. members-all i u;
+      owned = λ i u. sym (members-all i u);
+      bound = ones-lt (length names);
+      dead = λ i u l. absurd (omega arith);
+    };
+    versions = λ i u. record {
+      past = rw (version-zero i u) (omega arith);
+      wants = λ z. absurd (clash (sym (no-mark i u) ∙ z));
+      same = λ z. zero-contents i u;
+      kept = λ k h. rw (version-zero i u) (sym (lt-leb k 0 (omega arith)));
+    };
+    live = λ s h.
+        let w = inhabited (upward (length names) 1) (2 ^ length names - 1) Read s h in
+        let u = has-within (length names) (2 ^ length names - 1) (w .0) (ones-lt (length names)) (w .1) in
+        (w .0, u, w .2, rw (no-mark (w .0) u) (version-zero (w .0) u));
+  }
+
+  pub founded-state : State (founded c file names) (opened file names) 0
+  unfolding opened order nameIn t zeros
+  founded-state = record {
+    formed = founded-formed c file names f;
+    used = founded-used c file names f;
+    chain = founded-order c file names f;
+    names = rw (founded-used c file names f) (founded-name c file names f);
+    file = length-replicate {A = ℕ} file 0 ∙ sym (founded-file c file names f);
+    inv = rw (founded-used c file names f) start;
+  }

@@ -1,0 +1,74 @@
+-- Demand 3, for any list of calls; and what else holds of every founded history.
+use mathlib.Core.Path.{_≡_, refl, sym, _∙_, ap, ap₂, subst}
+use mathlib.Core.Bool.{Bool, true, false, not, cond, _&&_, _||_}
+use mathlib.Core.List.{List, [], _∷_}
+use Prim.Native.Nat.{ℕ, zero, suc, _+_, _-_, _*_, _^_, _≤_, _<_}
+use native.Mathlib.Omega.{arith}
+use lib.Dec.{eqb, leb, ltb, eqb·suc-zero}
+use lib.ListN.{length}
+use borrow.Author.Tests.{eqb-true, eqb-false, eq-eqb, ltb-true}
+use Rattle.rows.specs.Sets.{has}
+use Rattle.rows.proofs.Bools.{and-l, and-r, or-e, clash}
+use Rattle.grid.specs.declared.quorums.Kind.the-variants.{Read, Write}
+use Rattle.table.specs.WellFormed.{limit, wellFormed}
+use Rattle.table.proofs.FormLaws.{Formed, well-formed-of}
+use Rattle.protocol.specs.Polls.{highestEpoch, inForce, current}
+use Rattle.protocol.specs.Calls.{Call, founding, read, write, send, check, Outcome, firstNo, questions, done, outcome, answers, namesIn, founded}
+use Rattle.protocol.proofs.QuestionLaws.{refusal-is, when-done, when-refused, write-yes, send-yes, CheckYes, check-yes}
+use Rattle.protocol.proofs.DoneLaws.{writeTable, sendTable, checkTable}
+use Rattle.history.specs.Book.{Book, opened, entered, agreed}
+use Rattle.history.specs.Demand3.{Right, AllRight, Demand3}
+use Rattle.history.proofs.State.{State}
+use Rattle.history.proofs.Answers.{right}
+use Rattle.history.proofs.Next.{next-write, next-send, next-same, next-check}
+use Rattle.history.proofs.Founded.{founds-of, founded-state}
+
+-- ---- one call
+module _ (t : List ℕ) (b : Book) (e : ℕ) (S : State t b e) where
+  -- after a done call
+  next-done : (k : Call) → firstNo (questions t k) ≡ 0 → (e′ : ℕ) × State (done t k .table) (entered b k true) e′
+  unfolding done entered writeTable sendTable checkTable
+  next-done (founding capacity file names) h = (0, founded-state capacity file (namesIn names) (founds-of t capacity file names h))
+  next-done (read c r offset count buffer) h = (e, S)
+  next-done (write c r offset patch) h = (e, next-write t b e S c r offset patch (write-yes t c r offset patch h))
+  next-done (send f to r) h = (e, next-send t b e S f to r (send-yes t f to r h))
+  next-done (check c r) h = go (eqb r (inForce (answers t r) (has r))) refl
+    where
+      y : CheckYes t c r
+      y = check-yes t c r h
+
+      go : (x : Bool) → eqb r (inForce (answers t r) (has r)) ≡ x → (e′ : ℕ) × State (done t (check c r) .table) (agreed b r) e′
+      go true q = (e, rw q (next-same t b e S c r y (eqb-true _ _ q)))
+      go false q =
+          let cur : current (answers t r) (has r) ≡ true = rw q at (y .current) in
+          let room : ltb (highestEpoch (answers t r) (has r)) limit ≡ true = rw q at (y .room) in
+          (suc e, rw q (next-check t b e S c r y (ltb-true _ _ room) cur))
+
+  -- after any call
+  next : (k : Call) → (e′ : ℕ) × State (outcome t k .table) (entered b k (eqb (outcome t k .refusal) 0)) e′
+  unfolding entered
+  next k = go (outcome t k .refusal) refl
+    where
+      go : (n : ℕ) → outcome t k .refusal ≡ n → (e′ : ℕ) × State (outcome t k .table) (entered b k (eqb n 0)) e′
+      go zero q = rw (when-done t k q) (next-done k (sym (refusal-is t k) ∙ q))
+      go (suc n) q = rw (eqb·suc-zero n, when-refused t k (λ z. omega arith) .1) (e, S)
+
+-- ---- a whole list
+all-right : (t : List ℕ) (b : Book) (e : ℕ) → State t b e → (ks : List Call) → AllRight t b ks
+unfolding AllRight
+all-right t b e S [] = tt
+all-right t b e S (k ∷ ks) =
+    let n = next t b e S k in
+    (right t b e S k, all-right (outcome t k .table) (entered b k (eqb (outcome t k .refusal) 0)) (n .0) (n .1) ks)
+
+-- the state after a done founding
+opens : (t : List ℕ) (capacity file : ℕ) (names : List ℕ) → outcome t (founding capacity file names) .refusal ≡ 0
+    → State (outcome t (founding capacity file names) .table) (opened file (namesIn names)) 0
+unfolding done
+opens t capacity file names h =
+    rw (when-done t (founding capacity file names) h)
+    (founded-state capacity file (namesIn names) (founds-of t capacity file names (sym (refusal-is t (founding capacity file names)) ∙ h)))
+
+pub demand-3 : Demand3
+unfolding Demand3
+demand-3 t capacity file names ks h = all-right (outcome t (founding capacity file names) .table) (opened file (namesIn names)) 0 (opens t capacity file names h) ks
