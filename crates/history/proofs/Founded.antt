@@ -25,22 +25,6 @@ use Rattle.history.specs.Book.{Book, order, nameIn, opened}
 use Rattle.history.proofs.Invariant.{aim, Inv}
 use Rattle.history.proofs.State.{whole, State}
 
-pub founds-of : (t : List ℕ) (capacity file : ℕ) (names : List ℕ) → firstNo (questions t (founding capacity file names)) ≡ 0 → Founds capacity file (namesIn names)
-unfolding questions
-founds-of t capacity file names h =
-    let a = yes-first 10 (eqb (length names % 2) 0 && between 1 (length (namesIn names)) 64 && namesRise 0 (namesIn names)) _ h in
-    let b = yes-first 11 (between 1 capacity 64 && leb (length (namesIn names)) capacity && between 1 file 4_096 && eqb (length t) (16 + capacity * (32 + file))) _ (a .1) in
-    let a1 = and-l (eqb (length names % 2) 0 && between 1 (length (namesIn names)) 64) _ (a .0) in
-    let b1 = and-l (between 1 capacity 64 && leb (length (namesIn names)) capacity && between 1 file 4_096) _ (b .0) in
-    let b2 = and-l (between 1 capacity 64 && leb (length (namesIn names)) capacity) _ b1 in
-    record {
-      some = between-is 1 (length (namesIn names)) 64 (and-r (eqb (length names % 2) 0) _ a1) .0;
-      room = leb-true _ _ (and-r (between 1 capacity 64) _ b2);
-      most = between-is 1 capacity 64 (and-l _ _ b2) .1;
-      bytes = between-is 1 file 4_096 (and-r (between 1 capacity 64 && leb (length (namesIn names)) capacity) _ b1);
-      rising = and-r (eqb (length names % 2) 0 && between 1 (length (namesIn names)) 64) _ (a .0);
-    }
-
 module _ (c file : ℕ) (names : List ℕ) (f : Founds c file names) where
   t : List ℕ
   t = founded c file names

@@ -15,13 +15,14 @@ use Rattle.table.proofs.FormLaws.{Formed, well-formed-of}
 use Rattle.protocol.specs.Polls.{highestEpoch, inForce, current}
 use Rattle.protocol.specs.Calls.{Call, founding, read, write, send, check, Outcome, firstNo, questions, done, outcome, answers, namesIn, founded}
 use Rattle.protocol.proofs.QuestionLaws.{refusal-is, when-done, when-refused, write-yes, send-yes, CheckYes, check-yes}
+use Rattle.protocol.proofs.FoundedLaws.{founds-of}
 use Rattle.protocol.proofs.DoneLaws.{writeTable, sendTable, checkTable}
 use Rattle.history.specs.Book.{Book, opened, entered, agreed}
 use Rattle.history.specs.Demand3.{Right, AllRight, Demand3}
 use Rattle.history.proofs.State.{State}
 use Rattle.history.proofs.Answers.{right}
 use Rattle.history.proofs.Next.{next-write, next-send, next-same, next-check}
-use Rattle.history.proofs.Founded.{founds-of, founded-state}
+use Rattle.history.proofs.Founded.{founded-state}
 
 -- ---- one call
 module _ (t : List ℕ) (b : Book) (e : ℕ) (S : State t b e) where

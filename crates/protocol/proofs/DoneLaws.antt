@@ -102,6 +102,11 @@ module _ (t : List ℕ) (c r offset : ℕ) (patch : List ℕ) (y : WriteYes t c 
   unfolding writeTable s p v rowLength fileOf
   write-changed = many-rows t s (wroteRow (good p s) v offset patch) (usedOf t) (rows-room t w) (λ i u m. wrote i u (good p s i) refl .long ∙ row-length t w i u)
 
+  pub write-rows : Changed t writeTable (usedOf t) (workSet Write t c r)
+      (wroteRow (good (answers t r) (workSet Write t c r)) (goodVersion (answers t r) (workSet Write t c r) + 1) offset patch)
+  unfolding s p v
+  write-rows = write-changed
+
   pub write-leaves : Leaves t writeTable (workSet Write t c r)
   unfolding s changed fieldsOf fieldAt
   write-leaves = leaves-of t writeTable s (wroteRow (good p s) v offset patch) write-changed (λ i u m. go i u (good p s i) refl)
@@ -135,7 +140,7 @@ module _ (t : List ℕ) (f to r : ℕ) (y : SendYes t f to r) where
   refreshed = refreshed-row (rowBytes t to) (long-row t sw to (y .to-used)) (rowBytes t f) (omega (arith, sw .rows f (y .from-used) .small-version))
       (row-length t sw f (y .from-used) ∙ sym (row-length t sw to (y .to-used)))
 
-  send-changed : Changed t sendTable (usedOf t) (eqb to) (λ i. refreshedRow (rowBytes t f))
+  pub send-changed : Changed t sendTable (usedOf t) (eqb to) (λ i. refreshedRow (rowBytes t f))
   unfolding sendTable rowLength fileOf
   send-changed = go to (y .to-used) (refreshed .long ∙ row-length t sw to (y .to-used))
     where
@@ -199,6 +204,11 @@ module _ (t : List ℕ) (c r : ℕ) (y : CheckYes t c r) (room : highestEpoch (a
   check-changed : Changed t checkTable (usedOf t) (has r) (checkedRow cg cv ce r)
   unfolding checkTable cg cv ce rowLength fileOf
   check-changed = many-rows t (has r) (checkedRow cg cv ce r) (usedOf t) (rows-room t cw) (λ i u m. enrolled i u (cg i) refl .long ∙ row-length t cw i u)
+
+  pub check-rows : Changed t checkTable (usedOf t) (has r)
+      (checkedRow (good (answers t r) (has r)) (goodVersion (answers t r) (has r)) (highestEpoch (answers t r) (has r) + 1) r)
+  unfolding cg cv ce
+  check-rows = check-changed
 
   pub check-leaves : Leaves t checkTable (has r)
   unfolding changed fieldsOf fieldAt

@@ -3,7 +3,7 @@ use mathlib.Core.Path.{_≡_, refl, sym, _∙_, ap, ap₂, subst}
 use mathlib.Core.Bool.{Bool, true, false, not, cond, _&&_, _||_}
 use mathlib.Core.Logic.{_⊎_, inl, inr}
 use mathlib.Core.List.{List, [], _∷_, _++_, append-assoc}
-use Prim.Native.Nat.{ℕ, zero, suc, _+_, _-_, _*_, _^_, _≤_, _<_}
+use Prim.Native.Nat.{ℕ, zero, suc, _+_, _-_, _*_, _%_, _^_, _≤_, _<_}
 use native.Mathlib.Nat.{add-mul, suc-mul, zero-mul, mul-comm, lt-of-lt-of-le, le-of-suc-le-suc, not-suc-le-zero}
 use native.Mathlib.Numerals.{one-add}
 use native.Mathlib.Decide.{ℕ-discrete}
@@ -23,8 +23,9 @@ use Rattle.table.specs.Layout.{get, form, capacity, used, first, fileLength, na
 use Rattle.table.specs.Chain.{chain, orderOf, among, risesFrom}
 use Rattle.table.specs.WellFormed.{between, limit, headerValues, lengthRight, visitsEach, namesRise, unusedZero}
 use Rattle.table.proofs.ByteLaws.{length-bytes, number-bytes}
-use Rattle.table.proofs.FormLaws.{is-between, RowFacts, Formed}
+use Rattle.table.proofs.FormLaws.{between-is, is-between, RowFacts, Formed}
 use Rattle.protocol.specs.Calls
+use Rattle.protocol.proofs.QuestionLaws.{yes-first}
 
 -- what the founding's questions settle
 pub record Founds (capacity file : ℕ) (names : List ℕ) : Type 0 where
@@ -33,6 +34,22 @@ pub record Founds (capacity file : ℕ) (names : List ℕ) : Type 0 where
   pub most : capacity ≤ 64
   pub bytes : Within 4_096 file
   pub rising : Calls.namesRise 0 names ≡ true
+
+pub founds-of : (t : List ℕ) (capacity file : ℕ) (names : List ℕ) → Calls.firstNo (Calls.questions t (Calls.founding capacity file names)) ≡ 0 → Founds capacity file (Calls.namesIn names)
+unfolding Calls.questions
+founds-of t capacity file names h =
+    let a = yes-first 10 (eqb (length names % 2) 0 && between 1 (length (Calls.namesIn names)) 64 && Calls.namesRise 0 (Calls.namesIn names)) _ h in
+    let b = yes-first 11 (between 1 capacity 64 && leb (length (Calls.namesIn names)) capacity && between 1 file 4_096 && eqb (length t) (16 + capacity * (32 + file))) _ (a .1) in
+    let a1 = and-l (eqb (length names % 2) 0 && between 1 (length (Calls.namesIn names)) 64) _ (a .0) in
+    let b1 = and-l (between 1 capacity 64 && leb (length (Calls.namesIn names)) capacity && between 1 file 4_096) _ (b .0) in
+    let b2 = and-l (between 1 capacity 64 && leb (length (Calls.namesIn names)) capacity) _ b1 in
+    record {
+      some = between-is 1 (length (Calls.namesIn names)) 64 (and-r (eqb (length names % 2) 0) _ a1) .0;
+      room = leb-true _ _ (and-r (between 1 capacity 64) _ b2);
+      most = between-is 1 capacity 64 (and-l _ _ b2) .1;
+      bytes = between-is 1 file 4_096 (and-r (between 1 capacity 64 && leb (length (Calls.namesIn names)) capacity) _ b1);
+      rising = and-r (eqb (length names % 2) 0 && between 1 (length (Calls.namesIn names)) 64) _ (a .0);
+    }
 
 -- ---- the pieces
 length-zeros : (n : ℕ) → length (Calls.zeros n) ≡ n

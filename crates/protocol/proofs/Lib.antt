@@ -7,3 +7,4 @@ pub mod FrameLaws
 pub mod DoneLaws
 pub mod KeepLaws
 pub mod FoundedLaws
+pub mod Claimed

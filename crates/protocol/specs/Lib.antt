@@ -2,3 +2,4 @@ pub mod Lists
 pub mod Polls
 pub mod Rows
 pub mod Calls
+pub mod Claims

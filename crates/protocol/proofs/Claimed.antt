@@ -1,0 +1,98 @@
+-- The claims of specs/Claims.antt, proved.
+use mathlib.Core.Path.{_≡_, refl, sym, _∙_, ap, ap₂, subst, fun-ext}
+use mathlib.Core.Bool.{Bool, true, false, not, cond, _&&_, _||_}
+use mathlib.Core.Logic.{_⊎_, inl, inr}
+use mathlib.Core.List.{List, [], _∷_}
+use Prim.Native.Nat.{ℕ, zero, suc, _+_, _-_, _*_, _%_, _^_, _≤_, _<_}
+use native.Mathlib.Omega.{arith}
+use lib.Dec.{eqb, leb, ltb, eqb·suc-zero}
+use lib.ListN.{length, take, drop}
+use borrow.Author.Tests.{eqb-true, eq-eqb, ne-eqb, eqb-false, ltb-true}
+use Rattle.rows.specs.Upto.{Within}
+use Rattle.rows.specs.Sets.{has}
+use Rattle.rows.proofs.Bools.{and-l, and-r, or-e, clash}
+use Rattle.grid.specs.declared.quorums.Kind.{Kind}
+use Rattle.grid.specs.declared.quorums.Kind.the-variants.{Read, Write}
+use Rattle.table.specs.Bytes.{part}
+use Rattle.table.specs.Layout
+use Rattle.table.specs.Layout.{usedOf, fileOf, nameOf, linkOf, rowLength, rowsEnd, rowBytes}
+use Rattle.table.specs.Chain.{chain, orderOf}
+use Rattle.table.specs.WellFormed.{limit, onlyRows, wellFormed}
+use Rattle.table.proofs.FormLaws.{Formed, formed, well-formed-of}
+use Rattle.protocol.specs.Polls.{Poll, polled, highestEpoch, inForce, goodVersion, good, current, quorumHeld, workedOn}
+use Rattle.protocol.specs.Calls
+use Rattle.protocol.specs.Calls.{Call, founding, read, write, send, check, Outcome, firstNo, questions, done, outcome, refused, answers, workSet, namesIn}
+use Rattle.protocol.specs.Claims
+use Rattle.protocol.proofs.TableLaws.{Like, Changed}
+use Rattle.protocol.proofs.PollLaws.{worked-in}
+use Rattle.protocol.proofs.QuestionLaws.{refusal-is, when-done, when-refused, ReadYes, read-yes, WriteYes, write-yes, SendYes, send-yes, CheckYes, check-yes}
+use Rattle.protocol.proofs.DoneLaws.{Leaves, writeTable, write-leaves, sendTable, send-leaves, checkTable, check-leaves}
+use Rattle.protocol.proofs.KeepLaws.{write-formed, send-formed}
+use Rattle.protocol.proofs.FoundedLaws.{founds-of, founded-formed}
+
+-- ---- demand 1: a refusal
+pub refusal-alters-nothing : Claims.RefusalAltersNothing
+unfolding Claims.RefusalAltersNothing
+refusal-alters-nothing t k d = let w = when-refused t k d in record { value = w .0; table = w .1; buffer = w .2 }
+
+-- ---- demand 1: a done call alters only rows that answered
+only-none : (r : ℕ) (t : List ℕ) → Claims.OnlyRowsOf r t t
+only-none r t = record { bytes = refl; header = refl; rows = λ i w m. refl; rest = refl }
+
+only-leaves : {t u : List ℕ} {s : ℕ → Bool} (r : ℕ) → ((i : ℕ) → s i ≡ true → has r i ≡ true) → Leaves t u s → Claims.OnlyRowsOf r t u
+unfolding part
+only-leaves {t} {u} {s} r sub l = record {
+  bytes = l .change .like .long;
+  header = l .change .like .header 0 16 (omega arith);
+  rows = λ i w m. l .out i w (outside i m (s i) refl);
+  rest = l .change .tail (rowsEnd t (usedOf t)) (omega arith);
+}
+  where
+    outside : (i : ℕ) → has r i ≡ false → (b : Bool) → s i ≡ b → s i ≡ false
+    outside i m true e = absurd (clash (sym m ∙ sub i e))
+    outside i m false e = e
+
+only-done : (t : List ℕ) (k : Call) (r : ℕ) → Claims.Answering k r → firstNo (questions t k) ≡ 0 → Claims.OnlyRowsOf r t (done t k .table)
+unfolding done workSet writeTable sendTable checkTable
+only-done t (read c r offset count buffer) r′ Claims.byRead h = only-none r t
+only-done t (write c r offset patch) r′ Claims.byWrite h =
+    let y = write-yes t c r offset patch h in only-leaves r (λ i m. worked-in Write (orderOf t) (answers t r) c (nameOf t c) (has r) i m) (write-leaves t c r offset patch y)
+only-done t (send f to r) r′ Claims.bySend h =
+    let y = send-yes t f to r h in only-leaves r (λ i m. subst (λ (x : ℕ). has r x ≡ true) (eqb-true to i m) (y .to-answered)) (send-leaves t f to r y)
+only-done t (check c r) r′ Claims.byCheck h = go (eqb r (inForce (answers t r) (has r))) refl
+  where
+    y : CheckYes t c r
+    y = check-yes t c r h
+
+    go : (b : Bool) → eqb r (inForce (answers t r) (has r)) ≡ b → Claims.OnlyRowsOf r t (done t (check c r) .table)
+    go true q = rw q (only-none r t)
+    go false q = rw q (only-leaves r (λ i m. m) (check-leaves t c r y (ltb-true _ _ (rw q at (y .room)))))
+
+pub alters-only-answered : Claims.AltersOnlyAnswered
+unfolding Claims.AltersOnlyAnswered
+alters-only-answered t k r a h = rw (when-done t k h) (only-done t k r a (sym (refusal-is t k) ∙ h))
+
+-- ---- every call but a check keeps a well-formed table well formed
+formed-done : (t : List ℕ) (k : Call) → Claims.NoCheck k → wellFormed t ≡ true → firstNo (questions t k) ≡ 0 → wellFormed (done t k .table) ≡ true
+unfolding done writeTable sendTable
+formed-done t (founding capacity file names) Claims.aFounding w h =
+    well-formed-of _ (founded-formed capacity file (namesIn names) (founds-of t capacity file names h))
+formed-done t (read c r offset count buffer) Claims.aRead w h = w
+formed-done t (write c r offset patch) Claims.aWrite w h = well-formed-of _ (write-formed t c r offset patch (write-yes t c r offset patch h))
+formed-done t (send f to r) Claims.aSend w h = well-formed-of _ (send-formed t f to r (send-yes t f to r h))
+
+pub stays-well-formed : Claims.StaysWellFormed
+unfolding Claims.StaysWellFormed
+stays-well-formed t k n w = go (outcome t k .refusal) refl
+  where
+    go : (x : ℕ) → outcome t k .refusal ≡ x → wellFormed (outcome t k .table) ≡ true
+    go zero q = rw (when-done t k q) (formed-done t k n w (sym (refusal-is t k) ∙ q))
+    go (suc x) q = rw (when-refused t k (λ z. omega arith) .1) w
+
+-- ---- a founding takes nothing from the table but its length
+pub founds-on-anything : Claims.FoundsOnAnything
+unfolding Claims.FoundsOnAnything outcome questions done
+founds-on-anything t u capacity file names e h =
+    let q : firstNo (questions t (founding capacity file names)) ≡ firstNo (questions u (founding capacity file names)) = rw e in
+    let z : firstNo (questions t (founding capacity file names)) ≡ 0 = sym (refusal-is t (founding capacity file names)) ∙ h in
+    when-done t (founding capacity file names) h ∙ sym (when-done u (founding capacity file names) (refusal-is u (founding capacity file names) ∙ sym q ∙ z))

@@ -1,0 +1,72 @@
+-- What is claimed of every call, as statements; the proofs are in proofs/.
+use mathlib.Core.Path.{_≡_}
+use mathlib.Core.Bool.{Bool, true, false}
+use mathlib.Core.List.{List}
+use Prim.Native.Nat.{ℕ, _+_}
+use lib.ListN.{length, take, drop}
+use Rattle.rows.specs.Upto.{Within}
+use Rattle.rows.specs.Sets.{has}
+use Rattle.table.specs.Layout.{usedOf, nameOf, linkOf, rowsEnd, rowBytes}
+use Rattle.table.specs.WellFormed.{wellFormed}
+use Rattle.protocol.specs.Calls.{Call, founding, read, write, send, check, Outcome, lent, outcome}
+
+-- "A refusal leaves every byte of both unaltered"; "has value 0"
+pub record Untouched (t : List ℕ) (k : Call) (o : Outcome) : Type 0 where
+  pub value : o .value ≡ 0
+  pub table : o .table ≡ t
+  pub buffer : o .buffer ≡ lent k
+
+unfoldable pub RefusalAltersNothing : Type 0
+RefusalAltersNothing = (t : List ℕ) (k : Call) → (outcome t k .refusal ≡ 0 → ⊥) → Untouched t k (outcome t k)
+
+-- the call has an answering set R: every call but founding
+pub data Answering : Call → ℕ → Type 0 where
+  byRead : {c r offset count : ℕ} {buffer : List ℕ} → Answering (read c r offset count buffer) r
+  byWrite : {c r offset : ℕ} {patch : List ℕ} → Answering (write c r offset patch) r
+  bySend : {f t r : ℕ} → Answering (send f t r) r
+  byCheck : {c r : ℕ} → Answering (check c r) r
+
+-- u is t but for rows of R: header, other used rows, and all that stands behind the used rows
+pub record OnlyRowsOf (r : ℕ) (t u : List ℕ) : Type 0 where
+  pub bytes : length u ≡ length t
+  pub header : take 16 u ≡ take 16 t
+  pub rows : (i : ℕ) → Within (usedOf t) i → has r i ≡ false → rowBytes u i ≡ rowBytes t i
+  pub rest : drop (rowsEnd t (usedOf t)) u ≡ drop (rowsEnd t (usedOf t)) t
+
+-- "A done call, founding aside, alters only rows of machines that answered."
+unfoldable pub AltersOnlyAnswered : Type 0
+AltersOnlyAnswered = (t : List ℕ) (k : Call) (r : ℕ) → Answering k r → outcome t k .refusal ≡ 0 → OnlyRowsOf r t (outcome t k .table)
+
+-- "Two well-formed tables with equal headers, names and links, and equal rows in R"
+pub record EqualIn (r : ℕ) (t u : List ℕ) : Type 0 where
+  pub formed : wellFormed t ≡ true
+  pub formed-too : wellFormed u ≡ true
+  pub header : take 16 t ≡ take 16 u
+  pub names : (i : ℕ) → Within (usedOf t) i → nameOf t i ≡ nameOf u i
+  pub links : (i : ℕ) → Within (usedOf t) i → linkOf t i ≡ linkOf u i
+  pub rows : (i : ℕ) → has r i ≡ true → rowBytes t i ≡ rowBytes u i
+
+-- ".. give the same call the same result, the same read bytes and the same rows in R."
+pub record SameFor (r : ℕ) (o p : Outcome) : Type 0 where
+  pub refusal : o .refusal ≡ p .refusal
+  pub value : o .value ≡ p .value
+  pub buffer : o .buffer ≡ p .buffer
+  pub rows : (i : ℕ) → has r i ≡ true → rowBytes (o .table) i ≡ rowBytes (p .table) i
+
+unfoldable pub UnansweredHaveNoPart : Type 0
+UnansweredHaveNoPart = (t u : List ℕ) (k : Call) (r : ℕ) → Answering k r → EqualIn r t u → SameFor r (outcome t k) (outcome u k)
+
+-- "A check on a well-formed table that no founding leads to may leave one that question 1 turns down"; no other call may
+pub data NoCheck : Call → Type 0 where
+  aFounding : {capacity file : ℕ} {names : List ℕ} → NoCheck (founding capacity file names)
+  aRead : {c r offset count : ℕ} {buffer : List ℕ} → NoCheck (read c r offset count buffer)
+  aWrite : {c r offset : ℕ} {patch : List ℕ} → NoCheck (write c r offset patch)
+  aSend : {f t r : ℕ} → NoCheck (send f t r)
+
+unfoldable pub StaysWellFormed : Type 0
+StaysWellFormed = (t : List ℕ) (k : Call) → NoCheck k → wellFormed t ≡ true → wellFormed (outcome t k .table) ≡ true
+
+-- a founding's outcome does not hang on what lay in the table
+unfoldable pub FoundsOnAnything : Type 0
+FoundsOnAnything = (t u : List ℕ) (capacity file : ℕ) (names : List ℕ) → length t ≡ length u → outcome t (founding capacity file names) .refusal ≡ 0
+    → outcome t (founding capacity file names) ≡ outcome u (founding capacity file names)
