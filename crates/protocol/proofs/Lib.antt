@@ -8,3 +8,4 @@ pub mod DoneLaws
 pub mod KeepLaws
 pub mod FoundedLaws
 pub mod Claimed
+pub mod Unanswered
