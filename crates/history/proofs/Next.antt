@@ -9,8 +9,6 @@ use lib.ListN.{length, getD}
 use borrow.Author.Tests.{eqb-true, eqb-false, ne-eqb, ltb-true}
 use Rattle.rows.specs.Upto.{Within, upward}
 use Rattle.rows.specs.Sets.{has}
-use Rattle.rows.proofs.UptoLaws.{some-of}
-use Rattle.protocol.proofs.ListLaws.{reads}
 use Rattle.grid.specs.declared.quorums.Kind.{Kind}
 use Rattle.grid.specs.declared.quorums.Kind.the-variants.{Read, Write}
 use Rattle.table.specs.Bytes.{put}
@@ -28,9 +26,9 @@ use Rattle.protocol.proofs.QuestionLaws.{ByCoordinator, WriteYes, SendYes, Chec
 use Rattle.protocol.proofs.DoneLaws.{Leaves, RowBecomes, writeTable, write-leaves, write-taken, write-marked, sendTable, send-leaves, send-target, checkTable, check-leaves, check-taken, check-marked}
 use Rattle.protocol.proofs.KeepLaws.{write-formed, write-membership, send-formed, send-membership, check-formed, check-membership}
 use Rattle.history.specs.Book.{Book, order, nameIn, holdsQuorum, writeSet, written, passedOn, agreed}
-use Rattle.history.proofs.Invariant.{Inv, set-is, quorum-is, in-force}
+use Rattle.history.proofs.Invariant.{Inv, set-is}
 use Rattle.history.proofs.Steps.{Is, Stays, Wrote, keep-write, Sent, keep-send, Checked, keep-list, keep-check}
-use Rattle.history.proofs.State.{whole, State, few, quorum-whole, epoch-whole, list-whole, good-whole, version-whole, current-whole, answered, work-is, work-sub, work-used, work-quorum}
+use Rattle.history.proofs.State.{whole, State, few, epoch-whole, good-whole, six-check, force-check, version-whole, current-whole, answered, work-is, work-sub, work-used, work-quorum}
 use Rattle.history.proofs.Answers.{current-all}
 
 -- what row i of u says, where it became so
@@ -132,19 +130,11 @@ module _ (t : List ℕ) (b : Book) (e : ℕ) (S : State t b e) (c r : ℕ) (y : 
   all i m = m
 
   check-quorum : holdsQuorum b Write (has r) ≡ true
-  check-quorum =
-      sym (quorum-is (usedOf t) (whole t) (contentsOf t) b e (few t b e S r) (S .inv) (has r) (answered t b e S r Write c (y .first)) Write)
-      ∙ sym (quorum-whole t b e S r (has r) all Write) ∙ y .quorum
-
-  check-reads : holdsQuorum b Read (has r) ≡ true
-  unfolding holdsQuorum
-  check-reads = reads (order b) (b .inForce) Write (has r) check-quorum
+  check-quorum = sym (six-check t b e S c r (y .first)) ∙ y .quorum
 
   -- V is the list in force, and its epoch the highest
-  pub force-is : (highestEpoch (answers t r) (has r) ≡ e) × (inForce (answers t r) (has r) ≡ b .inForce)
-  force-is =
-      let q = in-force (usedOf t) (whole t) (contentsOf t) b e (few t b e S r) (S .inv) (has r) (answered t b e S r Write c (y .first)) check-reads in
-      (epoch-whole t b e S r (has r) all ∙ q .0, list-whole t b e S r (has r) all (some-of 64 (has r) c (omega (arith, few t b e S r, y .first .coordinator)) (y .first .answered)) ∙ q .1)
+  force-is : (highestEpoch (answers t r) (has r) ≡ e) × (inForce (answers t r) (has r) ≡ b .inForce)
+  force-is = force-check t b e S c r (y .first) check-quorum
 
   pub next-same : r ≡ inForce (answers t r) (has r) → State t (agreed b r) e
   unfolding agreed order nameIn

@@ -15,10 +15,12 @@ use Rattle.table.specs.Chain.{orderOf}
 use Rattle.table.proofs.FormLaws.{Formed, header-facts}
 use Rattle.protocol.specs.Polls.{Poll, polled, highestEpoch, inForce, goodVersion, good, current, quorumHeld, workedOn}
 use Rattle.protocol.specs.Calls.{answers, workSet}
+use Rattle.rows.proofs.UptoLaws.{some-of}
+use Rattle.protocol.proofs.ListLaws.{reads}
 use Rattle.protocol.proofs.PollLaws.{Agree, agree-less, epoch-same, list-same, version-same, good-same, current-same, quorum-same, worked-same, worked-in}
 use Rattle.protocol.proofs.QuestionLaws.{ByCoordinator, answered-used}
 use Rattle.history.specs.Book.{Book, order, nameIn, holdsQuorum, someHasAll}
-use Rattle.history.proofs.Invariant.{Inv, quorum-is, answers-are, worked-used}
+use Rattle.history.proofs.Invariant.{Inv, in-force, quorum-is, current-is, answers-are}
 
 -- what all rows say
 unfoldable pub whole : List ℕ → Poll
@@ -105,3 +107,30 @@ module _ (t : List ℕ) (b : Book) (e : ℕ) (S : State t b e) (r : ℕ) where
     work-quorum h =
         sym (quorum-is (usedOf t) (whole t) (contentsOf t) b e few (S .inv) (workSet kind t c r) work-used kind)
         ∙ sym (quorum-whole (workSet kind t c r) work-sub kind) ∙ h
+
+-- ---- a check works on R itself
+module _ (t : List ℕ) (b : Book) (e : ℕ) (S : State t b e) (c r : ℕ) (B : ByCoordinator t c r) where
+  all : (i : ℕ) → has r i ≡ true → has r i ≡ true
+  all i m = m
+
+  ins : (i : ℕ) → has r i ≡ true → Within (usedOf t) i
+  ins = answered t b e S r Write c B
+
+  pub six-check : quorumHeld Write (orderOf t) (answers t r) (has r) ≡ holdsQuorum b Write (has r)
+  six-check = quorum-whole t b e S r (has r) all Write ∙ quorum-is (usedOf t) (whole t) (contentsOf t) b e (few t b e S r) (S .inv) (has r) ins Write
+
+  -- where it holds a write quorum, V is the list in force, of the highest epoch
+  module _ (q : holdsQuorum b Write (has r) ≡ true) where
+    check-reads : holdsQuorum b Read (has r) ≡ true
+    unfolding holdsQuorum
+    check-reads = reads (order b) (b .inForce) Write (has r) q
+
+    pub force-check : (highestEpoch (answers t r) (has r) ≡ e) × (inForce (answers t r) (has r) ≡ b .inForce)
+    force-check =
+        let f = in-force (usedOf t) (whole t) (contentsOf t) b e (few t b e S r) (S .inv) (has r) ins check-reads in (
+          epoch-whole t b e S r (has r) all ∙ f .0,
+          list-whole t b e S r (has r) all (some-of 64 (has r) c (omega (arith, few t b e S r, B .coordinator)) (B .answered)) ∙ f .1,
+        )
+
+    pub seven-check : (inForce (answers t r) (has r) ≡ b .inForce) × (current (answers t r) (has r) ≡ someHasAll b (has r))
+    seven-check = (force-check .1, current-whole t b e S r (has r) all ∙ current-is (usedOf t) (whole t) (contentsOf t) b e (few t b e S r) (S .inv) (has r) ins check-reads)

@@ -10,16 +10,19 @@ use borrow.Author.Tests.{eqb-true, eqb-false, eq-eqb, ltb-true}
 use Rattle.rows.specs.Sets.{has}
 use Rattle.rows.proofs.Bools.{and-l, and-r, or-e, clash}
 use Rattle.grid.specs.declared.quorums.Kind.the-variants.{Read, Write}
-use Rattle.table.specs.WellFormed.{limit, wellFormed}
+use Rattle.table.specs.Layout.{usedOf}
+use Rattle.table.specs.Chain.{orderOf}
+use Rattle.table.specs.WellFormed.{limit, onlyRows, wellFormed}
 use Rattle.table.proofs.FormLaws.{Formed, well-formed-of}
-use Rattle.protocol.specs.Polls.{highestEpoch, inForce, current}
-use Rattle.protocol.specs.Calls.{Call, founding, read, write, send, check, Outcome, firstNo, questions, done, outcome, answers, namesIn, founded}
-use Rattle.protocol.proofs.QuestionLaws.{refusal-is, when-done, when-refused, write-yes, send-yes, CheckYes, check-yes}
+use Rattle.protocol.specs.Polls.{highestEpoch, inForce, current, quorumHeld}
+use Rattle.protocol.specs.Calls.{Call, founding, read, write, send, check, Outcome, firstNo, upTo, isUsed, byCoordinator, questions, done, outcome, answers, namesIn, founded}
+use Rattle.protocol.proofs.QuestionLaws.{yes-first, ByCoordinator, passed-first, refusal-is, when-done, when-refused, write-yes, send-yes, CheckYes, check-yes}
 use Rattle.protocol.proofs.FoundedLaws.{founds-of}
 use Rattle.protocol.proofs.DoneLaws.{writeTable, sendTable, checkTable}
-use Rattle.history.specs.Book.{Book, opened, entered, agreed}
+use Rattle.history.specs.Book.{Book, opened, holdsQuorum, someHasAll, entered, agreed}
 use Rattle.history.specs.Demand3.{Right, AllRight, Demand3}
-use Rattle.history.proofs.State.{State}
+use Rattle.history.specs.Claims.{tableAfter, bookAfter, AlwaysWellFormed, ChecksByBook}
+use Rattle.history.proofs.State.{State, six-check, seven-check}
 use Rattle.history.proofs.Answers.{right}
 use Rattle.history.proofs.Next.{next-write, next-send, next-same, next-check}
 use Rattle.history.proofs.Founded.{founded-state}
@@ -73,3 +76,42 @@ opens t capacity file names h =
 pub demand-3 : Demand3
 unfolding Demand3
 demand-3 t capacity file names ks h = all-right (outcome t (founding capacity file names) .table) (opened file (namesIn names)) 0 (opens t capacity file names h) ks
+
+-- ---- the state after a list of calls
+later : (t : List ℕ) (b : Book) (e : ℕ) → State t b e → (ks : List Call) → (e′ : ℕ) × State (tableAfter t ks) (bookAfter t b ks) e′
+unfolding tableAfter bookAfter
+later t b e S [] = (e, S)
+later t b e S (k ∷ ks) =
+    let n = next t b e S k in later (outcome t k .table) (entered b k (eqb (outcome t k .refusal) 0)) (n .0) (n .1) ks
+
+pub always-well-formed : AlwaysWellFormed
+unfolding AlwaysWellFormed
+always-well-formed t capacity file names ks h =
+    well-formed-of _ (later (outcome t (founding capacity file names) .table) (opened file (namesIn names)) 0 (opens t capacity file names h) ks .1 .formed)
+
+-- ---- checks
+module _ (t : List ℕ) (b : Book) (e : ℕ) (S : State t b e) (c r : ℕ) where
+  six-seven : ByCoordinator t c r
+      → _≡_ {A = ℕ} (cond (quorumHeld Write (orderOf t) (answers t r) (has r)) (cond (eqb r (inForce (answers t r) (has r)) || current (answers t r) (has r)) 0 7) 6)
+      (cond (holdsQuorum b Write (has r)) (cond (eqb r (b .inForce) || someHasAll b (has r)) 0 7) 6)
+  six-seven B = rw (six-check t b e S c r B) (go (holdsQuorum b Write (has r)) refl)
+    where
+      go : (x : Bool) → holdsQuorum b Write (has r) ≡ x
+          → _≡_ {A = ℕ} (cond x (cond (eqb r (inForce (answers t r) (has r)) || current (answers t r) (has r)) 0 7) 6) (cond x (cond (eqb r (b .inForce) || someHasAll b (has r)) 0 7) 6)
+      go true q = let w = seven-check t b e S c r B q in rw (w .0, w .1)
+      go false q = refl
+
+  check-right : firstNo (upTo 3 (questions t (check c r))) ≡ 0
+      → firstNo (upTo 7 (questions t (check c r))) ≡ cond (holdsQuorum b Write (has r)) (cond (eqb r (b .inForce) || someHasAll b (has r)) 0 7) 6
+  unfolding questions upTo byCoordinator firstNo
+  check-right h =
+      let a = yes-first 0 (wellFormed t) (record { ask = 2; yes = isUsed t c && onlyRows (usedOf t) r } ∷ record { ask = 3; yes = has r c } ∷ []) h in
+      let d = yes-first 1 (isUsed t c && onlyRows (usedOf t) r) (record { ask = 3; yes = has r c } ∷ []) (a .1) in
+      let g = yes-first 2 (has r c) [] (d .1) in
+      rw (a .0, d .0, g .0) (six-seven (passed-first t c r [] h .0))
+
+pub checks-by-book : ChecksByBook
+unfolding ChecksByBook
+checks-by-book t capacity file names ks c r h =
+    let l = later (outcome t (founding capacity file names) .table) (opened file (namesIn names)) 0 (opens t capacity file names h) ks in
+    check-right _ _ (l .0) (l .1) c r
