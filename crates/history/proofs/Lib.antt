@@ -1,4 +1,3 @@
-pub mod Computed
 pub mod Invariant
 pub mod Steps
 pub mod State

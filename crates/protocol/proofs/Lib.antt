@@ -9,3 +9,4 @@ pub mod KeepLaws
 pub mod FoundedLaws
 pub mod Claimed
 pub mod Unanswered
+pub mod Computed

@@ -199,3 +199,15 @@ worked-in kind order p c a r i = go (quorumHeld kind order p tried && current p 
     go : (b : Bool) → cond b tried r i ≡ true → r i ≡ true
     go true h = cut-in (listChoice kind order (p .members c) a) r i h
     go false h = h
+
+-- ---- good rows of any poll: the unmarked rows of S that no unmarked row of S is ahead of
+pub good-highest : (p : Poll) (s : ℕ → Bool) (i : ℕ) → good p s i ≡ true → (j : ℕ) → Within 64 j → s j ≡ true → p .stale j ≡ false → p .version j ≤ p .version i
+good-highest p s i g j w m z = let d = good-at p s i g in omega (arith, version-le p s j w m z, d .newest)
+
+pub highest-good : (p : Poll) (s : ℕ → Bool) (i : ℕ) → Within 64 i → s i ≡ true → p .stale i ≡ false
+    → ((j : ℕ) → Within 64 j → s j ≡ true → p .stale j ≡ false → p .version j ≤ p .version i) → good p s i ≡ true
+unfolding goodVersion unmarked
+highest-good p s i w m z f =
+    let low : p .version i ≤ goodVersion p s = version-le p s i w m z in
+    let high : goodVersion p s ≤ p .version i = most-under 64 (unmarked p s) (p .version) (p .version i) (λ j u h. f j u (and-l _ _ h) (not-true _ (and-r (s j) _ h))) in
+    good-of p s i (record { inside = m; clean = z; newest = omega arith })
