@@ -1,13 +1,14 @@
 -- Quorums and choices, for any grid and any length.
 use mathlib.Core.Path.{_≡_, refl, sym, _∙_, ap, subst}
 use mathlib.Core.Bool.{Bool, true, false, not, cond, _&&_, _||_}
+use mathlib.Core.Logic.{_⊎_, inl, inr}
 use Prim.Native.Nat.{ℕ, zero, suc, _+_, _-_, _*_, _/_, _%_, _≤_, _<_}
 use native.Mathlib.Nat.{mod-lt}
 use native.Mathlib.Omega.{arith}
 use lib.Dec.{leb, eqb}
 use borrow.Author.Tests.{le-leb, leb-true, eqb-true, eq-eqb}
 use Rattle.rows.specs.Upto.{Within, every, some}
-use Rattle.rows.proofs.Bools.{and-l, and-r, and-i, or-l, or-r, same-test}
+use Rattle.rows.proofs.Bools.{and-l, and-r, and-i, or-l, or-r, or-e, same-test}
 use Rattle.rows.proofs.UptoLaws.{every-at, every-of, some-at, some-of}
 use Rattle.grid.specs.declared.sizes.Grid.{Grid}
 use Rattle.grid.specs.declared.quorums.Kind.{Kind}
@@ -173,3 +174,16 @@ module _ (g : Grid) (N : ℕ) where
         let own : Within (g .cols) (a % g .cols + 1) = omega (arith, mod-lt a (f .some-column)) in
         and-i (readQuorum g N (writeChoice g N a)) _ (grows (readChoice g N a) (writeChoice g N a) (λ k w. reads-too a k) Read (read-choice a))
         (some-of (g .cols) _ (a % g .cols + 1) own (cover (writeChoice g N a) (a % g .cols + 1) (own-column a)))
+
+-- a choice has positions of the list only
+pub choice-within : (kind : Kind) (g : Grid) (N a k : ℕ) → choice kind g N a k ≡ true → Within N k
+unfolding choice writeChoice readChoice isPosition
+choice-within Read g N a k h = let e = and-l (leb 1 k && leb k N) _ h in (leb-true 1 k (and-l _ _ e), leb-true k N (and-r (leb 1 k) _ e))
+choice-within Write g N a k h = by (or-e (leb 1 k && leb k N && eqb (columnOf (g .cols) k) (a % g .cols + 1)) _ h)
+  where
+    between : (leb 1 k && leb k N) ≡ true → Within N k
+    between e = (leb-true 1 k (and-l _ _ e), leb-true k N (and-r (leb 1 k) _ e))
+
+    by : ((leb 1 k && leb k N && eqb (columnOf (g .cols) k) (a % g .cols + 1)) ≡ true) ⊎ ((leb 1 k && leb k N && eqb (rowOf (g .cols) k) (a % height g N (columnOf (g .cols) k) + 1)) ≡ true) → Within N k
+    by (inl e) = between (and-l _ _ e)
+    by (inr e) = between (and-l _ _ e)

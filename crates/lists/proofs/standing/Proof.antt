@@ -1,0 +1,96 @@
+use mathlib.Core.Bool.{Bool, _&&_, cond}
+use mathlib.Core.Path.{_≡_, refl, ap, ap₂, _∙_}
+use Prim.Native.Nat.{ℕ, _+_, _-_, _≤_, _<_}
+use native.Mathlib.Omega.{arith}
+use borrow.Author.Needs.{needs}
+use lib.ListN.{length, take, getD}
+use lib.Dec.{eqb}
+use Rattle.lists.proofs.SeatLaws.{seat-next, seat-few, standing-next, none-standing}
+use Rattle.protocol.specs.Lists.{keep, seats, atSeat}
+use Rattle.rows.proofs.SetLaws.{has-empty}
+use Rattle.rows.specs.Sets.{has, gaining}
+use Rattle.rows.specs.Upto.{some}
+use Rattle.lists.proofs.standing.Statement.{statement}
+use Rattle.lists.proofs.standing.Tie as tie
+
+abbrev Inv-loop : tie.InvT-loop
+Inv-loop order count list positions rows₀ seat₀ j₀ rows seat j = (j ≤ count) × (seat ≡ length (seats (take j order) (list .bits)))
+    × (has (rows .bits) ≡ (λ (i : ℕ). some 64 (λ k. has (positions .bits) k && atSeat (seats (take j order) (list .bits)) (eqb i) k)))
+
+abbrev μ-loop : tie.MeasureT-loop
+μ-loop order count list positions rows₀ seat₀ j₀ rows seat j = count - j
+
+loop-holds : tie.Need-loop-holds Inv-loop μ-loop
+unfolding seats keep
+loop-holds c = (omega arith, refl, has-empty ∙ none-standing (has (c .args .positions .bits)))
+
+element-copy-out-wide : tie.Need-element-copy-out-wide Inv-loop μ-loop
+element-copy-out-wide c = search needs
+
+wide-requires : tie.Need-wide-requires Inv-loop μ-loop
+wide-requires c κs = search needs
+
+has-requires : tie.Need-has-requires Inv-loop μ-loop
+has-requires c κs = search needs
+
+step-requires : tie.Need-step-requires Inv-loop μ-loop
+step-requires c κs =
+    let l = c .before .before .before .before .loop in
+    let a = c .before .before .before .before .before .args in
+    omega (arith, seat-few (a .order .now) (a .list .bits) (l .j) (c .before .before .before .before .before .pre .0) (omega arith))
+
+has-requires-2 : tie.Need-has-requires-2 Inv-loop μ-loop
+has-requires-2 c κs = search needs
+
+both-requires : tie.Need-both-requires Inv-loop μ-loop
+both-requires c κs = search needs
+
+gain-requires : tie.Need-gain-requires Inv-loop μ-loop
+gain-requires c κs = search needs
+
+add-j : tie.Need-add-j Inv-loop μ-loop
+add-j c = search needs
+
+loop-less : tie.Need-loop-less Inv-loop μ-loop
+loop-less c = search needs
+
+loop-again : tie.Need-loop-again Inv-loop μ-loop
+loop-again c =
+    let l = c .before .before .before .before .before .before .before .before .loop in
+    let s = c .before .before .before .before .before .before .before .before .before in
+    let a = s .args in
+    let x = getD (a .order .now) (l .j) 0 in
+    let w = c .before .before .before .before .before .wide .ensures in
+    let inside : l .j < 64 = omega arith in
+    let member : c .before .before .before .before .has .result ≡ has (a .list .bits) x = c .before .before .before .before .has .ensures ∙ ap (has (a .list .bits)) w in
+    let seat : c .before .before .before .step .result ≡ cond (has (a .list .bits) x) (l .seat + 1) (l .seat) =
+    c .before .before .before .step .ensures ∙ ap (λ (b : Bool). cond b (l .seat + 1) (l .seat)) member in (
+      omega arith,
+      seat ∙ seat-next (a .order .now) (a .list .bits) (l .j) (s .pre .0) inside (l .seat) (l .inv .1),
+      let wanted : c .before .both .result ≡ (has (a .list .bits) x && has (a .positions .bits) (c .before .before .before .step .result)) =
+          c .before .both .ensures ∙ ap₂ _&&_ member (c .before .before .has2 .ensures) in
+          c .gain .ensures ∙ ap (λ (z : ℕ). cond (c .before .both .result) (gaining (has (l .rows .bits)) z) (has (l .rows .bits))) w
+          ∙ standing-next (a .order .now) (a .list .bits) (l .j) (s .pre .0) inside (has (a .positions .bits)) (has (l .rows .bits)) (l .seat) _ _ (omega arith) (l .inv .1) (l .inv .2) seat wanted,
+    )
+
+returns : tie.Need-returns Inv-loop μ-loop
+returns c = let l = c .before .loop in let e : l .j ≡ c .before .before .args .count = omega arith in rw e at (l .inv .2)
+
+pub standing-spec : {M : Type 1} → statement M
+standing-spec =
+    tie.close
+    (tie.spec
+    Inv-loop
+    μ-loop
+    loop-holds
+    element-copy-out-wide
+    wide-requires
+    has-requires
+    step-requires
+    has-requires-2
+    both-requires
+    gain-requires
+    add-j
+    loop-less
+    loop-again
+    returns)
