@@ -11,11 +11,11 @@ use lib.Dec.{eqb, leb, ltb, eqb·suc-suc, eqb·zero-suc}
 use lib.Arith.{lt-one}
 use lib.Bits.{bitAnd, bitOr, bitXor, and-le-r}
 use lib.Count.{ones, ones-step, trailingZeros, trailing-le, trailing-of-zero}
-use borrow.Author.Tests.{eq-eqb, eqb-true, le-leb, lt-leb, lt-ltb, leb-true}
+use borrow.Author.Tests.{eq-eqb, eqb-true, le-leb, lt-leb, lt-ltb, leb-true, not-true}
 use Rattle.rows.specs.Upto.{Within, every, some, count, lowest}
-use Rattle.rows.specs.Sets.{has, isRow, noRow, firstRows, gaining, losing, cutTo}
+use Rattle.rows.specs.Sets.{has, isRow, noRow, firstRows, gaining, losing, cutTo, leftOf}
 use Rattle.rows.proofs.Bools.{and-l, and-r, and-i, same-test, clash}
-use Rattle.rows.proofs.UptoLaws.{every-at, every-of, count-first, count-ext, lowest-is, lowest-none}
+use Rattle.rows.proofs.UptoLaws.{every-at, every-of, some-of, some-none, count-first, count-ext, lowest-is, lowest-none}
 use Rattle.rows.proofs.DigitLaws.{on, on-or, on-and, on-less, on-power, on-high, on-ones, on-half, on-zero, on-ext, half-lt, digit-is, trailing-on, trailing-below}
 
 -- ---- one law between rows from 1 and digits from 0
@@ -35,6 +35,12 @@ by-rows s p z e = fun-ext go
 pub row-yes : (i : ℕ) → Within 64 i → isRow i ≡ true
 unfolding isRow
 row-yes i h = rw (le-leb 1 i (h .0), le-leb i 64 (h .1))
+
+-- nothing is in the empty set
+pub empty-at : (i : ℕ) → has 0 i ≡ false
+unfolding has
+empty-at zero = refl
+empty-at (suc k) = on-high 0 0 k (omega arith) (omega arith)
 
 pub first-in : (n i : ℕ) → n ≤ 64 → Within n i → firstRows n i ≡ true
 unfolding firstRows
@@ -206,3 +212,21 @@ pub has-all : (n i : ℕ) → Within n i → has (2 ^ n - 1) i ≡ true
 unfolding has
 has-all n zero w = absurd (omega arith)
 has-all n (suc k) w = on-ones n k ∙ lt-ltb k n (omega arith)
+
+pub has-left : (s t : ℕ) → has (bitXor s (bitAnd s t)) ≡ leftOf (has s) (has t)
+unfolding leftOf has
+has-left s t = by-rows _ (leftOf (has s) (has t)) refl (on-less s t)
+
+-- a set is 0 where it has no member
+pub empty-is : (s : ℕ) → s < 2 ^ 64 → eqb s 0 ≡ not (some 64 (has s))
+empty-is s h = same-test _ _ to from
+  where
+    to : eqb s 0 ≡ true → not (some 64 (has s)) ≡ true
+    to e = rw (eqb-true s 0 e, some-none 64 (has 0) (λ i w. empty-at i))
+
+    from : not (some 64 (has s)) ≡ true → eqb s 0 ≡ true
+    from e = eq-eqb s 0 (same-members s 0 h (omega arith) (fun-ext (λ i. out i (has s i) refl ∙ sym (empty-at i))))
+      where
+        out : (i : ℕ) (b : Bool) → has s i ≡ b → has s i ≡ false
+        out i false q = q
+        out i true q = absurd (clash (sym (not-true _ e) ∙ some-of 64 (has s) i (has-within 64 s i h q) q))

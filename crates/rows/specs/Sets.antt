@@ -31,3 +31,7 @@ losing s i j = s j && not (eqb j i)
 -- "or be cut down to another set"
 unfoldable pub cutTo : (ℕ → Bool) → (ℕ → Bool) → ℕ → Bool
 cutTo s t j = s j && t j
+
+-- what is left of a set without the members of another
+unfoldable pub leftOf : (ℕ → Bool) → (ℕ → Bool) → ℕ → Bool
+leftOf s t j = s j && not (t j)

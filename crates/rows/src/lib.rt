@@ -1,8 +1,8 @@
 // A set of rows: bit i - 1 for row i, rows 1 to 64. Positions and columns of a grid count the same way.
 ghost use mathlib.Core.Path.{_≡_};
-ghost use mathlib.Core.Bool.{cond};
-ghost use Rattle.rows.specs.Upto.{every, count, lowest};
-ghost use Rattle.rows.specs.Sets.{has, firstRows, gaining, losing, cutTo};
+ghost use mathlib.Core.Bool.{cond, not};
+ghost use Rattle.rows.specs.Upto.{every, some, count, lowest};
+ghost use Rattle.rows.specs.Sets.{has, firstRows, gaining, losing, cutTo, leftOf};
 
 pub struct RowSet {
     pub bits: u64,
@@ -109,5 +109,21 @@ impl RowSet {
         }
         let all = RowSet::first(n);
         self.bits & all.bits == all.bits
+    }
+
+    // The set without the rows of another.
+    pub fn outside(self, other: RowSet) -> RowSet
+        ensures { λ r. ⌜ has (r .bits) ≡ leftOf (has (self .bits)) (has (other .bits)) ⌝ }
+    {
+        RowSet {
+            bits: self.bits ^ (self.bits & other.bits),
+        }
+    }
+
+    // Has it no member?
+    pub fn is_empty(self) -> bool
+        ensures { λ r. ⌜ r ≡ not (some 64 (has (self .bits))) ⌝ }
+    {
+        self.bits == 0
     }
 }

@@ -2,3 +2,4 @@ pub mod Bytes
 pub mod Layout
 pub mod Chain
 pub mod WellFormed
+pub mod Contracts

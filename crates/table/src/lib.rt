@@ -1,1 +1,36 @@
-// The table in memory.
+// The table in memory: its bytes, its rows, the chain, and question 1.
+mod chain;
+mod layout;
+mod lists;
+mod logic;
+mod numbers;
+mod places;
+mod row_right;
+mod stages;
+
+pub use chain::Order;
+pub use chain::chain_order;
+pub use layout::capacity;
+pub use layout::desired;
+pub use layout::epoch;
+pub use layout::file_length;
+pub use layout::first;
+pub use layout::is_stale;
+pub use layout::link;
+pub use layout::members;
+pub use layout::name;
+pub use layout::patch;
+pub use layout::set_desired;
+pub use layout::set_epoch;
+pub use layout::set_mark;
+pub use layout::set_members;
+pub use layout::set_version;
+pub use layout::used;
+pub use layout::version;
+pub use logic::any;
+pub use logic::both;
+pub use logic::either;
+pub use places::row_length;
+pub use places::row_of;
+pub use places::rows_end;
+pub use stages::well_formed;

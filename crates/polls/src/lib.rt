@@ -1,0 +1,81 @@
+// What the answering rows say, and questions 6 and 7 about a set of them.
+use rows::RowSet;
+ghost use mathlib.Core.Path.{_≡_};
+ghost use mathlib.Core.Bool.{_&&_, _||_, cond};
+ghost use Prim.Native.Nat.{ℕ, _+_, _≤_, _<_, max};
+ghost use lib.Dec.{eqb, ltb};
+ghost use lib.ListN.{length};
+ghost use Rattle.rows.specs.Upto.{some, most};
+ghost use Rattle.rows.specs.Sets.{has};
+ghost use Rattle.polls.specs.Shows.{placed};
+
+// The state gathered by a poll: a place for each of the 64 rows, 0 for rows that did not answer.
+pub struct Poll {
+    pub stale: RowSet,
+    pub versions: [u32; 64],
+    pub desired: [u32; 64],
+    pub epochs: [u32; 64],
+}
+
+fn both(a: bool, b: bool) -> bool
+    ensures { λ r. ⌜ r ≡ (a && b) ⌝ }
+{
+    if a { b } else { false }
+}
+
+fn either(a: bool, b: bool) -> bool
+    ensures { λ r. ⌜ r ≡ (a || b) ⌝ }
+{
+    if a { true } else { b }
+}
+
+// The larger of m and v, where v counts.
+fn larger(m: u32, v: u32, counts: bool) -> u32
+    ensures { λ r. ⌜ r ≡ max m (cond counts v 0) ⌝ }
+{
+    if counts {
+        if m < v {
+            return v;
+        }
+    }
+    m
+}
+
+// The highest value over the rows of a set; 0 where it is empty.
+pub fn highest(values: &[u32; 64], s: RowSet) -> u32
+    ensures { λ r. ⌜ r ≡ most 64 (has (s .bits)) (placed (now (values .entry))) ⌝ }
+{
+    let mut m = 0;
+    let mut k = 0;
+    while k < 64 {
+        m = larger(m, values[k], s.has(k + 1));
+        k += 1;
+    }
+    m
+}
+
+// The rows of a set that have a value.
+pub fn having(values: &[u32; 64], s: RowSet, v: u32) -> RowSet
+    ensures { λ r. ⌜ has (r .bits) ≡ (λ (i : ℕ). has (s .bits) i && eqb (placed (now (values .entry)) i) v) ⌝ }
+{
+    let mut set = RowSet::EMPTY;
+    let mut k = 0;
+    while k < 64 {
+        set = set.gain(k + 1, both(s.has(k + 1), values[k] == v));
+        k += 1;
+    }
+    set
+}
+
+// Has some row of a set more than v?
+pub fn above(values: &[u32; 64], s: RowSet, v: u32) -> bool
+    ensures { λ r. ⌜ r ≡ some 64 (λ i. has (s .bits) i && ltb v (placed (now (values .entry)) i)) ⌝ }
+{
+    let mut found = false;
+    let mut k = 0;
+    while k < 64 {
+        found = either(found, both(s.has(k + 1), v < values[k]));
+        k += 1;
+    }
+    found
+}

@@ -1,0 +1,13 @@
+use Rattle.rows.proofs.SetLaws.{has-left}
+use borrow.Author.Needs.{needs}
+use Rattle.rows.proofs.RowSet.outside.Statement.{statement}
+use Rattle.rows.proofs.RowSet.outside.Tie as tie
+use Rattle.rows.proofs.RowSet.outside.Reads as reads
+use Rattle.rows.proofs.RowSet.outside.Lts as lts
+
+-- src/lib.rt:115:5
+returns : tie.Need-returns
+returns c = has-left (c .before .before .before .args .self .bits) (c .before .before .before .args .other .bits)
+
+pub outside-spec : {M : Type 1} → statement M
+outside-spec = tie.close (tie.spec returns)

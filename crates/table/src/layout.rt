@@ -1,0 +1,181 @@
+// Where the bytes of a table stand: the only offsets of the code.
+use crate::numbers;
+ghost use mathlib.Core.Path.{_≡_};
+ghost use Prim.Native.Nat.{_+_, _≤_};
+ghost use lib.Dec.{eqb};
+ghost use lib.ListN.{length};
+ghost use Rattle.table.specs.Layout.{get, store, form, capacityOf, usedOf, firstOf, fileOf, name, link, mark, version, desired, epoch, members, storeContents};
+
+// The header.
+pub const HEADER: usize = 16;
+
+const FORM_AT: usize = 0;
+
+const CAPACITY_AT: usize = 1;
+
+const USED_AT: usize = 2;
+
+const FIRST_AT: usize = 3;
+
+const FILE_AT: usize = 4;
+
+// the rest of the header is 0
+pub const HEADER_REST: usize = 6;
+
+// A row's head; the contents stand behind it.
+pub const HEAD: usize = 32;
+
+const NAME_AT: usize = 0;
+
+const LINK_AT: usize = 2;
+
+const MARK_AT: usize = 3;
+
+const VERSION_AT: usize = 4;
+
+const DESIRED_AT: usize = 8;
+
+const EPOCH_AT: usize = 12;
+
+const MEMBERS_AT: usize = 16;
+
+// the rest of the head is 0
+pub const HEAD_REST: usize = 24;
+
+// ---- the header's fields
+pub fn form(t: &[u8]) -> u8
+    requires { ⌜ 16 ≤ length (now t) ⌝ }
+    ensures { λ r. ⌜ r ≡ get form (now (t .entry)) ⌝ }
+{
+    numbers::u8_at(t, FORM_AT)
+}
+
+pub fn capacity(t: &[u8]) -> usize
+    requires { ⌜ 16 ≤ length (now t) ⌝ }
+    ensures { λ r. ⌜ r ≡ capacityOf (now (t .entry)) ⌝ }
+{
+    numbers::u8_at(t, CAPACITY_AT) as usize
+}
+
+pub fn used(t: &[u8]) -> usize
+    requires { ⌜ 16 ≤ length (now t) ⌝ }
+    ensures { λ r. ⌜ r ≡ usedOf (now (t .entry)) ⌝ }
+{
+    numbers::u8_at(t, USED_AT) as usize
+}
+
+pub fn first(t: &[u8]) -> usize
+    requires { ⌜ 16 ≤ length (now t) ⌝ }
+    ensures { λ r. ⌜ r ≡ firstOf (now (t .entry)) ⌝ }
+{
+    numbers::u8_at(t, FIRST_AT) as usize
+}
+
+pub fn file_length(t: &[u8]) -> usize
+    requires { ⌜ 16 ≤ length (now t) ⌝ }
+    ensures { λ r. ⌜ r ≡ fileOf (now (t .entry)) ⌝ }
+{
+    numbers::u16_at(t, FILE_AT) as usize
+}
+
+// ---- a row's fields
+pub fn name(row: &[u8]) -> u16
+    requires { ⌜ 32 ≤ length (now row) ⌝ }
+    ensures { λ r. ⌜ r ≡ get name (now (row .entry)) ⌝ }
+{
+    numbers::u16_at(row, NAME_AT)
+}
+
+pub fn link(row: &[u8]) -> u8
+    requires { ⌜ 32 ≤ length (now row) ⌝ }
+    ensures { λ r. ⌜ r ≡ get link (now (row .entry)) ⌝ }
+{
+    numbers::u8_at(row, LINK_AT)
+}
+
+pub fn mark(row: &[u8]) -> u8
+    requires { ⌜ 32 ≤ length (now row) ⌝ }
+    ensures { λ r. ⌜ r ≡ get mark (now (row .entry)) ⌝ }
+{
+    numbers::u8_at(row, MARK_AT)
+}
+
+pub fn is_stale(row: &[u8]) -> bool
+    requires { ⌜ 32 ≤ length (now row) ⌝ }
+    ensures { λ r. ⌜ r ≡ eqb (get mark (now (row .entry))) 1 ⌝ }
+{
+    mark(row) == 1
+}
+
+pub fn version(row: &[u8]) -> u32
+    requires { ⌜ 32 ≤ length (now row) ⌝ }
+    ensures { λ r. ⌜ r ≡ get version (now (row .entry)) ⌝ }
+{
+    numbers::u32_at(row, VERSION_AT)
+}
+
+pub fn desired(row: &[u8]) -> u32
+    requires { ⌜ 32 ≤ length (now row) ⌝ }
+    ensures { λ r. ⌜ r ≡ get desired (now (row .entry)) ⌝ }
+{
+    numbers::u32_at(row, DESIRED_AT)
+}
+
+pub fn epoch(row: &[u8]) -> u32
+    requires { ⌜ 32 ≤ length (now row) ⌝ }
+    ensures { λ r. ⌜ r ≡ get epoch (now (row .entry)) ⌝ }
+{
+    numbers::u32_at(row, EPOCH_AT)
+}
+
+pub fn members(row: &[u8]) -> u64
+    requires { ⌜ 32 ≤ length (now row) ⌝ }
+    ensures { λ r. ⌜ r ≡ get members (now (row .entry)) ⌝ }
+{
+    numbers::u64_at(row, MEMBERS_AT)
+}
+
+pub fn set_mark(row: &mut [u8], v: u8)
+    requires { ⌜ 32 ≤ length (now row) ⌝ }
+    ensures { λ r. ⌜ now (row .exit) ≡ store mark v (now (row .entry)) ⌝ }
+{
+    numbers::store_at(row, MARK_AT, 1, v as u64);
+}
+
+pub fn set_version(row: &mut [u8], v: u32)
+    requires { ⌜ 32 ≤ length (now row) ⌝ }
+    ensures { λ r. ⌜ now (row .exit) ≡ store version v (now (row .entry)) ⌝ }
+{
+    numbers::store_at(row, VERSION_AT, 4, v as u64);
+}
+
+pub fn set_desired(row: &mut [u8], v: u32)
+    requires { ⌜ 32 ≤ length (now row) ⌝ }
+    ensures { λ r. ⌜ now (row .exit) ≡ store desired v (now (row .entry)) ⌝ }
+{
+    numbers::store_at(row, DESIRED_AT, 4, v as u64);
+}
+
+pub fn set_epoch(row: &mut [u8], v: u32)
+    requires { ⌜ 32 ≤ length (now row) ⌝ }
+    ensures { λ r. ⌜ now (row .exit) ≡ store epoch v (now (row .entry)) ⌝ }
+{
+    numbers::store_at(row, EPOCH_AT, 4, v as u64);
+}
+
+pub fn set_members(row: &mut [u8], v: u64)
+    requires { ⌜ 32 ≤ length (now row) ⌝ }
+    ensures { λ r. ⌜ now (row .exit) ≡ store members v (now (row .entry)) ⌝ }
+{
+    numbers::store_at(row, MEMBERS_AT, 8, v);
+}
+
+// Bytes laid over the contents, from an offset on.
+pub fn patch(row: &mut [u8], offset: usize, bytes: &[u8])
+    requires { ⌜ 32 + offset + length (now bytes) ≤ length (now row) ⌝ }
+    ensures { λ r. ⌜ now (row .exit) ≡ storeContents offset (now (bytes .entry)) (now (row .entry)) ⌝ }
+{
+    let from = HEAD + offset;
+    let end = from + bytes.len();
+    numbers::copy(&mut row[from..end], bytes);
+}

@@ -1,0 +1,73 @@
+// Question 1 of one used row by itself.
+use crate::layout;
+use crate::logic::between;
+use crate::logic::both;
+use crate::logic::either;
+use crate::numbers::all_zero;
+use rows::RowSet;
+ghost use mathlib.Core.Path.{_≡_};
+ghost use Prim.Native.Nat.{_≤_};
+ghost use lib.ListN.{length};
+ghost use Rattle.table.specs.WellFormed.{onlyRows, rowValues, numbersSmall, desiredRight, listRight, rowRight};
+
+// No version, desired version or epoch number passes this.
+const LIMIT: u32 = 1_000_000;
+
+// Does s name rows 1 to n only?
+fn only_rows(n: usize, s: u64) -> bool
+    requires { ⌜ n ≤ 64 ⌝ }
+    ensures { λ r. ⌜ r ≡ onlyRows n s ⌝ }
+{
+    if n == 64 {
+        return true;
+    }
+    s < 1 << n
+}
+
+fn row_values(n: usize, row: &[u8]) -> bool
+    requires { ⌜ 32 ≤ length (now row) ⌝ }
+    ensures { λ r. ⌜ r ≡ rowValues n (now (row .entry)) ⌝ }
+{
+    let named = between(1, layout::name(row) as usize, 65_535);
+    let linked = both(named, layout::link(row) as usize <= n);
+    let marked = both(linked, layout::mark(row) <= 1);
+    both(marked, all_zero(&row[layout::HEAD_REST..layout::HEAD]))
+}
+
+fn numbers_small(row: &[u8]) -> bool
+    requires { ⌜ 32 ≤ length (now row) ⌝ }
+    ensures { λ r. ⌜ r ≡ numbersSmall (now (row .entry)) ⌝ }
+{
+    let versions = both(layout::version(row) <= LIMIT, layout::desired(row) <= LIMIT);
+    both(versions, layout::epoch(row) <= LIMIT)
+}
+
+fn desired_right(row: &[u8]) -> bool
+    requires { ⌜ 32 ≤ length (now row) ⌝ }
+    ensures { λ r. ⌜ r ≡ desiredRight (now (row .entry)) ⌝ }
+{
+    let desired = layout::desired(row);
+    either(
+        layout::is_stale(row),
+        layout::version(row) < desired,
+        desired == 0,
+    )
+}
+
+fn list_right(n: usize, i: usize, row: &[u8]) -> bool
+    requires { ⌜ (n ≤ 64) × (32 ≤ length (now row)) ⌝ }
+    ensures { λ r. ⌜ r ≡ listRight n i (now (row .entry)) ⌝ }
+{
+    let bits = layout::members(row);
+    let list = RowSet { bits: bits };
+    both(only_rows(n, bits), list.has(i))
+}
+
+// All that is asked of used row i of n by itself.
+pub fn row_right(n: usize, i: usize, row: &[u8]) -> bool
+    requires { ⌜ (n ≤ 64) × (32 ≤ length (now row)) ⌝ }
+    ensures { λ r. ⌜ r ≡ rowRight n i (now (row .entry)) ⌝ }
+{
+    let rest = both(desired_right(row), list_right(n, i, row));
+    both(row_values(n, row), both(numbers_small(row), rest))
+}
