@@ -7,11 +7,12 @@ use native.Mathlib.Numerals.{add-one}
 use native.Mathlib.Decide.{decLe, ℕ-discrete}
 use native.Mathlib.Omega.{arith}
 use lib.Dec.{eqb, leb}
-use lib.ListN.{getD}
+use lib.ListN.{length, getD, set, replicate, length-set}
+use lib.Seq.{getD-set-same, getD-set-other}
 use borrow.Author.Tests.{le-leb, lt-leb, eq-eqb, ne-eqb}
 use Rattle.rows.specs.Upto.{Within, some, most}
 use Rattle.rows.specs.Sets.{has, isRow, noRow, gaining}
-use Rattle.rows.proofs.SetLaws.{row-yes, gain-where, has-above}
+use Rattle.rows.proofs.SetLaws.{row-yes, gain-where, has-within}
 use Rattle.polls.specs.Shows.{placed}
 
 pub placed-at : (xs : List ℕ) (k : ℕ) → k < 64 → placed xs (k + 1) ≡ getD xs k 0
@@ -58,3 +59,72 @@ gathered-all q out = fun-ext (λ i. go i (decLe i 64))
     go : (i : ℕ) → Dec (i ≤ 64) → (leb i 64 && q i) ≡ q i
     go i (yes l) = rw (le-leb i 64 l)
     go i (no l) = rw (lt-leb i 64 (omega arith)) (sym (out i (omega arith)))
+
+-- ---- an array filled place by place: f up to row k, 0 from there on
+pub record Placed (f : ℕ → ℕ) (k : ℕ) (xs : List ℕ) : Type 0 where
+  pub places : length xs ≡ 64
+  pub done : (i : ℕ) → Within k i → placed xs i ≡ f i
+  pub rest : (i : ℕ) → k < i → placed xs i ≡ 0
+
+pub placed-none : (f : ℕ → ℕ) → Placed f 0 (replicate 64 0)
+unfolding placed
+placed-none f = record { places = refl; done = λ i w. absurd (omega arith); rest = λ i l. rest i (isRow i) }
+  where
+    none : (n j : ℕ) → _≡_ {A = ℕ} (getD (replicate n 0) j 0) 0
+    none zero j = refl
+    none (suc n) zero = refl
+    none (suc n) (suc j) = none n j
+
+    rest : (i : ℕ) (b : Bool) → _≡_ {A = ℕ} (cond b (getD (replicate 64 0) (i - 1) 0) 0) 0
+    rest i true = none 64 (i - 1)
+    rest i false = refl
+
+placed-other : (xs : List ℕ) (k v i : ℕ) → (i ≡ k + 1 → ⊥) → 1 ≤ i → placed (set xs k v) i ≡ placed xs i
+unfolding placed
+placed-other xs k v i d h = ap (λ (x : ℕ). cond (isRow i) x 0) (getD-set-other xs k (i - 1) v 0 (λ q. d (omega arith)))
+
+pub placed-more : (f : ℕ → ℕ) (k v : ℕ) (xs : List ℕ) → k < 64 → v ≡ f (k + 1) → Placed f k xs → Placed f (k + 1) (set xs k v)
+placed-more f k v xs h e p = record {
+  places = length-set xs k v ∙ p .places;
+  done = λ i w. go i (ℕ-discrete i (k + 1)) w;
+  rest = λ i l. other i (λ q. omega arith) (omega arith) ∙ p .rest i (omega arith);
+}
+  where
+    same : placed (set xs k v) (k + 1) ≡ v
+    same = placed-at (set xs k v) k h ∙ getD-set-same xs k v 0 (omega (arith, p .places))
+
+    other : (i : ℕ) → (i ≡ k + 1 → ⊥) → 1 ≤ i → placed (set xs k v) i ≡ placed xs i
+    other = placed-other xs k v
+
+    go : (i : ℕ) → Dec (i ≡ k + 1) → Within (k + 1) i → placed (set xs k v) i ≡ f i
+    go i (yes q) w = ap (placed (set xs k v)) q ∙ same ∙ e ∙ sym (ap f q)
+    go i (no d) w = other i d (w .0) ∙ p .done i (omega arith)
+
+pub placed-all : (f : ℕ → ℕ) (n : ℕ) (xs : List ℕ) → f 0 ≡ 0 → ((i : ℕ) → n < i → f i ≡ 0) → Placed f n xs → placed xs ≡ f
+unfolding placed isRow
+placed-all f n xs z out p = fun-ext (λ i. go i (ℕ-discrete i 0) (decLe i n))
+  where
+    go : (i : ℕ) → Dec (i ≡ 0) → Dec (i ≤ n) → placed xs i ≡ f i
+    go i (yes e) d = rw (e, z)
+    go i (no d) (yes l) = p .done i (omega arith)
+    go i (no d) (no l) = p .rest i (omega arith) ∙ sym (out i (omega arith))
+
+-- ---- what the rows of r say: nothing behind row n, where r has only rows 1 to n
+out-of : (r n i : ℕ) → r < 2 ^ n → n < i → has r i ≡ false
+out-of r n i h l = go (has r i) refl
+  where
+    go : (b : Bool) → has r i ≡ b → has r i ≡ false
+    go true e = let w = has-within n r i h e in absurd (omega arith)
+    go false e = e
+
+pub gathered-used : (r n : ℕ) (p : ℕ → Bool) → r < 2 ^ n → upTo (λ i. has r i && p i) n ≡ (λ (i : ℕ). has r i && p i)
+unfolding upTo
+gathered-used r n p h = fun-ext (λ i. go i (decLe i n))
+  where
+    go : (i : ℕ) → Dec (i ≤ n) → (leb i n && (has r i && p i)) ≡ (has r i && p i)
+    go i (yes l) = rw (le-leb i n l)
+    go i (no l) = rw (lt-leb i n (omega arith), out-of r n i h (omega arith))
+
+pub placed-masked : (r n : ℕ) (f : ℕ → ℕ) → r < 2 ^ n → (xs : List ℕ) → Placed (λ i. cond (has r i) (f i) 0) n xs → placed xs ≡ (λ (i : ℕ). cond (has r i) (f i) 0)
+unfolding has
+placed-masked r n f h xs p = placed-all (λ i. cond (has r i) (f i) 0) n xs refl (λ i l. ap (λ (b : Bool). cond b (f i) 0) (out-of r n i h l)) p

@@ -1,13 +1,17 @@
 // What the answering rows say, and questions 6 and 7 about a set of them.
 use rows::RowSet;
+use table::any;
+use table::both;
 ghost use mathlib.Core.Path.{_≡_};
-ghost use mathlib.Core.Bool.{_&&_, _||_, cond};
-ghost use Prim.Native.Nat.{ℕ, _+_, _≤_, _<_, max};
+ghost use mathlib.Core.Bool.{_&&_, cond};
+ghost use Prim.Native.Nat.{ℕ, _^_, _<_, max};
 ghost use lib.Dec.{eqb, ltb};
-ghost use lib.ListN.{length};
-ghost use Rattle.rows.specs.Upto.{some, most};
+ghost use Rattle.rows.specs.Upto.{Within, some, most};
 ghost use Rattle.rows.specs.Sets.{has};
-ghost use Rattle.polls.specs.Shows.{placed};
+ghost use Rattle.table.specs.Layout.{usedOf};
+ghost use Rattle.table.specs.Contracts.{Sized};
+ghost use Rattle.protocol.specs.Polls.{polled};
+ghost use Rattle.polls.specs.Shows.{placed, Shows, Says};
 
 // The state gathered by a poll: a place for each of the 64 rows, 0 for rows that did not answer.
 pub struct Poll {
@@ -17,16 +21,61 @@ pub struct Poll {
     pub epochs: [u32; 64],
 }
 
-fn both(a: bool, b: bool) -> bool
-    ensures { λ r. ⌜ r ≡ (a && b) ⌝ }
-{
-    if a { b } else { false }
+// What one row says.
+struct Said {
+    stale: bool,
+    version: u32,
+    desired: u32,
+    epoch: u32,
 }
 
-fn either(a: bool, b: bool) -> bool
-    ensures { λ r. ⌜ r ≡ (a || b) ⌝ }
+// What row i says where it answered; nothing otherwise.
+fn said_by(t: &[u8], i: usize, answered: bool) -> Said
+    requires { ⌜ Sized (now t) × Within (usedOf (now t)) i ⌝ }
+    ensures { λ r. ⌜ Says (now (t .entry)) i answered r ⌝ }
 {
-    if a { true } else { b }
+    if answered {
+        let row = table::row_of(t, i);
+        return Said {
+            stale: table::is_stale(row),
+            version: table::version(row),
+            desired: table::desired(row),
+            epoch: table::epoch(row),
+        };
+    }
+    Said {
+        stale: false,
+        version: 0,
+        desired: 0,
+        epoch: 0,
+    }
+}
+
+// What the rows that answered say.
+pub fn gather(t: &[u8], answering: RowSet) -> Poll
+    requires { ⌜ Sized (now t) × (answering .bits < 2 ^ usedOf (now t)) ⌝ }
+    ensures { λ r. ⌜ Shows r (polled (now (t .entry)) (has (answering .bits))) ⌝ }
+{
+    let used = table::used(t);
+    let mut stale = RowSet::EMPTY;
+    let mut versions = [0u32; 64];
+    let mut desired = [0u32; 64];
+    let mut epochs = [0u32; 64];
+    let mut k = 0;
+    while k < used {
+        let said = said_by(t, k + 1, answering.has(k + 1));
+        stale = stale.gain(k + 1, said.stale);
+        versions[k] = said.version;
+        desired[k] = said.desired;
+        epochs[k] = said.epoch;
+        k += 1;
+    }
+    Poll {
+        stale: stale,
+        versions: versions,
+        desired: desired,
+        epochs: epochs,
+    }
 }
 
 // The larger of m and v, where v counts.
@@ -74,7 +123,7 @@ pub fn above(values: &[u32; 64], s: RowSet, v: u32) -> bool
     let mut found = false;
     let mut k = 0;
     while k < 64 {
-        found = either(found, both(s.has(k + 1), v < values[k]));
+        found = any(found, both(s.has(k + 1), v < values[k]));
         k += 1;
     }
     found

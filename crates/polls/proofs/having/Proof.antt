@@ -1,21 +1,16 @@
+use mathlib.Core.Bool.{Bool, _&&_}
+use mathlib.Core.Path.{_≡_, refl, sym, ap, ap₂, _∙_}
+use Prim.Native.Nat.{ℕ, _+_, _-_, _≤_}
+use native.Mathlib.Omega.{arith}
+use borrow.Author.Needs.{needs}
+use lib.ListN.{getD}
+use lib.Dec.{eqb}
 use Rattle.polls.proofs.PlaceLaws.{placed-at, upTo, gathered-none, gathered-next, gathered-all}
 use Rattle.polls.specs.Shows.{placed}
 use Rattle.rows.proofs.SetLaws.{has-empty, has-above}
 use Rattle.rows.specs.Sets.{has}
-use lib.ListN.{getD}
-use lib.Dec.{eqb}
-use native.Mathlib.Omega.{arith}
-use Prim.Native.Nat.{ℕ, _+_, _-_, _≤_, _<_}
-use mathlib.Core.Bool.{Bool, _&&_, true, false}
-use mathlib.Core.Path.{_≡_, refl, sym, ap, ap₂, _∙_}
-use borrow.Author.Needs.{needs}
 use Rattle.polls.proofs.having.Statement.{statement}
 use Rattle.polls.proofs.having.Tie as tie
-use Rattle.polls.proofs.having.Reads as reads
-use Rattle.polls.proofs.having.Lts as lts
-use Rattle.polls.proofs.both.Reads as both-reads
-use Rattle.rows.proofs.RowSet.gain.Reads as gain-reads
-use Rattle.rows.proofs.RowSet.has.Reads as has-reads
 
 abbrev Inv-loop : tie.InvT-loop
 Inv-loop values s v set₀ k₀ set k = (k ≤ 64) × (has (set .bits) ≡ upTo (λ i. has (s .bits) i && eqb (placed values i) v) k)
@@ -23,59 +18,48 @@ Inv-loop values s v set₀ k₀ set k = (k ≤ 64) × (has (set .bits) ≡ upTo 
 abbrev μ-loop : tie.MeasureT-loop
 μ-loop values s v set₀ k₀ set k = 64 - k
 
--- src/lib.rt:63:5
 loop-holds : tie.Need-loop-holds Inv-loop μ-loop
 unfolding has
 loop-holds c = (omega arith, has-empty ∙ gathered-none _ refl)
 
--- src/lib.rt:64:24
 add-gain : tie.Need-add-gain Inv-loop μ-loop
 add-gain c = search needs
 
--- src/lib.rt:64:42
 add-has : tie.Need-add-has Inv-loop μ-loop
 add-has c = search needs
 
--- src/lib.rt:64:36
 has-requires : tie.Need-has-requires Inv-loop μ-loop
 has-requires c κs = search needs
 
--- src/lib.rt:64:50
 mul-both : tie.Need-mul-both Inv-loop μ-loop
 mul-both c = search needs
 
--- src/lib.rt:64:50
 element-copy-out-both : tie.Need-element-copy-out-both Inv-loop μ-loop
 element-copy-out-both c = search needs
 
--- src/lib.rt:64:31
 both-requires : tie.Need-both-requires Inv-loop μ-loop
 both-requires c κs = search needs
 
--- src/lib.rt:64:9
 gain-requires : tie.Need-gain-requires Inv-loop μ-loop
 gain-requires c κs = search needs
 
--- src/lib.rt:65:9
 add-k : tie.Need-add-k Inv-loop μ-loop
 add-k c = search needs
 
--- src/lib.rt:63:5
 loop-less : tie.Need-loop-less Inv-loop μ-loop
 loop-less c = search needs
 
--- src/lib.rt:63:5
 loop-again : tie.Need-loop-again Inv-loop μ-loop
 loop-again c =
     let l = c .before .before .before .before .before .loop in
     let a = c .before .before .before .before .before .before .args in
     let row : getD (a .values .now) (l .k) 0 ≡ placed (a .values .now) (l .k + 1) = sym (placed-at (a .values .now) (l .k) (omega arith)) in
-    let q : ℕ → Bool = λ i. has (a .s .bits) i && eqb (placed (a .values .now) i) (a .v) in
-    (omega arith,
-    c .gain .ensures ∙ gathered-next q (has (l .set .bits)) (l .k) _ (omega arith) (l .inv .1)
-    (c .before .both .ensures ∙ ap₂ (λ (x : Bool) (y : ℕ). x && eqb y (a .v)) (c .before .before .before .has .ensures) row))
+    let q : ℕ → Bool = λ i. has (a .s .bits) i && eqb (placed (a .values .now) i) (a .v) in (
+      omega arith,
+      c .gain .ensures ∙ gathered-next q (has (l .set .bits)) (l .k) _ (omega arith) (l .inv .1)
+          (c .before .both .ensures ∙ ap₂ (λ (x : Bool) (y : ℕ). x && eqb y (a .v)) (c .before .before .before .has .ensures) row),
+    )
 
--- src/lib.rt:58:1
 returns : tie.Need-returns Inv-loop μ-loop
 returns c =
     let l = c .before .loop in

@@ -1,19 +1,15 @@
+use mathlib.Core.Bool.{Bool, cond}
+use mathlib.Core.Path.{_≡_, refl, sym, ap, ap₂, _∙_}
+use Prim.Native.Nat.{ℕ, _+_, _-_, _≤_, max}
+use native.Mathlib.Omega.{arith}
+use borrow.Author.Needs.{needs}
+use lib.ListN.{getD}
 use Rattle.polls.proofs.PlaceLaws.{placed-at, most-next}
 use Rattle.polls.specs.Shows.{placed}
 use Rattle.rows.specs.Sets.{has}
 use Rattle.rows.specs.Upto.{most}
-use lib.ListN.{getD}
-use native.Mathlib.Omega.{arith}
-use Prim.Native.Nat.{ℕ, _+_, _-_, _≤_, _<_, max}
-use mathlib.Core.Bool.{Bool, cond}
-use mathlib.Core.Path.{_≡_, refl, sym, ap, ap₂, _∙_}
-use borrow.Author.Needs.{needs}
 use Rattle.polls.proofs.highest.Statement.{statement}
 use Rattle.polls.proofs.highest.Tie as tie
-use Rattle.polls.proofs.highest.Reads as reads
-use Rattle.polls.proofs.highest.Lts as lts
-use Rattle.polls.proofs.larger.Reads as larger-reads
-use Rattle.rows.proofs.RowSet.has.Reads as has-reads
 
 abbrev Inv-loop : tie.InvT-loop
 Inv-loop values s m₀ k₀ m k = (k ≤ 64) × (m ≡ most k (has (s .bits)) (placed values))
@@ -21,51 +17,42 @@ Inv-loop values s m₀ k₀ m k = (k ≤ 64) × (m ≡ most k (has (s .bits)) (p
 abbrev μ-loop : tie.MeasureT-loop
 μ-loop values s m₀ k₀ m k = 64 - k
 
--- src/lib.rt:50:5
 loop-holds : tie.Need-loop-holds Inv-loop μ-loop
 unfolding most
 loop-holds c = (omega arith, refl)
 
--- src/lib.rt:51:23
 mul-larger : tie.Need-mul-larger Inv-loop μ-loop
 mul-larger c = search needs
 
--- src/lib.rt:51:23
 element-copy-out-larger : tie.Need-element-copy-out-larger Inv-loop μ-loop
 element-copy-out-larger c = search needs
 
--- src/lib.rt:51:40
 add-has : tie.Need-add-has Inv-loop μ-loop
 add-has c = search needs
 
--- src/lib.rt:51:34
 has-requires : tie.Need-has-requires Inv-loop μ-loop
 has-requires c κs = search needs
 
--- src/lib.rt:51:9
 larger-requires : tie.Need-larger-requires Inv-loop μ-loop
 larger-requires c κs = search needs
 
--- src/lib.rt:52:9
 add-k : tie.Need-add-k Inv-loop μ-loop
 add-k c = search needs
 
--- src/lib.rt:50:5
 loop-less : tie.Need-loop-less Inv-loop μ-loop
 loop-less c = search needs
 
--- src/lib.rt:50:5
 loop-again : tie.Need-loop-again Inv-loop μ-loop
 loop-again c =
     let l = c .before .before .before .before .loop in
     let a = c .before .before .before .before .before .args in
-    let row : getD (a .values .now) (l .k) 0 ≡ placed (a .values .now) (l .k + 1) = sym (placed-at (a .values .now) (l .k) (omega arith)) in
-    (omega arith,
-    c .larger .ensures ∙ ap₂ (λ (x : ℕ) (b : Bool). max x (cond b (getD (a .values .now) (l .k) 0) 0)) (l .inv .1) (c .before .has .ensures)
-    ∙ ap (λ (x : ℕ). max (most (l .k) (has (a .s .bits)) (placed (a .values .now))) (cond (has (a .s .bits) (l .k + 1)) x 0)) row
-    ∙ sym (most-next (has (a .s .bits)) (placed (a .values .now)) (l .k)))
+    let row : getD (a .values .now) (l .k) 0 ≡ placed (a .values .now) (l .k + 1) = sym (placed-at (a .values .now) (l .k) (omega arith)) in (
+      omega arith,
+      c .larger .ensures ∙ ap₂ (λ (x : ℕ) (b : Bool). max x (cond b (getD (a .values .now) (l .k) 0) 0)) (l .inv .1) (c .before .has .ensures)
+          ∙ ap (λ (x : ℕ). max (most (l .k) (has (a .s .bits)) (placed (a .values .now))) (cond (has (a .s .bits) (l .k + 1)) x 0)) row
+          ∙ sym (most-next (has (a .s .bits)) (placed (a .values .now)) (l .k)),
+    )
 
--- src/lib.rt:45:1
 returns : tie.Need-returns Inv-loop μ-loop
 returns c = let l = c .before .loop in let e : l .k ≡ 64 = omega arith in rw e at (l .inv .1)
 

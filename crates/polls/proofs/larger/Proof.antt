@@ -1,19 +1,13 @@
 use native.Mathlib.Omega.{arith}
-use borrow.Author.Needs.{needs}
 use Rattle.polls.proofs.larger.Statement.{statement}
 use Rattle.polls.proofs.larger.Tie as tie
-use Rattle.polls.proofs.larger.Reads as reads
-use Rattle.polls.proofs.larger.Lts as lts
 
--- src/lib.rt:38:13
 returns : tie.Need-returns
 returns c = rw (c .before .if1 .taken) (omega arith)
 
--- src/lib.rt:33:1
 returns-2 : tie.Need-returns-2
 returns-2 c = rw (c .before .if1 .taken) (omega arith)
 
--- src/lib.rt:33:1
 returns-3 : tie.Need-returns-3
 returns-3 c = rw (c .if1 .left) (omega arith)
 
