@@ -2,6 +2,7 @@
 // The chain order is the first `count` of an array of 64 rows.
 use grid::Kind;
 use rows::RowSet;
+use table::both;
 ghost use mathlib.Core.Path.{_≡_};
 ghost use mathlib.Core.Bool.{_&&_, cond};
 ghost use Prim.Native.Nat.{ℕ, _+_, _≤_, _<_};
@@ -10,12 +11,6 @@ ghost use lib.ListN.{length, take};
 ghost use Rattle.rows.specs.Upto.{some};
 ghost use Rattle.rows.specs.Sets.{has};
 ghost use Rattle.protocol.specs.Lists.{seats, atSeat, listQuorum, listChoice};
-
-fn both(a: bool, b: bool) -> bool
-    ensures { λ r. ⌜ r ≡ (a && b) ⌝ }
-{
-    if a { b } else { false }
-}
 
 fn wide(x: u8) -> usize
     ensures { λ r. ⌜ r ≡ x ⌝ }

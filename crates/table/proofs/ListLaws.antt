@@ -7,7 +7,7 @@ use Prim.Native.Nat.{ℕ, suc, _+_, _-_, _<_}
 use native.Mathlib.Decide.{decLt}
 use native.Mathlib.Omega.{arith}
 use lib.Dec.{eqb}
-use lib.ListN.{getD, set, replicate, length-set}
+use lib.ListN.{length, getD, set, replicate, length-set}
 use lib.Seq.{getD-set-same, getD-set-other}
 use borrow.Author.Tests.{eqb-true, eq-eqb}
 use Rattle.rows.specs.Upto.{Within, every}
@@ -15,10 +15,13 @@ use Rattle.rows.proofs.Bools.{and-l, and-r, same-test}
 use Rattle.rows.proofs.UptoLaws.{last, every-at, every-of, every-ext}
 use Rattle.table.specs.Layout.{get, epoch, members, usedOf, rowBytes, epochOf, membersOf}
 use Rattle.table.specs.WellFormed.{listsAgree, wellFormed}
-use Rattle.table.specs.Contracts.{Gathered}
 use Rattle.table.proofs.CodeLaws.{eqb-swap}
 
--- ---- an array filled from its start
+-- ---- an array filled from its start: one of 64 whose element i - 1 is f i, for i from 1 to n
+pub record Gathered (f : ℕ → ℕ) (n : ℕ) (xs : List ℕ) : Type 0 where
+  pub places : length xs ≡ 64
+  pub each : (i : ℕ) → Within n i → getD xs (i - 1) 0 ≡ f i
+
 pub gathered-none : (f : ℕ → ℕ) → Gathered f 0 (replicate 64 0)
 gathered-none f = record { places = refl; each = λ i w. absurd (omega arith) }
 

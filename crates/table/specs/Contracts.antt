@@ -3,7 +3,7 @@ use mathlib.Core.Path.{_≡_}
 use mathlib.Core.Bool.{true}
 use mathlib.Core.Logic.{_⊎_}
 use mathlib.Core.List.{List, _++_}
-use Prim.Native.Nat.{ℕ, _+_, _-_, _≤_, _<_}
+use Prim.Native.Nat.{ℕ, _+_, _≤_, _<_}
 use lib.ListN.{length, getD, take}
 use Rattle.rows.specs.Upto.{Within, every}
 use Rattle.table.specs.Layout.{usedOf, firstOf, linkOf, rowBytes}
@@ -37,8 +37,3 @@ pub record Walked (t rows : List ℕ) (count next : ℕ) : Type 0 where
 pub record Followed (t rows : List ℕ) (count next : ℕ) : Type 0 where
   pub walked : Walked t rows count next
   pub stop : (next ≡ 0) ⊎ (usedOf t ≤ count)
-
--- an array of 64 whose element i - 1 is f i, for i from 1 to n
-pub record Gathered (f : ℕ → ℕ) (n : ℕ) (xs : List ℕ) : Type 0 where
-  pub places : length xs ≡ 64
-  pub each : (i : ℕ) → Within n i → getD xs (i - 1) 0 ≡ f i

@@ -35,8 +35,7 @@ rowValues n row = between 1 (get name row) 65_535 && leb (get link row) n && leb
 unfoldable pub lengthRight : List ℕ → Bool
 lengthRight t = eqb (length t) (rowsEnd t (capacityOf t))
 
--- "the chain visits each used row once": it ends after as many rows as are used, and each used row is among them.
--- (One step more than that is allowed, and not taken.)
+-- "the chain visits each used row once": of one step more it takes as many as rows are used, and each used row is among them
 unfoldable pub visitsEach : List ℕ → Bool
 visitsEach t = let path = chain (linkOf t) (suc (usedOf t)) (firstOf t) in eqb (length path) (usedOf t) && every (usedOf t) (among path)
 
