@@ -138,6 +138,16 @@ lowest-at (suc n) p e = go (some n p) refl (lowest-at n p)
     go true q ih = rw q (let r = ih q in (omega arith, r .1))
     go false q ih = let t : p (suc n) ≡ true = rw q at e in rw (q, t) (omega arith, t)
 
+-- where the lowest is not 0, it passes
+pub lowest-in : (n : ℕ) (p : ℕ → Bool) → 1 ≤ lowest n p → Within n (lowest n p) × (p (lowest n p) ≡ true)
+lowest-in n p h = go (some n p) refl
+  where
+    go : (b : Bool) → some n p ≡ b → Within n (lowest n p) × (p (lowest n p) ≡ true)
+    go true e = lowest-at n p e
+    go false e =
+        let none : lowest n p ≡ 0 = lowest-none n p (λ i w. same-test (p i) false (λ q. sym e ∙ some-of n p i w q) (λ q. absurd (clash q))) in
+        absurd (omega arith)
+
 pub lowest-below : (n : ℕ) (p : ℕ → Bool) (i : ℕ) → 1 ≤ i → i < lowest n p → p i ≡ false
 unfolding lowest
 lowest-below zero p i h l = absurd (omega arith)

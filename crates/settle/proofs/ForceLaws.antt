@@ -1,0 +1,48 @@
+-- The list in force, as the code finds it: by the lowest row that has the highest epoch.
+use mathlib.Core.Path.{_≡_, refl, sym, _∙_, ap, ap₂}
+use mathlib.Core.Bool.{Bool, true, false, not, cond, _&&_}
+use mathlib.Core.List.{List}
+use Prim.Native.Nat.{ℕ, _≤_}
+use lib.Dec.{eqb}
+use Rattle.rows.specs.Upto.{Within, lowest, most}
+use Rattle.rows.specs.Sets.{has}
+use Rattle.rows.proofs.Bools.{and-l}
+use Rattle.rows.proofs.UptoLaws.{lowest-in}
+use Rattle.rows.proofs.SetLaws.{has-within}
+use Rattle.table.specs.Layout.{get, members, usedOf, rowBytes, membersOf}
+use Rattle.protocol.specs.Polls.{Poll, polled, highestEpoch, inForce}
+use Rattle.protocol.specs.Calls.{answers}
+use Rattle.polls.specs.declared.Poll as code
+use Rattle.polls.specs.Shows.{placed}
+use Rattle.settle.specs.Judged.{Gathered}
+
+pub not-swap : (a b : Bool) → a ≡ not b → b ≡ not a
+not-swap a true e = rw e refl
+not-swap a false e = rw e refl
+
+module _ (t rows : List ℕ) (count : ℕ) (p : code.Poll) (r s : ℕ) (g : Gathered t rows count p r) where
+  pub epoch-is : most 64 (has s) (placed (p .epochs)) ≡ highestEpoch (answers t r) (has s)
+  unfolding highestEpoch
+  epoch-is = ap (most 64 (has s)) (g .poll .epochs)
+
+  -- the lowest row that has the highest epoch, 0 where none has
+  unfoldable pub leader : ℕ
+  leader = lowest 64 (λ (i : ℕ). has s i && eqb (answers t r .epoch i) (highestEpoch (answers t r) (has s)))
+
+  pub leader-is : (epoch : ℕ) (set : ℕ → Bool) → epoch ≡ most 64 (has s) (placed (p .epochs))
+      → set ≡ (λ (i : ℕ). has s i && eqb (placed (p .epochs) i) epoch) → lowest 64 set ≡ leader
+  unfolding leader
+  leader-is epoch set e h = ap (lowest 64) h
+      ∙ ap₂ (λ (f : ℕ → ℕ) (m : ℕ). lowest 64 (λ (i : ℕ). has s i && eqb (f i) m)) (g .poll .epochs) (e ∙ epoch-is)
+
+  -- a leader is a used row that answered
+  pub leader-in : ((i : ℕ) → has s i ≡ true → has r i ≡ true) → 1 ≤ leader → has r leader ≡ true
+  unfolding leader
+  leader-in within h = within _ (and-l (has s leader) _ (lowest-in 64 _ h .1))
+
+  pub leader-used : ((i : ℕ) → has s i ≡ true → has r i ≡ true) → 1 ≤ leader → Within (usedOf t) leader
+  leader-used within h = has-within (usedOf t) r leader (g .used) (leader-in within h)
+
+  pub force-is : inForce (answers t r) (has s) ≡ cond (has r leader) (get members (rowBytes t leader)) 0
+  unfolding inForce leader answers polled membersOf
+  force-is = refl

@@ -1,0 +1,57 @@
+// The set that a call works on, and questions 6 and 7.
+use grid::Kind;
+use polls::Poll;
+use rows::RowSet;
+use table::{Order, both};
+ghost use mathlib.Core.Path.{_≡_};
+ghost use mathlib.Core.Bool.{true};
+ghost use Prim.Native.Nat.{ℕ};
+ghost use Rattle.rows.specs.Sets.{has};
+ghost use Rattle.table.specs.Layout.{nameOf};
+ghost use Rattle.protocol.specs.Polls.{highestEpoch, inForce, current, quorumHeld};
+ghost use Rattle.protocol.specs.Calls.{answers, workSet};
+ghost use Rattle.table.specs.Chain.{orderOf};
+ghost use Rattle.settle.specs.Judged.{Gathered, Judged};
+
+// Of a set: the first no among questions 6 and 7 (0: none), its good rows, their version.
+pub struct Verdict {
+    pub refusal: u32,
+    pub good: RowSet,
+    pub version: u32,
+}
+
+// The highest epoch in a set.
+pub fn highest_epoch(t: &[u8], o: Order, p: Poll, answering: RowSet, s: RowSet) -> u32
+    requires { ⌜ Gathered (now t) (o .rows) (o .count) p (answering .bits) ⌝ }
+    ensures { λ r. ⌜ r ≡ highestEpoch (answers (now (t .entry)) (answering .bits)) (has (s .bits)) ⌝ }
+{
+    polls::highest(&p.epochs, s)
+}
+
+// V: the list of the highest epoch in a set of rows that answered.
+pub fn list_in_force(t: &[u8], o: Order, p: Poll, answering: RowSet, s: RowSet) -> RowSet
+    requires { ⌜ Gathered (now t) (o .rows) (o .count) p (answering .bits) × ((i : ℕ) → has (s .bits) i ≡ true → has (answering .bits) i ≡ true) ⌝ }
+    ensures { λ r. ⌜ r .bits ≡ inForce (answers (now (t .entry)) (answering .bits)) (has (s .bits)) ⌝ }
+{
+    let epoch = polls::highest(&p.epochs, s);
+    let leader = polls::having(&p.epochs, s, epoch).lowest();
+    if leader == 0 {
+        return RowSet::EMPTY;
+    }
+    RowSet {
+        bits: table::members(table::row_of(t, leader)),
+    }
+}
+
+// Question 6 about a set of rows that answered.
+pub fn quorum_held(kind: Kind, t: &[u8], o: Order, p: Poll, answering: RowSet, s: RowSet) -> bool
+    requires { ⌜ Gathered (now t) (o .rows) (o .count) p (answering .bits) × ((i : ℕ) → has (s .bits) i ≡ true → has (answering .bits) i ≡ true) ⌝ }
+    ensures { λ r. ⌜ r ≡ quorumHeld kind (orderOf (now (t .entry))) (answers (now (t .entry)) (answering .bits)) (has (s .bits)) ⌝ }
+{
+    if s.is_empty() {
+        return false;
+    }
+    let list = list_in_force(t, o, p, answering, s);
+    let count = o.count;
+    lists::quorum(kind, &o.rows, count, list, s)
+}
