@@ -1,1 +1,2 @@
 pub mod ForceLaws
+pub mod JudgeLaws

@@ -4,7 +4,7 @@ use polls::Poll;
 use rows::RowSet;
 use table::{Order, both};
 ghost use mathlib.Core.Path.{_≡_};
-ghost use mathlib.Core.Bool.{true};
+ghost use mathlib.Core.Bool.{true, cond};
 ghost use Prim.Native.Nat.{ℕ};
 ghost use Rattle.rows.specs.Sets.{has};
 ghost use Rattle.table.specs.Layout.{nameOf};
@@ -54,4 +54,36 @@ pub fn quorum_held(kind: Kind, t: &[u8], o: Order, p: Poll, answering: RowSet, s
     let list = list_in_force(t, o, p, answering, s);
     let count = o.count;
     lists::quorum(kind, &o.rows, count, list, s)
+}
+
+// Questions 6 and 7 by their answers: the first no, 0 where there is none.
+fn refusal_of(held: bool, current: bool) -> u32
+    ensures { λ r. ⌜ r ≡ cond held (cond current 0 7) 6 ⌝ }
+{
+    if held {
+        if current {
+            return 0;
+        }
+        return 7;
+    }
+    6
+}
+
+// Questions 6 and 7 about a set of rows that answered, its good rows and their version.
+pub fn judge(kind: Kind, t: &[u8], o: Order, p: Poll, answering: RowSet, s: RowSet) -> Verdict
+    requires { ⌜ Gathered (now t) (o .rows) (o .count) p (answering .bits) × ((i : ℕ) → has (s .bits) i ≡ true → has (answering .bits) i ≡ true) ⌝ }
+    ensures { λ r. ⌜ Judged kind (now (t .entry)) (answering .bits) (has (s .bits)) r ⌝ }
+{
+    let unmarked = s.outside(p.stale);
+    let marked = s.cut(p.stale);
+    let version = polls::highest(&p.versions, unmarked);
+    let good = polls::having(&p.versions, unmarked, version);
+    let passed = polls::above(&p.desired, marked, version);
+    let lacking = good.is_empty();
+    let held = quorum_held(kind, t, o, p, answering, s);
+    Verdict {
+        refusal: refusal_of(held, both(!lacking, !passed)),
+        good: good,
+        version: version,
+    }
 }
