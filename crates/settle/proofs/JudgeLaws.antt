@@ -44,8 +44,8 @@ module _ (t rows : List ℕ) (count : ℕ) (p : Poll) (r : ℕ) (g : Gathered t 
   unfolding current
   current-is m w set e h k =
       ap₂ (λ (a b : Bool). a && not b) (not-not (some 64 set) ∙ ap (some 64) k)
-          (ap₂ (λ (v : ℕ → Bool) (f : ℕ → ℕ). some 64 (λ (i : ℕ). v i && ltb w (f i))) (e ∙ marked-is) (g .poll .desired)
-          ∙ ap (λ (x : ℕ). some 64 (λ (i : ℕ). marked (answers t r) s i && ltb x (answers t r .desired i))) h)
+      (ap₂ (λ (v : ℕ → Bool) (f : ℕ → ℕ). some 64 (λ (i : ℕ). v i && ltb w (f i))) (e ∙ marked-is) (g .poll .desired)
+      ∙ ap (λ (x : ℕ). some 64 (λ (i : ℕ). marked (answers t r) s i && ltb x (answers t r .desired i))) h)
 
   pub judged : (kind : Kind) (v : Verdict) (u m : ℕ → Bool) (lacking passed held : Bool) → u ≡ leftOf s (has (p .stale .bits))
       → m ≡ cutTo s (has (p .stale .bits))

@@ -1,2 +1,3 @@
 pub mod ForceLaws
 pub mod JudgeLaws
+pub mod SettleLaws

@@ -2,7 +2,8 @@
 use grid::Kind;
 use polls::Poll;
 use rows::RowSet;
-use table::{Order, both};
+use table::Order;
+use table::both;
 ghost use mathlib.Core.Path.{_≡_};
 ghost use mathlib.Core.Bool.{true, cond};
 ghost use Prim.Native.Nat.{ℕ};
@@ -18,6 +19,12 @@ pub struct Verdict {
     pub refusal: u32,
     pub good: RowSet,
     pub version: u32,
+}
+
+// The set that a call works on, and what is found of it.
+pub struct Settled {
+    pub rows: RowSet,
+    pub verdict: Verdict,
 }
 
 // The highest epoch in a set.
@@ -85,5 +92,29 @@ pub fn judge(kind: Kind, t: &[u8], o: Order, p: Poll, answering: RowSet, s: RowS
         refusal: refusal_of(held, both(!lacking, !passed)),
         good: good,
         version: version,
+    }
+}
+
+// P, the coordinator's own choice cut down to the rows that answered, if questions 6 and 7 are yes for it; otherwise all of them.
+pub fn settle(kind: Kind, t: &[u8], o: Order, p: Poll, answering: RowSet, c: usize) -> Settled
+    requires { ⌜ Gathered (now t) (o .rows) (o .count) p (answering .bits) × (has (answering .bits) c ≡ true) ⌝ }
+    ensures { λ r. ⌜ (has (r .rows .bits) ≡ workSet kind (now (t .entry)) c (answering .bits)) × Judged kind (now (t .entry)) (answering .bits) (has (r .rows .bits)) (r .verdict) ⌝ }
+{
+    let row = table::row_of(t, c);
+    let own = RowSet {
+        bits: table::members(row),
+    };
+    let count = o.count;
+    let tried = lists::choice(kind, &o.rows, count, own, table::name(row)).cut(answering);
+    let verdict = judge(kind, t, o, p, answering, tried);
+    if verdict.refusal == 0 {
+        return Settled {
+            rows: tried,
+            verdict: verdict,
+        };
+    }
+    Settled {
+        rows: answering,
+        verdict: judge(kind, t, o, p, answering, answering),
     }
 }

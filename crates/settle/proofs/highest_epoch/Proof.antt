@@ -1,17 +1,12 @@
-use Rattle.settle.proofs.ForceLaws.{epoch-is}
 use mathlib.Core.Path.{_∙_}
 use borrow.Author.Needs.{needs}
+use Rattle.settle.proofs.ForceLaws.{epoch-is}
 use Rattle.settle.proofs.highest_epoch.Statement.{statement}
 use Rattle.settle.proofs.highest_epoch.Tie as tie
-use Rattle.settle.proofs.highest_epoch.Reads as reads
-use Rattle.settle.proofs.highest_epoch.Lts as lts
-use Rattle.polls.proofs.highest.Reads as highest-reads
 
--- src/lib.rt:28:5
 highest-requires : tie.Need-highest-requires
 highest-requires c κs = search needs
 
--- src/lib.rt:24:1
 returns : tie.Need-returns
 returns c = let s = c .before .before .before .before in
     c .highest .ensures ∙ epoch-is _ _ _ _ (s .args .answering .bits) (s .args .s .bits) (s .pre)

@@ -1,45 +1,35 @@
-use mathlib.Core.Path.{_≡_, refl, sym, _∙_, ap, ap₂}
+use mathlib.Core.Path.{_≡_, refl, sym, _∙_, ap₂}
+use mathlib.Core.Bool.{true, false}
+use mathlib.Core.List.{List}
+use Prim.Native.Nat.{ℕ}
+use borrow.Author.Needs.{needs}
 use Rattle.settle.proofs.ForceLaws.{not-swap}
-use mathlib.Core.Bool.{Bool, not, cond, _&&_, true, false}
 use Rattle.rows.specs.Upto.{some}
 use Rattle.protocol.specs.Polls.{quorumHeld}
 use Rattle.protocol.specs.Lists.{listQuorum}
 use Rattle.rows.specs.Sets.{has}
-use Prim.Native.Nat.{ℕ}
-use mathlib.Core.List.{List}
-use borrow.Author.Needs.{needs}
 use Rattle.settle.proofs.quorum_held.Statement.{statement}
 use Rattle.settle.proofs.quorum_held.Tie as tie
-use Rattle.settle.proofs.quorum_held.Reads as reads
-use Rattle.settle.proofs.quorum_held.Lts as lts
-use Rattle.lists.proofs.quorum.Reads as quorum-reads
-use Rattle.rows.proofs.RowSet.is_empty.Reads as is-empty-reads
-use Rattle.settle.proofs.list_in_force.Reads as list-in-force-reads
 
--- src/lib.rt:51:8
 is-empty-requires : tie.Need-is-empty-requires
 is-empty-requires c κs = search needs
 
--- src/lib.rt:52:9
 returns : tie.Need-returns
 unfolding quorumHeld
-returns c = 
+returns c =
     let a = c .before .before .before .args in
     let none : some 64 (has (a .s .bits)) ≡ false = not-swap true _ (sym (c .if1 .taken) ∙ c .before .is-empty .ensures) in
     rw none refl
 
--- src/lib.rt:54:9
 list-in-force-requires : tie.Need-list-in-force-requires
 list-in-force-requires c κs = search needs
 
--- src/lib.rt:56:5
 quorum-requires : tie.Need-quorum-requires
 quorum-requires c κs = search needs
 
--- src/lib.rt:47:1
 returns-2 : tie.Need-returns-2
 unfolding quorumHeld
-returns-2 c = 
+returns-2 c =
     let k = c .before .before .before in
     let s = k .before .before .before .before in
     let a = s .args in
