@@ -143,15 +143,15 @@ pub record HeaderFacts (t : List ℕ) : Type 0 where
 pub header-facts : (t : List ℕ) → headerValues t ≡ true → HeaderFacts t
 unfolding headerValues
 header-facts t e =
-    let e1 = and-l (eqb (get form t) 1 && between 1 (capacityOf t) 64 && between 1 (usedOf t) (capacityOf t) && between 1 (firstOf t) (usedOf t) && between 1 (fileOf t) 4_096) _ e in
-    let e2 = and-l (eqb (get form t) 1 && between 1 (capacityOf t) 64 && between 1 (usedOf t) (capacityOf t) && between 1 (firstOf t) (usedOf t)) _ e1 in
-    let e3 = and-l (eqb (get form t) 1 && between 1 (capacityOf t) 64 && between 1 (usedOf t) (capacityOf t)) _ e2 in
-    let e4 = and-l (eqb (get form t) 1 && between 1 (capacityOf t) 64) _ e3 in
+    let c : between 1 (capacityOf t) 64 ≡ true = search (and-l, and-r) in
+    let u : between 1 (usedOf t) (capacityOf t) ≡ true = search (and-l, and-r) in
+    let f : between 1 (firstOf t) (usedOf t) ≡ true = search (and-l, and-r) in
+    let l : between 1 (fileOf t) 4_096 ≡ true = search (and-l, and-r) in
     record {
-      capacity = between-is 1 (capacityOf t) 64 (and-r (eqb (get form t) 1) _ e4);
-      used = between-is 1 (usedOf t) (capacityOf t) (and-r (eqb (get form t) 1 && between 1 (capacityOf t) 64) _ e3);
-      first = between-is 1 (firstOf t) (usedOf t) (and-r (eqb (get form t) 1 && between 1 (capacityOf t) 64 && between 1 (usedOf t) (capacityOf t)) _ e2);
-      file = between-is 1 (fileOf t) 4_096 (and-r (eqb (get form t) 1 && between 1 (capacityOf t) 64 && between 1 (usedOf t) (capacityOf t) && between 1 (firstOf t) (usedOf t)) _ e1);
+      capacity = between-is 1 (capacityOf t) 64 c;
+      used = between-is 1 (usedOf t) (capacityOf t) u;
+      first = between-is 1 (firstOf t) (usedOf t) f;
+      file = between-is 1 (fileOf t) 4_096 l;
     }
 
 -- the used rows lie within the table

@@ -1,48 +1,25 @@
--- What a well-formed table gives.
+-- What the code asks of a table and learns of it on its way through question 1.
 use mathlib.Core.Path.{_≡_, refl, sym, _∙_, ap}
-use mathlib.Core.Bool.{Bool, true, false, cond, _&&_, and-false}
+use mathlib.Core.Bool.{Bool, true, false, _&&_, and-false}
 use mathlib.Core.List.{List}
-use Prim.Native.Nat.{ℕ, zero, suc, _+_, _-_, _*_, _^_, _≤_, _<_}
+use Prim.Native.Nat.{ℕ, zero, suc, _+_, _-_, _*_, _≤_, _<_}
 use native.Mathlib.Nat.{mul-le-mul-right, suc-mul}
 use native.Mathlib.Omega.{arith}
-use lib.Dec.{eqb, leb, ltb}
 use lib.ListN.{length}
-use borrow.Author.Tests.{leb-true, ltb-true, eqb-true, ne-eqb}
+use borrow.Author.Tests.{eqb-true, ne-eqb}
 use Rattle.rows.specs.Upto.{Within, every}
-use Rattle.rows.specs.Sets.{has}
 use Rattle.rows.proofs.Bools.{and-l, and-r}
 use Rattle.rows.proofs.UptoLaws.{every-at}
-use Rattle.table.specs.Bytes.{part, allZero}
-use Rattle.table.specs.Layout.{get, name, link, mark, version, desired, epoch, members, reserved, capacityOf, usedOf, firstOf, fileOf, rowLength, rowsEnd, rowBytes, linkOf}
-use Rattle.table.specs.WellFormed.{between, limit, onlyRows, headerValues, lengthRight, rowValues, numbersSmall, desiredRight, listRight, rowRight, visitsEach, namesRise, unusedZero, listsAgree, wellFormed}
+use Rattle.table.specs.Bytes.{part}
+use Rattle.table.specs.Layout.{capacityOf, usedOf, fileOf, rowLength, rowsEnd, rowBytes, linkOf}
+use Rattle.table.specs.WellFormed.{headerValues, lengthRight, rowRight, visitsEach, namesRise, unusedZero, listsAgree, wellFormed}
 use Rattle.table.specs.Contracts.{Sized, Linked}
 use Rattle.table.proofs.ByteLaws.{length-part}
 use Rattle.table.proofs.CodeLaws.{and-assoc}
+use Rattle.table.proofs.FormLaws.{HeaderFacts, header-facts, row-facts}
 
-pub between-is : (a x b : ℕ) → between a x b ≡ true → (a ≤ x) × (x ≤ b)
-unfolding between
-between-is a x b e = (leb-true a x (and-l (leb a x) (leb x b) e), leb-true x b (and-r (leb a x) (leb x b) e))
-
--- ---- the header
-pub record Header (t : List ℕ) : Type 0 where
-  pub capacity : Within 64 (capacityOf t)
-  pub used : Within (capacityOf t) (usedOf t)
-  pub first : Within (usedOf t) (firstOf t)
-  pub file : Within 4_096 (fileOf t)
-
-pub header : {t : List ℕ} → headerValues t ≡ true → Header t
-unfolding headerValues
-header {t} e =
-    let c : between 1 (capacityOf t) 64 ≡ true = search (and-l, and-r) in
-    let u : between 1 (usedOf t) (capacityOf t) ≡ true = search (and-l, and-r) in
-    let f : between 1 (firstOf t) (usedOf t) ≡ true = search (and-l, and-r) in
-    let l : between 1 (fileOf t) 4_096 ≡ true = search (and-l, and-r) in
-    record {
-      capacity = between-is 1 (capacityOf t) 64 c;
-      used = between-is 1 (usedOf t) (capacityOf t) u;
-      first = between-is 1 (firstOf t) (usedOf t) f;
-      file = between-is 1 (fileOf t) 4_096 l;
-    }
+pub header : {t : List ℕ} → headerValues t ≡ true → HeaderFacts t
+header {t} e = header-facts t e
 
 pub row-length : (t : List ℕ) → rowLength t ≡ 32 + fileOf t
 unfolding rowLength fileOf
@@ -91,49 +68,13 @@ module _ {t : List ℕ} (s : Sized t) (i : ℕ) (w : Within (usedOf t) i) where
   pub row-long : 32 ≤ length (rowBytes t i)
   row-long = omega (arith, length-row, row-length t)
 
--- ---- a row by itself
-pub record Row (n i : ℕ) (row : List ℕ) : Type 0 where
-  pub named : Within 65_535 (get name row)
-  pub linked : get link row ≤ n
-  pub marked : get mark row ≤ 1
-  pub zero : allZero (reserved row) ≡ true
-  pub small-version : get version row ≤ 1_000_000
-  pub small-desired : get desired row ≤ 1_000_000
-  pub small-epoch : get epoch row ≤ 1_000_000
-  pub desired-is : cond (eqb (get mark row) 1) (ltb (get version row) (get desired row)) (eqb (get desired row) 0) ≡ true
-  pub only : get members row < 2 ^ n
-  pub own : has (get members row) i ≡ true
-
-pub row-is : {n i : ℕ} {row : List ℕ} → rowRight n i row ≡ true → Row n i row
-unfolding rowRight rowValues numbersSmall desiredRight listRight onlyRows limit
-row-is {n} {i} {row} e =
-    let nm : between 1 (get name row) 65_535 ≡ true = search (and-l, and-r) in
-    let lk : leb (get link row) n ≡ true = search (and-l, and-r) in
-    let mk : leb (get mark row) 1 ≡ true = search (and-l, and-r) in
-    let ve : leb (get version row) 1_000_000 ≡ true = search (and-l, and-r) in
-    let de : leb (get desired row) 1_000_000 ≡ true = search (and-l, and-r) in
-    let ep : leb (get epoch row) 1_000_000 ≡ true = search (and-l, and-r) in
-    let on : ltb (get members row) (2 ^ n) ≡ true = search (and-l, and-r) in
-    record {
-      named = between-is 1 (get name row) 65_535 nm;
-      linked = leb-true (get link row) n lk;
-      marked = leb-true (get mark row) 1 mk;
-      zero = search (and-l, and-r);
-      small-version = leb-true (get version row) 1_000_000 ve;
-      small-desired = leb-true (get desired row) 1_000_000 de;
-      small-epoch = leb-true (get epoch row) 1_000_000 ep;
-      desired-is = search (and-l, and-r);
-      only = ltb-true (get members row) (2 ^ n) on;
-      own = search (and-l, and-r);
-    }
-
 module _ {t : List ℕ} (l : Linked t) (i : ℕ) (w : Within (usedOf t) i) where
   pub row-right : rowRight (usedOf t) i (rowBytes t i) ≡ true
   row-right = every-at (usedOf t) (λ j. rowRight (usedOf t) j (rowBytes t j)) (l .rows) i w
 
   pub link-in : linkOf t i ≤ usedOf t
   unfolding linkOf
-  link-in = row-is row-right .linked
+  link-in = row-facts (usedOf t) i (rowBytes t i) row-right .linked
 
 -- ---- all of it
 module _ {t : List ℕ} (e : wellFormed t ≡ true) where
