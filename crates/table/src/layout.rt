@@ -4,7 +4,8 @@ ghost use mathlib.Core.Path.{_≡_};
 ghost use Prim.Native.Nat.{_+_, _≤_};
 ghost use lib.Dec.{eqb};
 ghost use lib.ListN.{length};
-ghost use Rattle.table.specs.Layout.{get, store, form, capacityOf, usedOf, firstOf, fileOf, name, link, mark, version, desired, epoch, members, storeContents};
+ghost use Rattle.table.specs.Layout.{get, store, form, capacityOf, usedOf, firstOf, fileOf, name, link, mark, version, desired, epoch, members, contents, storeContents};
+ghost use Rattle.table.specs.Bytes.{part};
 
 // The header.
 pub const HEADER: usize = 16;
@@ -178,4 +179,14 @@ pub fn patch(row: &mut [u8], offset: usize, bytes: &[u8])
     let from = HEAD + offset;
     let end = from + bytes.len();
     numbers::copy(&mut row[from..end], bytes);
+}
+
+// Bytes of the contents copied out, from an offset on.
+pub fn copy_out(row: &[u8], offset: usize, to: &mut [u8])
+    requires { ⌜ 32 + offset + length (now to) ≤ length (now row) ⌝ }
+    ensures { λ r. ⌜ now (to .exit) ≡ part offset (length (now (to .entry))) (contents (now (row .entry))) ⌝ }
+{
+    let from = HEAD + offset;
+    let end = from + to.len();
+    numbers::copy(to, &row[from..end]);
 }

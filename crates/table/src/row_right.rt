@@ -14,7 +14,7 @@ ghost use Rattle.table.specs.WellFormed.{onlyRows, rowValues, numbersSma
 const LIMIT: u32 = 1_000_000;
 
 // Does s name rows 1 to n only?
-fn only_rows(n: usize, s: u64) -> bool
+pub fn only_rows(n: usize, s: u64) -> bool
     requires { ⌜ n ≤ 64 ⌝ }
     ensures { λ r. ⌜ r ≡ onlyRows n s ⌝ }
 {
