@@ -1,0 +1,85 @@
+-- The questions before the poll, as the code puts them.
+use mathlib.Core.Path.{_≡_, refl, sym, _∙_, ap, ap₂}
+use mathlib.Core.Bool.{Bool, true, false, cond, _&&_}
+use mathlib.Core.List.{List, [], _∷_, _++_}
+use Prim.Native.Nat.{ℕ, _+_, _*_, _^_, _≤_}
+use native.Mathlib.Omega.{arith}
+use lib.Dec.{eqb, leb}
+use borrow.Author.Tests.{leb-true, le-leb}
+use Rattle.rows.specs.Sets.{has}
+use Rattle.rows.proofs.Bools.{and-l, and-r, and-i, same-test}
+use Rattle.table.specs.Layout.{usedOf}
+use Rattle.table.specs.WellFormed.{onlyRows, wellFormed}
+use Rattle.protocol.specs.Calls.{Call, Question, firstNo, questions, byCoordinator, isUsed, inFile, lent, outcome, resultOf}
+use Rattle.protocol.proofs.QuestionLaws.{ByCoordinator, yes-first, no-first, passed-first, refusal-is, when-refused}
+use Rattle.calls.specs.Stages.{toRange}
+
+-- questions that come after a no are not asked
+pub asked-more : (qs rest : List Question) → 1 ≤ firstNo qs → firstNo (qs ++ rest) ≡ firstNo qs
+unfolding firstNo
+asked-more [] rest h = absurd (omega arith)
+asked-more (q ∷ qs) rest h = go (q .yes) refl (asked-more qs rest)
+  where
+    go : (b : Bool) → q .yes ≡ b → (1 ≤ firstNo qs → firstNo (qs ++ rest) ≡ firstNo qs) → cond (q .yes) (firstNo (qs ++ rest)) (q .ask) ≡ cond (q .yes) (firstNo qs) (q .ask)
+    go true e ih = let g : 1 ≤ firstNo qs = rw e at h in rw e (ih g)
+    go false e ih = rw e refl
+
+pub range-test : (file offset count : ℕ) (b : Bool) → (b ≡ true → (1 ≤ count) × (offset + count ≤ file)) → (1 ≤ count → offset + count ≤ file → b ≡ true)
+    → b ≡ (leb 1 count && leb (offset + count) file)
+range-test file offset count b f g =
+    same-test b (leb 1 count && leb (offset + count) file) (λ e. and-i (leb 1 count) _ (le-leb _ _ (f e .0)) (le-leb _ _ (f e .1)))
+    (λ e. g (leb-true 1 count (and-l _ _ e)) (leb-true (offset + count) file (and-r (leb 1 count) _ e)))
+
+module _ (t : List ℕ) (c r : ℕ) where
+  -- questions 1 to 3 by their answers
+  pub by-answers : (x y z : Bool) → wellFormed t ≡ x → (isUsed t c && onlyRows (usedOf t) r) ≡ y → has r c ≡ z
+      → cond x (cond y (cond z 0 3) 2) 1 ≡ firstNo (byCoordinator t c r [])
+  unfolding firstNo byCoordinator
+  by-answers x y z ex ey ez = rw (ex, ey, ez) refl
+
+  pub after-three : (qs : List Question) → firstNo (byCoordinator t c r []) ≡ 0 → firstNo (byCoordinator t c r qs) ≡ firstNo qs
+  unfolding byCoordinator
+  after-three qs h =
+      let a = yes-first 0 (wellFormed t) _ h in
+      let b = yes-first 1 (isUsed t c && onlyRows (usedOf t) r) _ (a .1) in
+      let d = yes-first 2 (has r c) [] (b .1) in
+      no-first 1 (wellFormed t) _ (a .0) ∙ no-first 2 (isUsed t c && onlyRows (usedOf t) r) _ (b .0) ∙ no-first 3 (has r c) qs (d .0)
+
+  module _ (offset count : ℕ) where
+    pub range-no : (n : ℕ) → n ≡ firstNo (byCoordinator t c r []) → 1 ≤ n → n ≡ firstNo (toRange t c r offset count)
+    unfolding toRange byCoordinator
+    range-no n e h = e ∙ sym (asked-more (byCoordinator t c r []) (record { ask = 4; yes = inFile t offset count } ∷ []) (omega (arith, e)))
+
+    pub range-yes : (b : Bool) → firstNo (byCoordinator t c r []) ≡ 0 → b ≡ inFile t offset count → cond b 0 4 ≡ firstNo (toRange t c r offset count)
+    unfolding toRange firstNo
+    range-yes b h e = ap (λ (x : Bool). cond x 0 4) e ∙ sym (after-three (record { ask = 4; yes = inFile t offset count } ∷ []) h)
+
+    -- what passed 1 to 4
+    pub range-passed : firstNo (toRange t c r offset count) ≡ 0 → ByCoordinator t c r × (inFile t offset count ≡ true)
+    unfolding toRange
+    range-passed h = let a = passed-first t c r _ h in (a .0, yes-first 3 (inFile t offset count) [] (a .1) .0)
+
+    -- and what comes after it is all that is still asked
+    pub after-range : (qs : List Question) → firstNo (toRange t c r offset count) ≡ 0
+        → firstNo (byCoordinator t c r (record { ask = 4; yes = inFile t offset count } ∷ qs)) ≡ firstNo qs
+    unfolding toRange byCoordinator
+    after-range qs h =
+        let a = yes-first 0 (wellFormed t) _ h in
+        let b = yes-first 1 (isUsed t c && onlyRows (usedOf t) r) _ (a .1) in
+        let d = yes-first 2 (has r c) _ (b .1) in
+        let e = yes-first 3 (inFile t offset count) [] (d .1) in
+        no-first 1 (wellFormed t) _ (a .0) ∙ no-first 2 (isUsed t c && onlyRows (usedOf t) r) _ (b .0) ∙ no-first 3 (has r c) _ (d .0)
+        ∙ no-first 4 (inFile t offset count) qs (e .0)
+
+    pub before-range : (qs : List Question) (n : ℕ) → n ≡ firstNo (toRange t c r offset count) → 1 ≤ n
+        → firstNo (byCoordinator t c r (record { ask = 4; yes = inFile t offset count } ∷ qs)) ≡ n
+    unfolding toRange byCoordinator
+    before-range qs n e h = asked-more (byCoordinator t c r (record { ask = 4; yes = inFile t offset count } ∷ [])) qs (omega (arith, e)) ∙ sym e
+
+-- a refusal's result, and what it leaves in the buffer
+pub refused-is : (t : List ℕ) (k : Call) (n : ℕ) → firstNo (questions t k) ≡ n → 1 ≤ n → (n * 2 ^ 32 + 0 ≡ resultOf (outcome t k)) × (lent k ≡ outcome t k .buffer)
+unfolding resultOf
+refused-is t k n e h =
+    let r : outcome t k .refusal ≡ n = refusal-is t k ∙ e in
+    let w = when-refused t k (λ z. omega arith) in
+    (sym (ap₂ (λ (x y : ℕ). x * 2 ^ 32 + y) r (w .0)), sym (w .2))

@@ -1,0 +1,84 @@
+-- A read, as the code goes through it.
+use mathlib.Core.Path.{_≡_, refl, sym, _∙_, ap, ap₂}
+use mathlib.Core.Bool.{Bool, true, false, cond}
+use mathlib.Core.List.{List}
+use Prim.Native.Nat.{ℕ, _+_, _*_, _^_, _≤_}
+use native.Mathlib.Omega.{arith}
+use lib.Dec.{eqb}
+use lib.ListN.{length}
+use borrow.Author.Tests.{eq-eqb, ne-eqb}
+use Rattle.rows.specs.Upto.{Within, lowest}
+use Rattle.rows.specs.Sets.{has}
+use Rattle.rows.proofs.SetLaws.{has-within}
+use Rattle.grid.specs.declared.quorums.Kind.the-variants.{Read}
+use Rattle.table.specs.Bytes.{part}
+use Rattle.table.specs.Layout.{usedOf, nameOf, rowBytes, contents, contentsOf}
+use Rattle.table.specs.Chain.{orderOf}
+use Rattle.table.proofs.WellFormedLaws.{sized, row-length, length-row}
+use Rattle.protocol.specs.Polls.{goodVersion, good, current, quorumHeld}
+use Rattle.protocol.specs.Calls.{Outcome, read, firstNo, questions, answers, workSet, done, lent, outcome, resultOf}
+use Rattle.protocol.proofs.PollLaws.{lowest-good, worked-in}
+use Rattle.protocol.proofs.QuestionLaws.{read-yes, refusal-is, when-done}
+use Rattle.settle.specs.declared.Verdict.{Verdict}
+use Rattle.settle.specs.Judged.{Judged}
+use Rattle.calls.specs.Stages.{toRange}
+use Rattle.calls.proofs.QuestionLaws.{after-range, before-range, refused-is}
+
+module _ (t : List ℕ) (c r offset count : ℕ) (buffer : List ℕ) where
+  -- refused by 1 to 4
+  pub read-early : (n : ℕ) → n ≡ firstNo (toRange t c r offset count) → 1 ≤ n
+      → (n * 2 ^ 32 + 0 ≡ resultOf (outcome t (read c r offset count buffer))) × (buffer ≡ outcome t (read c r offset count buffer) .buffer)
+  unfolding questions lent
+  read-early n e h = refused-is t (read c r offset count buffer) n (before-range t c r offset count _ n e h) h
+
+  module _ (p : firstNo (toRange t c r offset count) ≡ 0) where
+    after-four : firstNo (questions t (read c r offset count buffer)) ≡ cond (eqb (length buffer) count) (cond (quorumHeld Read (orderOf t) (answers t r) (workSet Read t c r)) (cond (current (answers t r) (workSet Read t c r)) 0 7) 6) 5
+    unfolding questions firstNo
+    after-four = after-range t c r offset count _ p
+
+    -- refused by 5
+    pub read-long : (length buffer ≡ count → ⊥)
+        → (5 * 2 ^ 32 + 0 ≡ resultOf (outcome t (read c r offset count buffer))) × (buffer ≡ outcome t (read c r offset count buffer) .buffer)
+    unfolding lent
+    read-long d =
+        refused-is t (read c r offset count buffer) 5
+        (after-four ∙ ap (λ (b : Bool). cond b (cond (quorumHeld Read (orderOf t) (answers t r) (workSet Read t c r)) (cond (current (answers t r) (workSet Read t c r)) 0 7) 6) 5) (ne-eqb (length buffer) count d))
+        (omega arith)
+
+    module _ (l : length buffer ≡ count) (s : ℕ → Bool) (v : Verdict) (e : s ≡ workSet Read t c r) (j : Judged Read t r s v) where
+      after-poll : firstNo (questions t (read c r offset count buffer)) ≡ v .refusal
+      after-poll =
+          after-four
+          ∙ ap (λ (b : Bool). cond b (cond (quorumHeld Read (orderOf t) (answers t r) (workSet Read t c r)) (cond (current (answers t r) (workSet Read t c r)) 0 7) 6) 5) (eq-eqb (length buffer) count l)
+          ∙ sym (j .refusal ∙ ap (λ (x : ℕ → Bool). cond (quorumHeld Read (orderOf t) (answers t r) x) (cond (current (answers t r) x) 0 7) 6) e)
+
+      -- refused by 6 or 7
+      pub read-no : 1 ≤ v .refusal
+          → (v .refusal * 2 ^ 32 + 0 ≡ resultOf (outcome t (read c r offset count buffer))) × (buffer ≡ outcome t (read c r offset count buffer) .buffer)
+      unfolding lent
+      read-no h = refused-is t (read c r offset count buffer) (v .refusal) after-poll h
+
+      good-is : lowest 64 (has (v .good .bits)) ≡ lowest 64 (good (answers t r) (workSet Read t c r))
+      good-is = ap (lowest 64) (j .good ∙ ap (good (answers t r)) e)
+
+      module _ (z : v .refusal ≡ 0) where
+        pub source-used : Within (usedOf t) (lowest 64 (has (v .good .bits)))
+        unfolding workSet
+        source-used =
+            let y = read-yes t c r offset count buffer (after-poll ∙ z) in
+            let g = lowest-good (answers t r) (workSet Read t c r) (y .current) in
+            rw good-is (has-within (usedOf t) r _ (y .first .rows) (worked-in Read (orderOf t) (answers t r) c (nameOf t c) (has r) _ (g .1 .inside)))
+
+        pub range-in : 32 + offset + length buffer ≤ length (rowBytes t (lowest 64 (has (v .good .bits))))
+        range-in =
+            let y = read-yes t c r offset count buffer (after-poll ∙ z) in
+            omega (arith, length-row (sized (y .first .formed)) (lowest 64 (has (v .good .bits))) source-used, row-length t, y .range, l)
+
+        pub read-done : (0 * 2 ^ 32 + v .version ≡ resultOf (outcome t (read c r offset count buffer)))
+            × (part offset (length buffer) (contents (rowBytes t (lowest 64 (has (v .good .bits))))) ≡ outcome t (read c r offset count buffer) .buffer)
+        unfolding done resultOf contentsOf
+        read-done =
+            let o = when-done t (read c r offset count buffer) (refusal-is t (read c r offset count buffer) ∙ after-poll ∙ z) in (
+              ap (λ (x : ℕ). 0 * 2 ^ 32 + x) (j .version ∙ ap (goodVersion (answers t r)) e) ∙ sym (ap resultOf o),
+              ap₂ (λ (n i : ℕ). part offset n (contents (rowBytes t i))) l good-is ∙ sym (ap (λ (x : Outcome). x .buffer) o),
+            )

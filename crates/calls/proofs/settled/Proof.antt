@@ -1,0 +1,24 @@
+use borrow.Author.Needs.{needs}
+use Rattle.table.proofs.WellFormedLaws.{sized, linked}
+use Rattle.protocol.specs.Calls.{answers}
+use Rattle.calls.proofs.settled.Statement.{statement}
+use Rattle.calls.proofs.settled.Tie as tie
+
+chain-order-requires : tie.Need-chain-order-requires
+chain-order-requires c κs = linked (c .before .pre .0)
+
+gather-requires : tie.Need-gather-requires
+gather-requires c κs = let s = c .before .before in (sized (s .pre .0), s .pre .1)
+
+settle-requires : tie.Need-settle-requires
+unfolding answers
+settle-requires c κs =
+    let s = c .before .before .before in
+    let o = c .before .chain-order .ensures in
+    (record { sized = sized (s .pre .0); places = o .0 .places; few = o .0 .few; order = o .1; poll = c .gather .ensures; used = s .pre .1 }, s .pre .2)
+
+returns : tie.Need-returns
+returns c = search needs
+
+pub settled-spec : {M : Type 1} → statement M
+settled-spec = tie.close (tie.spec chain-order-requires gather-requires settle-requires returns)
