@@ -52,7 +52,7 @@ founds-of t capacity file names h =
     }
 
 -- ---- the pieces
-length-zeros : (n : ℕ) → length (Calls.zeros n) ≡ n
+pub length-zeros : (n : ℕ) → length (Calls.zeros n) ≡ n
 unfolding Calls.zeros
 length-zeros n = length-replicate {A = ℕ} n 0
 
@@ -61,7 +61,7 @@ unfolding allZero Calls.zeros
 zeros-zero zero = refl
 zeros-zero (suc n) = zeros-zero n
 
-length-header : (c n file : ℕ) → length (Calls.foundedHeader c n file) ≡ 16
+pub length-header : (c n file : ℕ) → length (Calls.foundedHeader c n file) ≡ 16
 unfolding Calls.foundedHeader Calls.zeros bytesOf
 length-header c n file = refl
 
@@ -69,7 +69,7 @@ length-row : (n file i x : ℕ) → length (Calls.foundedRow n file i x) ≡ 32 
 unfolding Calls.foundedRow
 length-row n file i x = simp (length-append, length-bytes, length-zeros) (omega arith)
 
-length-rows : (n file i : ℕ) (l : List ℕ) → length (Calls.foundedRows n file i l) ≡ length l * (32 + file)
+pub length-rows : (n file i : ℕ) (l : List ℕ) → length (Calls.foundedRows n file i l) ≡ length l * (32 + file)
 unfolding Calls.foundedRows
 length-rows n file i [] = sym (zero-mul (32 + file))
 length-rows n file i (x ∷ l) =

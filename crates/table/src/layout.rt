@@ -4,7 +4,7 @@ ghost use mathlib.Core.Path.{_≡_};
 ghost use Prim.Native.Nat.{_+_, _≤_};
 ghost use lib.Dec.{eqb};
 ghost use lib.ListN.{length};
-ghost use Rattle.table.specs.Layout.{get, store, form, capacityOf, usedOf, firstOf, fileOf, name, link, mark, version, desired, epoch, members, contents, storeContents};
+ghost use Rattle.table.specs.Layout.{get, store, form, capacity, used, first, fileLength, capacityOf, usedOf, firstOf, fileOf, name, link, mark, version, desired, epoch, members, contents, storeContents};
 ghost use Rattle.table.specs.Bytes.{part};
 
 // The header.
@@ -79,6 +79,18 @@ pub fn file_length(t: &[u8]) -> usize
     numbers::u16_at(t, FILE_AT) as usize
 }
 
+// The header of a table whose chain starts at row 1.
+pub fn set_header(t: &mut [u8], rows: u8, n: u8, file: u16)
+    requires { ⌜ 16 ≤ length (now t) ⌝ }
+    ensures { λ r. ⌜ now (t .exit) ≡ store fileLength file (store first 1 (store used n (store capacity rows (store form 1 (now (t .entry)))))) ⌝ }
+{
+    numbers::store_at(t, FORM_AT, 1, 1);
+    numbers::store_at(t, CAPACITY_AT, 1, rows as u64);
+    numbers::store_at(t, USED_AT, 1, n as u64);
+    numbers::store_at(t, FIRST_AT, 1, 1);
+    numbers::store_at(t, FILE_AT, 2, file as u64);
+}
+
 // ---- a row's fields
 pub fn name(row: &[u8]) -> u16
     requires { ⌜ 32 ≤ length (now row) ⌝ }
@@ -134,6 +146,20 @@ pub fn members(row: &[u8]) -> u64
     ensures { λ r. ⌜ r ≡ get members (now (row .entry)) ⌝ }
 {
     numbers::u64_at(row, MEMBERS_AT)
+}
+
+pub fn set_name(row: &mut [u8], v: u16)
+    requires { ⌜ 32 ≤ length (now row) ⌝ }
+    ensures { λ r. ⌜ now (row .exit) ≡ store name v (now (row .entry)) ⌝ }
+{
+    numbers::store_at(row, NAME_AT, 2, v as u64);
+}
+
+pub fn set_link(row: &mut [u8], v: u8)
+    requires { ⌜ 32 ≤ length (now row) ⌝ }
+    ensures { λ r. ⌜ now (row .exit) ≡ store link v (now (row .entry)) ⌝ }
+{
+    numbers::store_at(row, LINK_AT, 1, v as u64);
 }
 
 pub fn set_mark(row: &mut [u8], v: u8)

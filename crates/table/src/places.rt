@@ -2,18 +2,26 @@
 use crate::layout;
 ghost use mathlib.Core.Path.{_≡_};
 ghost use mathlib.Core.Bool.{true};
-ghost use Prim.Native.Nat.{_≤_};
+ghost use Prim.Native.Nat.{_+_, _≤_};
 ghost use lib.ListN.{length};
 ghost use Rattle.rows.specs.Upto.{Within};
 ghost use Rattle.table.specs.Layout.{capacityOf, usedOf, rowLength, rowsEnd, rowBytes};
 ghost use Rattle.table.specs.WellFormed.{headerValues};
 ghost use Rattle.table.specs.Contracts.{Sized};
 
+// The length of a row, from the length of the file.
+pub fn row_size(file: usize) -> usize
+    requires { ⌜ file ≤ 4_096 ⌝ }
+    ensures { λ r. ⌜ r ≡ 32 + file ⌝ }
+{
+    layout::HEAD + file
+}
+
 pub fn row_length(t: &[u8]) -> usize
     requires { ⌜ (16 ≤ length (now t)) × (headerValues (now t) ≡ true) ⌝ }
     ensures { λ r. ⌜ r ≡ rowLength (now (t .entry)) ⌝ }
 {
-    layout::HEAD + layout::file_length(t)
+    row_size(layout::file_length(t))
 }
 
 // Where the rows behind row k start.

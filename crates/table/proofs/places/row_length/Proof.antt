@@ -7,11 +7,11 @@ use Rattle.table.proofs.places.row_length.Tie as tie
 file-length-requires : tie.Need-file-length-requires
 file-length-requires c κs = search needs
 
-add-result : tie.Need-add-result
-add-result c = omega (arith, c .file-length .ensures, header (c .before .before .pre .1) .file)
+row-size-requires : tie.Need-row-size-requires
+row-size-requires c κs = omega (arith, c .file-length .ensures, header (c .before .before .pre .1) .file)
 
 returns : tie.Need-returns
-returns c = omega (arith, c .file-length .ensures, row-length (c .before .before .args .t .now))
+returns c = omega (arith, c .row-size .ensures, c .before .file-length .ensures, row-length (c .before .before .before .args .t .now))
 
 pub row-length-spec : {M : Type 1} → statement M
-row-length-spec = tie.close (tie.spec file-length-requires add-result returns)
+row-length-spec = tie.close (tie.spec file-length-requires row-size-requires returns)

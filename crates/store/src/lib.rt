@@ -1,0 +1,207 @@
+// The rows of a table written: by a write, by an epoch check, by a refresh, by a founding.
+use rows::RowSet;
+ghost use mathlib.Core.Path.{_≡_};
+ghost use mathlib.Core.Bool.{cond};
+ghost use mathlib.Core.Logic.{_⊎_, _≢_};
+ghost use Prim.Native.Nat.{_+_, _*_, _≤_};
+ghost use lib.Dec.{eqb};
+ghost use lib.ListN.{length};
+ghost use Rattle.rows.specs.Upto.{Within};
+ghost use Rattle.rows.specs.Sets.{has};
+ghost use Rattle.table.specs.Bytes.{part, put};
+ghost use Rattle.table.specs.Layout.{store, name, link, mark, version, desired, members, usedOf, rowLength, rowBytes};
+ghost use Rattle.table.specs.Contracts.{Sized};
+ghost use Rattle.protocol.specs.Rows.{markedRow, patchedRow, enrolledRow, refreshedRow, withRow, withRows, wroteRow, checkedRow};
+ghost use Rattle.protocol.specs.Calls.{namesIn, founded};
+
+// A row is marked and desires a version.
+fn mark_row(row: &mut [u8], desired: u32)
+    requires { ⌜ 32 ≤ length (now row) ⌝ }
+    ensures { λ r. ⌜ now (row .exit) ≡ markedRow desired (now (row .entry)) ⌝ }
+{
+    table::set_mark(row, 1);
+    table::set_desired(row, desired);
+}
+
+// A row takes a patch, and a version.
+fn patch_row(row: &mut [u8], version: u32, offset: usize, patch: &[u8])
+    requires { ⌜ 32 + offset + length (now patch) ≤ length (now row) ⌝ }
+    ensures { λ r. ⌜ now (row .exit) ≡ patchedRow version offset (now (patch .entry)) (now (row .entry)) ⌝ }
+{
+    table::set_version(row, version);
+    table::patch(row, offset, patch);
+}
+
+// What a write makes of a row: of a good one that it works on, of another that it works on, of any other.
+fn write_row(row: &mut [u8], works: bool, good: bool, version: u32, offset: usize, patch: &[u8])
+    requires { ⌜ 32 + offset + length (now patch) ≤ length (now row) ⌝ }
+    ensures { λ r. ⌜ now (row .exit) ≡ cond works (cond good (patchedRow version offset (now (patch .entry)) (now (row .entry))) (markedRow version (now (row .entry)))) (now (row .entry)) ⌝ }
+{
+    if works {
+        if good {
+            patch_row(row, version, offset, patch);
+        } else {
+            mark_row(row, version);
+        }
+    }
+}
+
+// What a write makes of the rows.
+pub fn write_rows(
+    t: &mut [u8],
+    works: RowSet,
+    good: RowSet,
+    version: u32,
+    offset: usize,
+    patch: &[u8],
+)
+    requires { ⌜ Sized (now t) × (32 + offset + length (now patch) ≤ rowLength (now t)) ⌝ }
+    ensures { λ r. ⌜ now (t .exit) ≡ withRows (now (t .entry)) (has (works .bits)) (wroteRow (has (good .bits)) version offset (now (patch .entry))) (usedOf (now (t .entry))) ⌝ }
+{
+    let used = table::used(t);
+    let size = table::row_length(t);
+    let mut at = table::rows_end(t, 0);
+    let mut i = 0;
+    while i < used {
+        i += 1;
+        write_row(
+            &mut t[at..at + size],
+            works.has(i),
+            good.has(i),
+            version,
+            offset,
+            patch,
+        );
+        at += size;
+    }
+}
+
+// A row gets an epoch number and its list.
+fn enroll_row(row: &mut [u8], epoch: u32, list: u64)
+    requires { ⌜ 32 ≤ length (now row) ⌝ }
+    ensures { λ r. ⌜ now (row .exit) ≡ enrolledRow epoch list (now (row .entry)) ⌝ }
+{
+    table::set_epoch(row, epoch);
+    table::set_members(row, list);
+}
+
+// A row that is not good is marked.
+fn mark_other(row: &mut [u8], good: bool, desired: u32)
+    requires { ⌜ 32 ≤ length (now row) ⌝ }
+    ensures { λ r. ⌜ now (row .exit) ≡ cond good (now (row .entry)) (markedRow desired (now (row .entry))) ⌝ }
+{
+    if good {
+        return;
+    }
+    mark_row(row, desired);
+}
+
+// What an epoch check makes of a row: of a good one of the new list, of another of it, of any other.
+fn check_row(row: &mut [u8], listed: bool, good: bool, version: u32, epoch: u32, list: u64)
+    requires { ⌜ 32 ≤ length (now row) ⌝ }
+    ensures { λ r. ⌜ now (row .exit) ≡ cond listed (enrolledRow epoch list (cond good (now (row .entry)) (markedRow version (now (row .entry))))) (now (row .entry)) ⌝ }
+{
+    if listed {
+        mark_other(row, good, version);
+        enroll_row(row, epoch, list);
+    }
+}
+
+// What an epoch check makes of the rows.
+pub fn check_rows(t: &mut [u8], set: RowSet, good: RowSet, version: u32, epoch: u32)
+    requires { ⌜ Sized (now t) ⌝ }
+    ensures { λ r. ⌜ now (t .exit) ≡ withRows (now (t .entry)) (has (set .bits)) (checkedRow (has (good .bits)) version epoch (set .bits)) (usedOf (now (t .entry))) ⌝ }
+{
+    let used = table::used(t);
+    let size = table::row_length(t);
+    let mut at = table::rows_end(t, 0);
+    let mut i = 0;
+    while i < used {
+        i += 1;
+        check_row(
+            &mut t[at..at + size],
+            set.has(i),
+            good.has(i),
+            version,
+            epoch,
+            set.bits,
+        );
+        at += size;
+    }
+}
+
+// A row is unmarked, has a version and desires none.
+fn renew_row(row: &mut [u8], v: u32)
+    requires { ⌜ 32 ≤ length (now row) ⌝ }
+    ensures { λ r. ⌜ now (row .exit) ≡ store desired 0 (store version v (store mark 0 (now (row .entry)))) ⌝ }
+{
+    table::set_mark(row, 0);
+    table::set_version(row, v);
+    table::set_desired(row, 0);
+}
+
+// Bytes copied within a slice, between ranges that lie apart.
+fn copy_apart(t: &mut [u8], from: usize, to: usize, n: usize)
+    requires { ⌜ (from + n ≤ length (now t)) × (to + n ≤ length (now t)) × ((from + n ≤ to) ⊎ (to + n ≤ from)) ⌝ }
+    ensures { λ r. ⌜ now (t .exit) ≡ put to (part from n (now (t .entry))) (now (t .entry)) ⌝ }
+{
+    let mut i = 0;
+    while i < n {
+        t[to + i] = t[from + i];
+        i += 1;
+    }
+}
+
+// Row `to` takes the contents and the version of row `from`. The contents are a row's last bytes.
+pub fn refresh(t: &mut [u8], from: usize, to: usize)
+    requires { ⌜ Sized (now t) × Within (usedOf (now t)) from × Within (usedOf (now t)) to × (from ≢ to) ⌝ }
+    ensures { λ r. ⌜ now (t .exit) ≡ withRow (now (t .entry)) to (refreshedRow (rowBytes (now (t .entry)) from)) ⌝ }
+{
+    let version = table::version(table::row_of(t, from));
+    let file = table::file_length(t);
+    let source = table::rows_end(t, from) - file;
+    let target = table::rows_end(t, to) - file;
+    let size = table::row_length(t);
+    let at = table::rows_end(t, to - 1);
+    renew_row(&mut t[at..at + size], version);
+    copy_apart(t, source, target, file);
+}
+
+// The row behind row i in the chain of the rows 1 to n: 0 behind the last.
+fn next_row(i: usize, n: usize) -> u8
+    requires { ⌜ (i ≤ n) × (n ≤ 64) ⌝ }
+    ensures { λ r. ⌜ r ≡ cond (eqb i n) 0 (i + 1) ⌝ }
+{
+    if i == n { 0 } else { (i + 1) as u8 }
+}
+
+// A row gets its name, the next row and the list.
+fn found_row(row: &mut [u8], x: u16, next: u8, list: u64)
+    requires { ⌜ 32 ≤ length (now row) ⌝ }
+    ensures { λ r. ⌜ now (row .exit) ≡ store members list (store link next (store name x (now (row .entry)))) ⌝ }
+{
+    table::set_name(row, x);
+    table::set_link(row, next);
+    table::set_members(row, list);
+}
+
+// A table of so many rows for a file of so many bytes, with the named rows in it.
+pub fn found(t: &mut [u8], capacity: usize, file: usize, names: &[u8])
+    requires { ⌜ (length (now t) ≡ 16 + capacity * (32 + file)) × Within 4_096 file × (capacity ≤ 64) × (length (now names) ≡ 2 * length (namesIn (now names))) × Within capacity (length (namesIn (now names))) ⌝ }
+    ensures { λ r. ⌜ now (t .exit) ≡ founded capacity file (namesIn (now (names .entry))) ⌝ }
+{
+    let n = names.len() / 2;
+    let list = RowSet::first(n);
+    let size = table::row_size(file);
+    // the rows stand behind the header, up to the end
+    let mut at = t.len() - capacity * size;
+    table::fill(t, 0);
+    table::set_header(t, capacity as u8, n as u8, file as u16);
+    let mut i = 0;
+    while i < n {
+        let x = table::u16_at(names, 2 * i);
+        i += 1;
+        found_row(&mut t[at..at + size], x, next_row(i, n), list.bits);
+        at += size;
+    }
+}
