@@ -76,10 +76,26 @@ module _ (t : List ℕ) (c r : ℕ) where
     unfolding toRange byCoordinator
     before-range qs n e h = asked-more (byCoordinator t c r (record { ask = 4; yes = inFile t offset count } ∷ [])) qs (omega (arith, e)) ∙ sym e
 
--- a refusal's result, and what it leaves in the buffer
-pub refused-is : (t : List ℕ) (k : Call) (n : ℕ) → firstNo (questions t k) ≡ n → 1 ≤ n → (n * 2 ^ 32 + 0 ≡ resultOf (outcome t k)) × (lent k ≡ outcome t k .buffer)
+-- a refusal's result, and what it leaves
+pub record Refused (t : List ℕ) (k : Call) (n : ℕ) : Type 0 where
+  pub result : n * 2 ^ 32 + 0 ≡ resultOf (outcome t k)
+  pub table : t ≡ outcome t k .table
+  pub buffer : lent k ≡ outcome t k .buffer
+
+pub refused-is : (t : List ℕ) (k : Call) (n : ℕ) → firstNo (questions t k) ≡ n → 1 ≤ n → Refused t k n
 unfolding resultOf
 refused-is t k n e h =
     let r : outcome t k .refusal ≡ n = refusal-is t k ∙ e in
     let w = when-refused t k (λ z. omega arith) in
-    (sym (ap₂ (λ (x y : ℕ). x * 2 ^ 32 + y) r (w .0)), sym (w .2))
+    record { result = sym (ap₂ (λ (x y : ℕ). x * 2 ^ 32 + y) r (w .0)); table = sym (w .1); buffer = sym (w .2) }
+
+-- questions 6 and 7 by the first no among them, and what is asked after them
+pub no-in : (q k : Bool) (x n : ℕ) → n ≡ cond q (cond k 0 7) 6 → 1 ≤ n → cond q (cond k x 7) 6 ≡ n
+no-in true true x n e h = absurd (omega arith)
+no-in true false x n e h = sym e
+no-in false k x n e h = sym e
+
+pub yes-in : (q k : Bool) (x n : ℕ) → n ≡ cond q (cond k 0 7) 6 → n ≡ 0 → cond q (cond k x 7) 6 ≡ x
+yes-in true true x n e h = refl
+yes-in true false x n e h = absurd (omega arith)
+yes-in false k x n e h = absurd (omega arith)

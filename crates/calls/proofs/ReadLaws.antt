@@ -16,19 +16,19 @@ use Rattle.table.specs.Layout.{usedOf, nameOf, rowBytes, contents, contentsOf}
 use Rattle.table.specs.Chain.{orderOf}
 use Rattle.table.proofs.WellFormedLaws.{sized, row-length, length-row}
 use Rattle.protocol.specs.Polls.{goodVersion, good, current, quorumHeld}
-use Rattle.protocol.specs.Calls.{Outcome, read, firstNo, questions, answers, workSet, done, lent, outcome, resultOf}
+use Rattle.protocol.specs.Calls.{Outcome, read, firstNo, questions, answers, workSet, done, outcome, resultOf}
 use Rattle.protocol.proofs.PollLaws.{lowest-good, worked-in}
 use Rattle.protocol.proofs.QuestionLaws.{read-yes, refusal-is, when-done}
 use Rattle.settle.specs.declared.Verdict.{Verdict}
 use Rattle.settle.specs.Judged.{Judged}
 use Rattle.calls.specs.Stages.{toRange}
-use Rattle.calls.proofs.QuestionLaws.{after-range, before-range, refused-is}
+use Rattle.calls.proofs.QuestionLaws.{after-range, before-range, Refused, refused-is}
 
 module _ (t : List ℕ) (c r offset count : ℕ) (buffer : List ℕ) where
   -- refused by 1 to 4
   pub read-early : (n : ℕ) → n ≡ firstNo (toRange t c r offset count) → 1 ≤ n
-      → (n * 2 ^ 32 + 0 ≡ resultOf (outcome t (read c r offset count buffer))) × (buffer ≡ outcome t (read c r offset count buffer) .buffer)
-  unfolding questions lent
+      → Refused t (read c r offset count buffer) n
+  unfolding questions
   read-early n e h = refused-is t (read c r offset count buffer) n (before-range t c r offset count _ n e h) h
 
   module _ (p : firstNo (toRange t c r offset count) ≡ 0) where
@@ -38,8 +38,7 @@ module _ (t : List ℕ) (c r offset count : ℕ) (buffer : List ℕ) where
 
     -- refused by 5
     pub read-long : (length buffer ≡ count → ⊥)
-        → (5 * 2 ^ 32 + 0 ≡ resultOf (outcome t (read c r offset count buffer))) × (buffer ≡ outcome t (read c r offset count buffer) .buffer)
-    unfolding lent
+        → Refused t (read c r offset count buffer) 5
     read-long d =
         refused-is t (read c r offset count buffer) 5
         (after-four ∙ ap (λ (b : Bool). cond b (cond (quorumHeld Read (orderOf t) (answers t r) (workSet Read t c r)) (cond (current (answers t r) (workSet Read t c r)) 0 7) 6) 5) (ne-eqb (length buffer) count d))
@@ -54,8 +53,7 @@ module _ (t : List ℕ) (c r offset count : ℕ) (buffer : List ℕ) where
 
       -- refused by 6 or 7
       pub read-no : 1 ≤ v .refusal
-          → (v .refusal * 2 ^ 32 + 0 ≡ resultOf (outcome t (read c r offset count buffer))) × (buffer ≡ outcome t (read c r offset count buffer) .buffer)
-      unfolding lent
+          → Refused t (read c r offset count buffer) (v .refusal)
       read-no h = refused-is t (read c r offset count buffer) (v .refusal) after-poll h
 
       good-is : lowest 64 (has (v .good .bits)) ≡ lowest 64 (good (answers t r) (workSet Read t c r))

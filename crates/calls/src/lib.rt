@@ -11,9 +11,12 @@ ghost use lib.Dec.{leb};
 ghost use Rattle.rows.specs.Sets.{has};
 ghost use Rattle.table.specs.Layout.{usedOf};
 ghost use Rattle.table.specs.WellFormed.{wellFormed};
-ghost use Rattle.protocol.specs.Calls.{firstNo, byCoordinator, workSet, resultOf, outcome, read};
+ghost use Rattle.protocol.specs.Calls.{firstNo, byCoordinator, workSet, resultOf, outcome, read, write};
 ghost use Rattle.settle.specs.Judged.{Judged};
 ghost use Rattle.calls.specs.Stages.{toRange};
+
+// No version and no epoch number passes this.
+const LIMIT: u32 = 1_000_000;
 
 // A result: refusal number times 2^32, plus value.
 fn result(refusal: u32, value: u32) -> u64
@@ -98,4 +101,25 @@ pub fn read(t: &[u8], c: usize, r: u64, offset: usize, count: usize, buffer: &mu
     let source = s.verdict.good.lowest();
     table::copy_out(table::row_of(t, source), offset, buffer);
     result(0, s.verdict.version)
+}
+
+// A write: the patch goes to the good rows worked on, the others are marked. Value: the new version.
+pub fn write(t: &mut [u8], c: usize, r: u64, offset: usize, patch: &[u8]) -> u64
+    ensures { λ x. ⌜ (x ≡ resultOf (outcome (now (t .entry)) (write c r offset (now (patch .entry))))) × (now (t .exit) ≡ outcome (now (t .entry)) (write c r offset (now (patch .entry))) .table) ⌝ }
+{
+    let answering = RowSet { bits: r };
+    let no = range_asked(t, c, answering, offset, patch.len());
+    if no != 0 {
+        return result(no, 0);
+    }
+    let s = settled(Kind::Write, t, c, answering);
+    if s.verdict.refusal != 0 {
+        return result(s.verdict.refusal, 0);
+    }
+    if LIMIT <= s.verdict.version {
+        return result(8, 0);
+    }
+    let version = s.verdict.version + 1;
+    store::write_rows(t, s.rows, s.verdict.good, version, offset, patch);
+    result(0, version)
 }

@@ -2,6 +2,7 @@ use mathlib.Core.Path.{_≡_, sym, _∙_, ap}
 use native.Mathlib.Omega.{arith}
 use borrow.Author.Needs.{needs}
 use lib.ListN.{length}
+use Rattle.protocol.specs.Calls.{lent}
 use Rattle.calls.proofs.ReadLaws.{read-early, read-long, read-no, source-used, range-in, read-done}
 use Rattle.calls.proofs.QuestionLaws.{range-passed}
 use Rattle.table.proofs.WellFormedLaws.{sized}
@@ -17,21 +18,23 @@ result-requires : tie.Need-result-requires
 result-requires c κs = search needs
 
 returns : tie.Need-returns
+unfolding lent
 returns c =
     let a = c .before .before .before .before .before .args in
     let no = read-early (a .t .now) (a .c) (a .r) (a .offset) (a .count) (a .buffer .now) _ (c .before .before .range-asked .ensures) (omega arith) in
-    (c .result .ensures ∙ no .0, no .1)
+    (c .result .ensures ∙ no .result, no .buffer)
 
 result-requires-2 : tie.Need-result-requires-2
 result-requires-2 c κs = search needs
 
 returns-2 : tie.Need-returns-2
+unfolding lent
 returns-2 c =
     let a = c .before .before .before .before .before .before .args in
     let none : c .before .before .before .range-asked .result ≡ 0 = omega arith in
     let passed = sym (c .before .before .before .range-asked .ensures) ∙ none in
     let no = read-long (a .t .now) (a .c) (a .r) (a .offset) (a .count) (a .buffer .now) passed (λ e. omega arith) in
-    (c .result2 .ensures ∙ no .0, no .1)
+    (c .result2 .ensures ∙ no .result, no .buffer)
 
 settled-requires : tie.Need-settled-requires
 settled-requires c κs =
@@ -45,6 +48,7 @@ result-requires-3 : tie.Need-result-requires-3
 result-requires-3 c κs = search needs
 
 returns-3 : tie.Need-returns-3
+unfolding lent
 returns-3 c =
     let a = c .before .before .before .before .before .before .before .before .before .args in
     let none : c .before .before .before .before .before .before .range-asked .result ≡ 0 = omega arith in
@@ -52,7 +56,7 @@ returns-3 c =
     let same : length (a .buffer .now) ≡ a .count = omega arith in
     let s = c .before .before .before .settled in
     let no = read-no (a .t .now) (a .c) (a .r) (a .offset) (a .count) (a .buffer .now) passed same _ (s .result .verdict) (s .ensures .0) (s .ensures .1) (omega arith) in
-    (c .result3 .ensures ∙ no .0, no .1)
+    (c .result3 .ensures ∙ no .result, no .buffer)
 
 lowest-requires : tie.Need-lowest-requires
 lowest-requires c κs = search needs
