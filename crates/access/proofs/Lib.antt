@@ -1,3 +1,2 @@
-pub mod QuestionLaws
 pub mod ReadLaws
 pub mod WriteLaws

@@ -20,8 +20,8 @@ use Rattle.protocol.specs.Calls.{Outcome, write, firstNo, questions, answers, w
 use Rattle.protocol.proofs.QuestionLaws.{write-yes, refusal-is, when-done}
 use Rattle.settle.specs.declared.Verdict.{Verdict}
 use Rattle.settle.specs.Judged.{Judged}
-use Rattle.calls.specs.Stages.{toRange}
-use Rattle.calls.proofs.QuestionLaws.{after-range, before-range, Refused, refused-is, no-in, yes-in}
+use Rattle.questions.specs.Stages.{toRange}
+use Rattle.questions.proofs.QuestionLaws.{after-range, before-range, Refused, refused-is, no-in, yes-in}
 
 module _ (t : List ℕ) (c r offset : ℕ) (patch : List ℕ) where
   -- refused by 1 to 4
@@ -52,12 +52,12 @@ module _ (t : List ℕ) (c r offset : ℕ) (patch : List ℕ) where
       after-seven = after-four ∙ yes-in (quorumHeld Write (orderOf t) (answers t r) (workSet Write t c r)) (current (answers t r) (workSet Write t c r)) (cond (ltb (v .version) limit) 0 8) (v .refusal) verdict-is z
 
       -- refused by 8
-      pub write-full : limit ≤ v .version → Refused t (write c r offset patch) 8
-      write-full h = refused-is t (write c r offset patch) 8 (after-seven ∙ ap (λ (b : Bool). cond b 0 8) (same-test (ltb (v .version) limit) false (λ q. absurd (omega (arith, ltb-true (v .version) limit q))) (λ q. absurd (clash q)))) (omega arith)
+      pub write-full : ltb (v .version) limit ≡ false → Refused t (write c r offset patch) 8
+      write-full h = refused-is t (write c r offset patch) 8 (after-seven ∙ ap (λ (b : Bool). cond b 0 8) h) (omega arith)
 
-      module _ (l : v .version < limit) where
+      module _ (l : ltb (v .version) limit ≡ true) where
         all-yes : firstNo (questions t (write c r offset patch)) ≡ 0
-        all-yes = after-seven ∙ ap (λ (b : Bool). cond b 0 8) (lt-ltb (v .version) limit l)
+        all-yes = after-seven ∙ ap (λ (b : Bool). cond b 0 8) l
 
         pub patch-in : 32 + offset + length patch ≤ rowLength t
         patch-in = omega (arith, row-length t, write-yes t c r offset patch all-yes .range)

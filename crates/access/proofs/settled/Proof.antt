@@ -1,8 +1,8 @@
 use borrow.Author.Needs.{needs}
 use Rattle.table.proofs.WellFormedLaws.{sized, linked}
 use Rattle.protocol.specs.Calls.{answers}
-use Rattle.calls.proofs.settled.Statement.{statement}
-use Rattle.calls.proofs.settled.Tie as tie
+use Rattle.access.proofs.settled.Statement.{statement}
+use Rattle.access.proofs.settled.Tie as tie
 
 chain-order-requires : tie.Need-chain-order-requires
 chain-order-requires c κs = linked (c .before .pre .0)

@@ -3,13 +3,13 @@ use mathlib.Core.Path.{_≡_, refl, sym, _∙_, ap, ap₂}
 use Prim.Native.Nat.{ℕ}
 use native.Mathlib.Omega.{arith}
 use borrow.Author.Needs.{needs}
-use Rattle.calls.proofs.QuestionLaws.{by-answers}
+use Rattle.questions.proofs.QuestionLaws.{by-answers}
 use Rattle.table.proofs.WellFormedLaws.{sized, long, few-rows}
 use Rattle.protocol.specs.Calls.{isUsed}
 use Rattle.table.specs.WellFormed.{between, onlyRows, wellFormed}
 use Rattle.table.specs.Layout.{usedOf}
-use Rattle.calls.proofs.coordinator_asked.Statement.{statement}
-use Rattle.calls.proofs.coordinator_asked.Tie as tie
+use Rattle.questions.proofs.coordinator_asked.Statement.{statement}
+use Rattle.questions.proofs.coordinator_asked.Tie as tie
 
 well-formed-requires : tie.Need-well-formed-requires
 well-formed-requires c κs = search needs

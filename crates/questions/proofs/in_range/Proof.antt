@@ -3,10 +3,10 @@ use Prim.Native.Nat.{_-_}
 use native.Mathlib.Omega.{arith}
 use borrow.Author.Tests.{leb-true, le-leb}
 use lib.Dec.{leb}
-use Rattle.calls.proofs.QuestionLaws.{range-test}
+use Rattle.questions.proofs.QuestionLaws.{range-test}
 use Rattle.rows.proofs.Bools.{clash}
-use Rattle.calls.proofs.in_range.Statement.{statement}
-use Rattle.calls.proofs.in_range.Tie as tie
+use Rattle.questions.proofs.in_range.Statement.{statement}
+use Rattle.questions.proofs.in_range.Tie as tie
 
 returns : tie.Need-returns
 returns c = let a = c .before .args in range-test (a .file) (a .offset) (a .count) false (λ e. absurd (clash e)) (λ h g. absurd (omega arith))

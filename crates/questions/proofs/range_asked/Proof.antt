@@ -5,12 +5,12 @@ use Prim.Native.Nat.{ℕ, _+_}
 use native.Mathlib.Omega.{arith}
 use borrow.Author.Needs.{needs}
 use lib.Dec.{leb}
-use Rattle.calls.proofs.QuestionLaws.{range-no, range-yes}
+use Rattle.questions.proofs.QuestionLaws.{range-no, range-yes}
 use Rattle.table.proofs.WellFormedLaws.{sized, long}
 use Rattle.protocol.proofs.QuestionLaws.{passed-first}
 use Rattle.protocol.specs.Calls.{inFile}
-use Rattle.calls.proofs.range_asked.Statement.{statement}
-use Rattle.calls.proofs.range_asked.Tie as tie
+use Rattle.questions.proofs.range_asked.Statement.{statement}
+use Rattle.questions.proofs.range_asked.Tie as tie
 
 coordinator-asked-requires : tie.Need-coordinator-asked-requires
 coordinator-asked-requires c κs = search needs

@@ -21,8 +21,8 @@ use Rattle.protocol.proofs.PollLaws.{lowest-good, worked-in}
 use Rattle.protocol.proofs.QuestionLaws.{read-yes, refusal-is, when-done}
 use Rattle.settle.specs.declared.Verdict.{Verdict}
 use Rattle.settle.specs.Judged.{Judged}
-use Rattle.calls.specs.Stages.{toRange}
-use Rattle.calls.proofs.QuestionLaws.{after-range, before-range, Refused, refused-is}
+use Rattle.questions.specs.Stages.{toRange}
+use Rattle.questions.proofs.QuestionLaws.{after-range, before-range, Refused, refused-is}
 
 module _ (t : List ℕ) (c r offset count : ℕ) (buffer : List ℕ) where
   -- refused by 1 to 4
@@ -72,11 +72,12 @@ module _ (t : List ℕ) (c r offset count : ℕ) (buffer : List ℕ) where
             let y = read-yes t c r offset count buffer (after-poll ∙ z) in
             omega (arith, length-row (sized (y .first .formed)) (lowest 64 (has (v .good .bits))) source-used, row-length t, y .range, l)
 
-        pub read-done : (0 * 2 ^ 32 + v .version ≡ resultOf (outcome t (read c r offset count buffer)))
+        pub read-done : (0 * 2 ^ 32 + v .version ≡ resultOf (outcome t (read c r offset count buffer))) × (t ≡ outcome t (read c r offset count buffer) .table)
             × (part offset (length buffer) (contents (rowBytes t (lowest 64 (has (v .good .bits))))) ≡ outcome t (read c r offset count buffer) .buffer)
         unfolding done resultOf contentsOf
         read-done =
             let o = when-done t (read c r offset count buffer) (refusal-is t (read c r offset count buffer) ∙ after-poll ∙ z) in (
               ap (λ (x : ℕ). 0 * 2 ^ 32 + x) (j .version ∙ ap (goodVersion (answers t r)) e) ∙ sym (ap resultOf o),
+              sym (ap (λ (x : Outcome). x .table) o),
               ap₂ (λ (n i : ℕ). part offset n (contents (rowBytes t i))) l good-is ∙ sym (ap (λ (x : Outcome). x .buffer) o),
             )

@@ -1,76 +1,18 @@
-// The calls: their questions in order, then what is done.
+// Reads and writes: their questions in order, then what is done.
 use grid::Kind;
+use questions::below_limit;
+use questions::range_asked;
+use questions::result;
 use rows::RowSet;
 use settle::Settled;
-use table::both;
 ghost use mathlib.Core.Path.{_≡_};
-ghost use mathlib.Core.Bool.{true, _&&_};
-ghost use mathlib.Core.List.{[]};
-ghost use Prim.Native.Nat.{_+_, _*_, _^_, _<_, _≤_};
-ghost use lib.Dec.{leb};
+ghost use mathlib.Core.Bool.{true};
+ghost use Prim.Native.Nat.{_^_, _<_};
 ghost use Rattle.rows.specs.Sets.{has};
 ghost use Rattle.table.specs.Layout.{usedOf};
 ghost use Rattle.table.specs.WellFormed.{wellFormed};
-ghost use Rattle.protocol.specs.Calls.{firstNo, byCoordinator, workSet, resultOf, outcome, read, write};
+ghost use Rattle.protocol.specs.Calls.{workSet, resultOf, outcome, read, write};
 ghost use Rattle.settle.specs.Judged.{Judged};
-ghost use Rattle.calls.specs.Stages.{toRange};
-
-// No version and no epoch number passes this.
-const LIMIT: u32 = 1_000_000;
-
-// A result: refusal number times 2^32, plus value.
-fn result(refusal: u32, value: u32) -> u64
-    ensures { λ r. ⌜ r ≡ refusal * 2 ^ 32 + value ⌝ }
-{
-    refusal as u64 * 4_294_967_296 + value as u64
-}
-
-// Questions 1 to 3 of a call by a coordinator: the first no, 0 where there is none.
-fn coordinator_asked(t: &[u8], c: usize, answering: RowSet) -> u32
-    ensures { λ r. ⌜ r ≡ firstNo (byCoordinator (now (t .entry)) c (answering .bits) []) ⌝ }
-{
-    if table::well_formed(t) {
-        let used = table::used(t);
-        if both(
-            table::between(1, c, used),
-            table::only_rows(used, answering.bits),
-        ) {
-            if answering.has(c) {
-                return 0;
-            }
-            return 3;
-        }
-        return 2;
-    }
-    1
-}
-
-// Is a range of at least one byte within a file of so many? (A sum could be too large.)
-fn in_range(file: usize, offset: usize, count: usize) -> bool
-    ensures { λ r. ⌜ r ≡ (leb 1 count && leb (offset + count) file) ⌝ }
-{
-    if count == 0 {
-        return false;
-    }
-    if file < count {
-        return false;
-    }
-    offset <= file - count
-}
-
-// Questions 1 to 4 of a read or a write: the first no, 0 where there is none.
-fn range_asked(t: &[u8], c: usize, answering: RowSet, offset: usize, count: usize) -> u32
-    ensures { λ r. ⌜ r ≡ firstNo (toRange (now (t .entry)) c (answering .bits) offset count) ⌝ }
-{
-    let no = coordinator_asked(t, c, answering);
-    if no != 0 {
-        return no;
-    }
-    if in_range(table::file_length(t), offset, count) {
-        return 0;
-    }
-    4
-}
 
 // The set that a read or a write works on, found by one poll.
 fn settled(kind: Kind, t: &[u8], c: usize, answering: RowSet) -> Settled
@@ -84,7 +26,7 @@ fn settled(kind: Kind, t: &[u8], c: usize, answering: RowSet) -> Settled
 
 // A read: the range is copied to the buffer. Value: the version.
 pub fn read(t: &[u8], c: usize, r: u64, offset: usize, count: usize, buffer: &mut [u8]) -> u64
-    ensures { λ x. ⌜ (x ≡ resultOf (outcome (now (t .entry)) (read c r offset count (now (buffer .entry))))) × (now (buffer .exit) ≡ outcome (now (t .entry)) (read c r offset count (now (buffer .entry))) .buffer) ⌝ }
+    ensures { λ x. ⌜ (x ≡ resultOf (outcome (now (t .entry)) (read c r offset count (now (buffer .entry))))) × (now (t .entry) ≡ outcome (now (t .entry)) (read c r offset count (now (buffer .entry))) .table) × (now (buffer .exit) ≡ outcome (now (t .entry)) (read c r offset count (now (buffer .entry))) .buffer) ⌝ }
 {
     let answering = RowSet { bits: r };
     let no = range_asked(t, c, answering, offset, count);
@@ -116,7 +58,7 @@ pub fn write(t: &mut [u8], c: usize, r: u64, offset: usize, patch: &[u8]) -> u64
     if s.verdict.refusal != 0 {
         return result(s.verdict.refusal, 0);
     }
-    if LIMIT <= s.verdict.version {
+    if !below_limit(s.verdict.version) {
         return result(8, 0);
     }
     let version = s.verdict.version + 1;

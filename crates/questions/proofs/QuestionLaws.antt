@@ -12,7 +12,7 @@ use Rattle.table.specs.Layout.{usedOf}
 use Rattle.table.specs.WellFormed.{onlyRows, wellFormed}
 use Rattle.protocol.specs.Calls.{Call, Question, firstNo, questions, byCoordinator, isUsed, inFile, lent, outcome, resultOf}
 use Rattle.protocol.proofs.QuestionLaws.{ByCoordinator, yes-first, no-first, passed-first, refusal-is, when-refused}
-use Rattle.calls.specs.Stages.{toRange}
+use Rattle.questions.specs.Stages.{toRange}
 
 -- questions that come after a no are not asked
 pub asked-more : (qs rest : List Question) → 1 ≤ firstNo qs → firstNo (qs ++ rest) ≡ firstNo qs

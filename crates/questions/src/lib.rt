@@ -1,0 +1,72 @@
+// The questions that a call is asked before its poll, the limit, and the result.
+use rows::RowSet;
+use table::both;
+ghost use mathlib.Core.Path.{_≡_};
+ghost use mathlib.Core.Bool.{_&&_};
+ghost use mathlib.Core.List.{[]};
+ghost use Prim.Native.Nat.{_+_, _*_, _^_};
+ghost use lib.Dec.{leb, ltb};
+ghost use Rattle.table.specs.WellFormed.{limit};
+ghost use Rattle.protocol.specs.Calls.{firstNo, byCoordinator};
+ghost use Rattle.questions.specs.Stages.{toRange};
+
+// A result: refusal number times 2^32, plus value.
+pub fn result(refusal: u32, value: u32) -> u64
+    ensures { λ r. ⌜ r ≡ refusal * 2 ^ 32 + value ⌝ }
+{
+    refusal as u64 * 4_294_967_296 + value as u64
+}
+
+// Question 8: may a version or an epoch number still grow?
+pub fn below_limit(number: u32) -> bool
+    ensures { λ r. ⌜ r ≡ ltb number limit ⌝ }
+{
+    number < 1_000_000
+}
+
+// Questions 1 to 3 of a call by a coordinator: the first no, 0 where there is none.
+pub fn coordinator_asked(t: &[u8], c: usize, answering: RowSet) -> u32
+    ensures { λ r. ⌜ r ≡ firstNo (byCoordinator (now (t .entry)) c (answering .bits) []) ⌝ }
+{
+    if table::well_formed(t) {
+        let used = table::used(t);
+        if both(
+            table::between(1, c, used),
+            table::only_rows(used, answering.bits),
+        ) {
+            if answering.has(c) {
+                return 0;
+            }
+            return 3;
+        }
+        return 2;
+    }
+    1
+}
+
+// Is a range of at least one byte within a file of so many? (A sum could be too large.)
+fn in_range(file: usize, offset: usize, count: usize) -> bool
+    ensures { λ r. ⌜ r ≡ (leb 1 count && leb (offset + count) file) ⌝ }
+{
+    if count == 0 {
+        return false;
+    }
+    if file < count {
+        return false;
+    }
+    offset <= file - count
+}
+
+// Questions 1 to 4 of a read or a write: the first no, 0 where there is none.
+pub fn range_asked(t: &[u8], c: usize, answering: RowSet, offset: usize, count: usize) -> u32
+    ensures { λ r. ⌜ r ≡ firstNo (toRange (now (t .entry)) c (answering .bits) offset count) ⌝ }
+{
+    let no = coordinator_asked(t, c, answering);
+    if no != 0 {
+        return no;
+    }
+    if in_range(table::file_length(t), offset, count) {
+        return 0;
+    }
+    4
+}

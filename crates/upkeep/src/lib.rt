@@ -1,0 +1,73 @@
+// Sends and epoch checks: their questions in order, then what is done.
+use grid::Kind;
+use questions::below_limit;
+use questions::coordinator_asked;
+use questions::result;
+use rows::RowSet;
+use table::between;
+use table::both;
+ghost use mathlib.Core.Path.{_≡_};
+ghost use mathlib.Core.Bool.{not, cond, _&&_};
+ghost use Prim.Native.Nat.{_≤_};
+ghost use lib.Dec.{eqb, leb};
+ghost use lib.ListN.{length};
+ghost use Rattle.table.specs.Layout.{get, mark, version, desired};
+ghost use Rattle.table.specs.WellFormed.{between, onlyRows};
+ghost use Rattle.protocol.specs.Calls.{firstNo, questions, resultOf, outcome, send, check};
+
+// Question 2 of a send: are these two used rows, and are those that answered used ones?
+fn rows_named(used: usize, from: usize, to: usize, answering: RowSet) -> bool
+    requires { ⌜ used ≤ 64 ⌝ }
+    ensures { λ r. ⌜ r ≡ (between 1 from used && between 1 to used && onlyRows used (answering .bits) && not (eqb from to)) ⌝ }
+{
+    let named = both(between(1, from, used), between(1, to, used));
+    let known = both(named, table::only_rows(used, answering.bits));
+    both(known, from != to)
+}
+
+// Questions 9 and 10 of the rows of a send: the first no, 0 where there is none.
+fn rows_asked(source: &[u8], target: &[u8]) -> u32
+    requires { ⌜ (32 ≤ length (now source)) × (32 ≤ length (now target)) ⌝ }
+    ensures { λ r. ⌜ r ≡ cond (not (eqb (get mark (now (source .entry))) 1)) (cond (eqb (get mark (now (target .entry))) 1 && leb (get desired (now (target .entry))) (get version (now (source .entry)))) 0 10) 9 ⌝ }
+{
+    if table::is_stale(source) {
+        return 9;
+    }
+    if both(
+        table::is_stale(target),
+        table::desired(target) <= table::version(source),
+    ) {
+        return 0;
+    }
+    10
+}
+
+// All that a send is asked: the first no, 0 where there is none.
+fn send_asked(t: &[u8], from: usize, to: usize, answering: RowSet) -> u32
+    ensures { λ r. ⌜ r ≡ firstNo (questions (now (t .entry)) (send from to (answering .bits))) ⌝ }
+{
+    if table::well_formed(t) {
+        if rows_named(table::used(t), from, to, answering) {
+            if both(answering.has(from), answering.has(to)) {
+                return rows_asked(table::row_of(t, from), table::row_of(t, to));
+            }
+            return 3;
+        }
+        return 2;
+    }
+    1
+}
+
+// A send: row `to` takes the contents and the version of row `from`. Value: that version.
+pub fn send(t: &mut [u8], from: usize, to: usize, r: u64) -> u64
+    ensures { λ x. ⌜ (x ≡ resultOf (outcome (now (t .entry)) (send from to r))) × (now (t .exit) ≡ outcome (now (t .entry)) (send from to r) .table) ⌝ }
+{
+    let answering = RowSet { bits: r };
+    let no = send_asked(t, from, to, answering);
+    if no != 0 {
+        return result(no, 0);
+    }
+    let version = table::version(table::row_of(t, from));
+    store::refresh(t, from, to);
+    result(0, version)
+}
