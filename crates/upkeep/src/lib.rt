@@ -4,16 +4,21 @@ use questions::below_limit;
 use questions::coordinator_asked;
 use questions::result;
 use rows::RowSet;
+use settle::Verdict;
 use table::between;
 use table::both;
 ghost use mathlib.Core.Path.{_≡_};
-ghost use mathlib.Core.Bool.{not, cond, _&&_};
-ghost use Prim.Native.Nat.{_≤_};
+ghost use mathlib.Core.Bool.{true, not, cond, _&&_};
+ghost use Prim.Native.Nat.{_^_, _≤_, _<_};
 ghost use lib.Dec.{eqb, leb};
 ghost use lib.ListN.{length};
-ghost use Rattle.table.specs.Layout.{get, mark, version, desired};
-ghost use Rattle.table.specs.WellFormed.{between, onlyRows};
-ghost use Rattle.protocol.specs.Calls.{firstNo, questions, resultOf, outcome, send, check};
+ghost use Rattle.rows.specs.Sets.{has};
+ghost use Rattle.grid.specs.declared.quorums.Kind.the-variants.{Write};
+ghost use Rattle.table.specs.Layout.{get, mark, version, desired, usedOf};
+ghost use Rattle.table.specs.WellFormed.{between, onlyRows, wellFormed};
+ghost use Rattle.protocol.specs.Polls.{highestEpoch, inForce};
+ghost use Rattle.protocol.specs.Calls.{firstNo, questions, answers, resultOf, outcome, send, check};
+ghost use Rattle.settle.specs.Judged.{Judged};
 
 // Question 2 of a send: are these two used rows, and are those that answered used ones?
 fn rows_named(used: usize, from: usize, to: usize, answering: RowSet) -> bool
@@ -70,4 +75,53 @@ pub fn send(t: &mut [u8], from: usize, to: usize, r: u64) -> u64
     let version = table::version(table::row_of(t, from));
     store::refresh(t, from, to);
     result(0, version)
+}
+
+// Of the rows that answered: questions 6 and 7, the highest epoch and its list.
+struct Findings {
+    verdict: Verdict,
+    epoch: u32,
+    list: RowSet,
+}
+
+// What an epoch check finds, by one poll.
+fn examine(t: &[u8], answering: RowSet) -> Findings
+    requires { ⌜ (wellFormed (now t) ≡ true) × (answering .bits < 2 ^ usedOf (now t)) ⌝ }
+    ensures { λ r. ⌜ Judged Write (now (t .entry)) (answering .bits) (has (answering .bits)) (r .verdict) × (r .epoch ≡ highestEpoch (answers (now (t .entry)) (answering .bits)) (has (answering .bits))) × (r .list .bits ≡ inForce (answers (now (t .entry)) (answering .bits)) (has (answering .bits))) ⌝ }
+{
+    let order = table::chain_order(t);
+    let poll = polls::gather(t, answering);
+    Findings {
+        verdict: settle::judge(Kind::Write, t, order, poll, answering, answering),
+        epoch: settle::highest_epoch(t, order, poll, answering, answering),
+        list: settle::list_in_force(t, order, poll, answering, answering),
+    }
+}
+
+// An epoch check: the rows that answered become the list of a new epoch, unless they are the list in force.
+// Value: the epoch number in force.
+pub fn check(t: &mut [u8], c: usize, r: u64) -> u64
+    ensures { λ x. ⌜ (x ≡ resultOf (outcome (now (t .entry)) (check c r))) × (now (t .exit) ≡ outcome (now (t .entry)) (check c r) .table) ⌝ }
+{
+    let answering = RowSet { bits: r };
+    let no = coordinator_asked(t, c, answering);
+    if no != 0 {
+        return result(no, 0);
+    }
+    let f = examine(t, answering);
+    if f.verdict.refusal == 6 {
+        return result(6, 0);
+    }
+    if f.list.bits == r {
+        return result(0, f.epoch);
+    }
+    if f.verdict.refusal != 0 {
+        return result(f.verdict.refusal, 0);
+    }
+    if !below_limit(f.epoch) {
+        return result(8, 0);
+    }
+    let epoch = f.epoch + 1;
+    store::check_rows(t, answering, f.verdict.good, f.verdict.version, epoch);
+    result(0, epoch)
 }

@@ -77,7 +77,7 @@ returns-3 c =
     let a = c .before .before .before .before .before .before .before .before .before .before .before .before .args in
     let s = c .before .before .before .before .before .settled in
     let no = write-full (a .t .now) (a .c) (a .r) (a .offset) (a .patch .now) (passed (c .before .before .before .before .before .before .before)) _ (s .result .verdict) (s .ensures .0) (s .ensures .1) (settled-here (c .before .before .before))
-        (sym (c .before .before .below-limit .ensures) ∙ not-true _ (c .before .if3 .taken)) in
+    (sym (c .before .before .below-limit .ensures) ∙ not-true _ (c .before .if3 .taken)) in
     (c .result3 .ensures ∙ no .result, no .table)
 
 add-version : tie.Need-add-version
@@ -87,9 +87,10 @@ add-version c = let v = c .before .before .before .before .before .settled .resu
 write-rows-requires : tie.Need-write-rows-requires
 write-rows-requires c κs =
     let a = c .before .before .before .before .before .before .before .before .before .before .before .before .before .args in
-    let s = c .before .before .before .before .before .before .settled in
-    (sized (asked (c .before .before .before .before .before .before .before .before) .formed),
-      patch-in (a .t .now) (a .c) (a .r) (a .offset) (a .patch .now) (passed (c .before .before .before .before .before .before .before .before)) _ (s .result .verdict) (s .ensures .0) (s .ensures .1) (settled-here (c .before .before .before .before)) (room (c .before .before)))
+    let s = c .before .before .before .before .before .before .settled in (
+      sized (asked (c .before .before .before .before .before .before .before .before) .formed),
+      patch-in (a .t .now) (a .c) (a .r) (a .offset) (a .patch .now) (passed (c .before .before .before .before .before .before .before .before)) _ (s .result .verdict) (s .ensures .0) (s .ensures .1) (settled-here (c .before .before .before .before)) (room (c .before .before)),
+    )
 
 result-requires-4 : tie.Need-result-requires-4
 result-requires-4 c κs = search needs
