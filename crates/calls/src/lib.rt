@@ -1,15 +1,15 @@
 // The calls: their questions in order, then what is done.
+use fields::both;
 use grid::Kind;
 use rows::RowSet;
 use settle::Settled;
-use table::both;
 ghost use mathlib.Core.Path.{_≡_};
 ghost use mathlib.Core.Bool.{true, _&&_};
 ghost use mathlib.Core.List.{[]};
 ghost use Prim.Native.Nat.{_+_, _*_, _^_, _<_, _≤_};
 ghost use lib.Dec.{leb};
 ghost use Rattle.rows.specs.Sets.{has};
-ghost use Rattle.table.specs.Layout.{usedOf};
+ghost use Rattle.fields.specs.Layout.{usedOf};
 ghost use Rattle.table.specs.WellFormed.{wellFormed};
 ghost use Rattle.protocol.specs.Calls.{firstNo, byCoordinator, workSet, resultOf, outcome, read, write};
 ghost use Rattle.settle.specs.Judged.{Judged};
@@ -30,7 +30,7 @@ fn coordinator_asked(t: &[u8], c: usize, answering: RowSet) -> u32
     ensures { λ r. ⌜ r ≡ firstNo (byCoordinator (now (t .entry)) c (answering .bits) []) ⌝ }
 {
     if table::well_formed(t) {
-        let used = table::used(t);
+        let used = fields::used(t);
         if both(
             table::between(1, c, used),
             table::only_rows(used, answering.bits),
@@ -66,7 +66,7 @@ fn range_asked(t: &[u8], c: usize, answering: RowSet, offset: usize, count: usiz
     if no != 0 {
         return no;
     }
-    if in_range(table::file_length(t), offset, count) {
+    if in_range(fields::file_length(t), offset, count) {
         return 0;
     }
     4
@@ -99,7 +99,7 @@ pub fn read(t: &[u8], c: usize, r: u64, offset: usize, count: usize, buffer: &mu
         return result(s.verdict.refusal, 0);
     }
     let source = s.verdict.good.lowest();
-    table::copy_out(table::row_of(t, source), offset, buffer);
+    fields::copy_out(table::row_of(t, source), offset, buffer);
     result(0, s.verdict.version)
 }
 

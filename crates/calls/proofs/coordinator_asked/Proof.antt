@@ -7,7 +7,7 @@ use Rattle.calls.proofs.QuestionLaws.{by-answers}
 use Rattle.table.proofs.WellFormedLaws.{sized, long, few-rows}
 use Rattle.protocol.specs.Calls.{isUsed}
 use Rattle.table.specs.WellFormed.{between, onlyRows, wellFormed}
-use Rattle.table.specs.Layout.{usedOf}
+use Rattle.fields.specs.Layout.{usedOf}
 use Rattle.calls.proofs.coordinator_asked.Statement.{statement}
 use Rattle.calls.proofs.coordinator_asked.Tie as tie
 

@@ -6,8 +6,8 @@ use Rattle.protocol.specs.Calls.{lent}
 use Rattle.calls.proofs.ReadLaws.{read-early, read-long, read-no, source-used, range-in, read-done}
 use Rattle.calls.proofs.QuestionLaws.{range-passed}
 use Rattle.table.proofs.WellFormedLaws.{sized}
-use Rattle.table.specs.Layout.{rowBytes, contents}
-use Rattle.table.specs.Bytes.{part}
+use Rattle.fields.specs.Layout.{rowBytes, contents}
+use Rattle.fields.specs.Bytes.{part}
 use Rattle.calls.proofs.read.Statement.{statement}
 use Rattle.calls.proofs.read.Tie as tie
 
