@@ -11,8 +11,8 @@ use Rattle.rows.specs.Upto.{Within, lowest}
 use Rattle.rows.specs.Sets.{has}
 use Rattle.rows.proofs.SetLaws.{has-within}
 use Rattle.grid.specs.declared.quorums.Kind.the-variants.{Read}
-use Rattle.table.specs.Bytes.{part}
-use Rattle.table.specs.Layout.{usedOf, nameOf, rowBytes, contents, contentsOf}
+use Rattle.fields.specs.Bytes.{part}
+use Rattle.fields.specs.Layout.{usedOf, nameOf, rowBytes, contents, contentsOf}
 use Rattle.table.specs.Chain.{orderOf}
 use Rattle.table.proofs.WellFormedLaws.{sized, row-length, length-row}
 use Rattle.protocol.specs.Polls.{goodVersion, good, current, quorumHeld}

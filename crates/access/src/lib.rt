@@ -9,7 +9,7 @@ ghost use mathlib.Core.Path.{_≡_};
 ghost use mathlib.Core.Bool.{true};
 ghost use Prim.Native.Nat.{_^_, _<_};
 ghost use Rattle.rows.specs.Sets.{has};
-ghost use Rattle.table.specs.Layout.{usedOf};
+ghost use Rattle.fields.specs.Layout.{usedOf};
 ghost use Rattle.table.specs.WellFormed.{wellFormed};
 ghost use Rattle.protocol.specs.Calls.{workSet, resultOf, outcome, read, write};
 ghost use Rattle.settle.specs.Judged.{Judged};
@@ -41,7 +41,7 @@ pub fn read(t: &[u8], c: usize, r: u64, offset: usize, count: usize, buffer: &mu
         return result(s.verdict.refusal, 0);
     }
     let source = s.verdict.good.lowest();
-    table::copy_out(table::row_of(t, source), offset, buffer);
+    fields::copy_out(table::row_of(t, source), offset, buffer);
     result(0, s.verdict.version)
 }
 

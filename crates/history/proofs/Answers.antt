@@ -11,8 +11,8 @@ use Rattle.rows.specs.Upto.{Within, lowest}
 use Rattle.rows.specs.Sets.{has}
 use Rattle.grid.specs.declared.quorums.Kind.{Kind}
 use Rattle.grid.specs.declared.quorums.Kind.the-variants.{Read, Write}
-use Rattle.table.specs.Bytes.{part}
-use Rattle.table.specs.Layout.{usedOf, contentsOf}
+use Rattle.fields.specs.Bytes.{part}
+use Rattle.fields.specs.Layout.{usedOf, contentsOf}
 use Rattle.table.specs.Chain.{orderOf}
 use Rattle.table.specs.WellFormed.{limit, wellFormed}
 use Rattle.protocol.specs.Polls.{Poll, highestEpoch, inForce, goodVersion, good, current, quorumHeld}

@@ -10,7 +10,7 @@ use Rattle.rows.specs.Upto.{Within, some, lowest}
 use Rattle.rows.specs.Sets.{has}
 use Rattle.grid.specs.declared.quorums.Kind.{Kind}
 use Rattle.grid.specs.declared.quorums.Kind.the-variants.{Read, Write}
-use Rattle.table.specs.Layout.{usedOf, fileOf, nameOf, contentsOf}
+use Rattle.fields.specs.Layout.{usedOf, fileOf, nameOf, contentsOf}
 use Rattle.table.specs.Chain.{orderOf}
 use Rattle.table.proofs.FormLaws.{Formed, header-facts}
 use Rattle.protocol.specs.Polls.{Poll, polled, highestEpoch, inForce, goodVersion, good, current, quorumHeld, workedOn}

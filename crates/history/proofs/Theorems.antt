@@ -10,7 +10,7 @@ use borrow.Author.Tests.{eqb-true, eqb-false, eq-eqb, ltb-true}
 use Rattle.rows.specs.Sets.{has}
 use Rattle.rows.proofs.Bools.{and-l, and-r, or-e, clash}
 use Rattle.grid.specs.declared.quorums.Kind.the-variants.{Read, Write}
-use Rattle.table.specs.Layout.{usedOf}
+use Rattle.fields.specs.Layout.{usedOf}
 use Rattle.table.specs.Chain.{orderOf}
 use Rattle.table.specs.WellFormed.{limit, onlyRows, wellFormed}
 use Rattle.table.proofs.FormLaws.{Formed, well-formed-of}

@@ -6,7 +6,7 @@ use Prim.Native.Nat.{ℕ, _-_}
 use lib.ListN.{getD}
 use Rattle.rows.specs.Sets.{has, isRow}
 use Rattle.protocol.specs.Polls as definition
-use Rattle.table.specs.Layout.{staleOf, versionOf, desiredOf, epochOf}
+use Rattle.fields.specs.Layout.{staleOf, versionOf, desiredOf, epochOf}
 use Rattle.polls.specs.declared.Poll.{Poll}
 use Rattle.polls.specs.declared.Said.{Said}
 

@@ -1,14 +1,14 @@
 // What the answering rows say, and questions 6 and 7 about a set of them.
+use fields::any;
+use fields::both;
 use rows::RowSet;
-use table::any;
-use table::both;
 ghost use mathlib.Core.Path.{_≡_};
 ghost use mathlib.Core.Bool.{_&&_, cond};
 ghost use Prim.Native.Nat.{ℕ, _^_, _<_, max};
 ghost use lib.Dec.{eqb, ltb};
 ghost use Rattle.rows.specs.Upto.{Within, some, most};
 ghost use Rattle.rows.specs.Sets.{has};
-ghost use Rattle.table.specs.Layout.{usedOf};
+ghost use Rattle.fields.specs.Layout.{usedOf};
 ghost use Rattle.table.specs.Contracts.{Sized};
 ghost use Rattle.protocol.specs.Polls.{polled};
 ghost use Rattle.polls.specs.Shows.{placed, Shows, Says};
@@ -37,10 +37,10 @@ fn said_by(t: &[u8], i: usize, answered: bool) -> Said
     if answered {
         let row = table::row_of(t, i);
         return Said {
-            stale: table::is_stale(row),
-            version: table::version(row),
-            desired: table::desired(row),
-            epoch: table::epoch(row),
+            stale: fields::is_stale(row),
+            version: fields::version(row),
+            desired: fields::desired(row),
+            epoch: fields::epoch(row),
         };
     }
     Said {
@@ -56,7 +56,7 @@ pub fn gather(t: &[u8], answering: RowSet) -> Poll
     requires { ⌜ Sized (now t) × (answering .bits < 2 ^ usedOf (now t)) ⌝ }
     ensures { λ r. ⌜ Shows r (polled (now (t .entry)) (has (answering .bits))) ⌝ }
 {
-    let used = table::used(t);
+    let used = fields::used(t);
     let mut stale = RowSet::EMPTY;
     let mut versions = [0u32; 64];
     let mut desired = [0u32; 64];

@@ -13,9 +13,9 @@ use Rattle.rows.specs.Sets.{has}
 use Rattle.rows.proofs.Bools.{and-l, and-r, or-e, clash}
 use Rattle.grid.specs.declared.quorums.Kind.{Kind}
 use Rattle.grid.specs.declared.quorums.Kind.the-variants.{Read, Write}
-use Rattle.table.specs.Bytes.{part}
-use Rattle.table.specs.Layout
-use Rattle.table.specs.Layout.{usedOf, fileOf, nameOf, linkOf, rowLength, rowsEnd, rowBytes}
+use Rattle.fields.specs.Bytes.{part}
+use Rattle.fields.specs.Layout
+use Rattle.fields.specs.Layout.{usedOf, fileOf, nameOf, linkOf, rowLength, rowsEnd, rowBytes}
 use Rattle.table.specs.Chain.{chain, orderOf}
 use Rattle.table.specs.WellFormed.{limit, onlyRows, wellFormed}
 use Rattle.table.proofs.FormLaws.{Formed, formed, well-formed-of}

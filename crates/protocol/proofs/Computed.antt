@@ -9,9 +9,9 @@ use Rattle.rows.specs.Upto
 use Rattle.rows.specs.Sets
 use Rattle.grid.specs.Sizes
 use Rattle.grid.specs.Quorums
-use Rattle.table.specs.Bytes
-use Rattle.table.specs.Layout
-use Rattle.table.specs.Layout.{rowBytes}
+use Rattle.fields.specs.Bytes
+use Rattle.fields.specs.Layout
+use Rattle.fields.specs.Layout.{rowBytes}
 use Rattle.table.specs.Chain
 use Rattle.table.specs.WellFormed
 use Rattle.protocol.specs.Lists

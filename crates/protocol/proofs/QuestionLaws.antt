@@ -13,7 +13,7 @@ use Rattle.rows.specs.Sets.{has}
 use Rattle.rows.proofs.Bools.{and-l, and-r}
 use Rattle.rows.proofs.SetLaws.{has-within}
 use Rattle.grid.specs.declared.quorums.Kind.the-variants.{Read, Write}
-use Rattle.table.specs.Layout.{usedOf, fileOf, staleOf, versionOf, desiredOf}
+use Rattle.fields.specs.Layout.{usedOf, fileOf, staleOf, versionOf, desiredOf}
 use Rattle.table.specs.Chain.{orderOf}
 use Rattle.table.specs.WellFormed.{between, limit, onlyRows, wellFormed}
 use Rattle.table.proofs.FormLaws.{between-is}

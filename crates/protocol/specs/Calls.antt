@@ -8,8 +8,8 @@ use Rattle.rows.specs.Upto.{every, lowest}
 use Rattle.rows.specs.Sets.{has}
 use Rattle.grid.specs.declared.quorums.Kind.{Kind}
 use Rattle.grid.specs.declared.quorums.Kind.the-variants.{Read, Write}
-use Rattle.table.specs.Bytes.{bytesOf, part}
-use Rattle.table.specs.Layout.{usedOf, fileOf, nameOf, staleOf, versionOf, desiredOf, contentsOf, rowBytes}
+use Rattle.fields.specs.Bytes.{bytesOf, part}
+use Rattle.fields.specs.Layout.{usedOf, fileOf, nameOf, staleOf, versionOf, desiredOf, contentsOf, rowBytes}
 use Rattle.table.specs.Chain.{orderOf}
 use Rattle.table.specs.WellFormed.{between, limit, onlyRows, wellFormed}
 use Rattle.protocol.specs.Polls.{Poll, polled, highestEpoch, inForce, goodVersion, good, current, quorumHeld, workedOn}

@@ -6,7 +6,7 @@ use Prim.Native.Nat.{ℕ, _+_}
 use lib.ListN.{length, take, drop}
 use Rattle.rows.specs.Upto.{Within}
 use Rattle.rows.specs.Sets.{has}
-use Rattle.table.specs.Layout.{usedOf, nameOf, linkOf, rowsEnd, rowBytes}
+use Rattle.fields.specs.Layout.{usedOf, nameOf, linkOf, rowsEnd, rowBytes}
 use Rattle.table.specs.WellFormed.{wellFormed}
 use Rattle.protocol.specs.Calls.{Call, founding, read, write, send, check, Outcome, lent, outcome}
 

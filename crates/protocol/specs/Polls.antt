@@ -6,7 +6,7 @@ use lib.Dec.{eqb, leb, ltb}
 use Rattle.rows.specs.Upto.{some, lowest, most}
 use Rattle.rows.specs.Sets.{has, cutTo}
 use Rattle.grid.specs.declared.quorums.Kind.{Kind}
-use Rattle.table.specs.Layout.{epochOf, membersOf, staleOf, versionOf, desiredOf}
+use Rattle.fields.specs.Layout.{epochOf, membersOf, staleOf, versionOf, desiredOf}
 use Rattle.protocol.specs.Lists.{listQuorum, listChoice}
 
 -- "The state gathered by a poll is one value, with a place for each of the 64 rows."

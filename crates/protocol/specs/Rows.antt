@@ -3,8 +3,8 @@ use mathlib.Core.Bool.{Bool, cond}
 use mathlib.Core.List.{List}
 use Prim.Native.Nat.{ℕ, zero, suc}
 use lib.ListN.{length}
-use Rattle.table.specs.Bytes.{part, put}
-use Rattle.table.specs.Layout.{get, store, mark, version, desired, epoch, members, contents, storeContents, rowLength, rowsEnd, rowBytes}
+use Rattle.fields.specs.Bytes.{part, put}
+use Rattle.fields.specs.Layout.{get, store, mark, version, desired, epoch, members, contents, storeContents, rowLength, rowsEnd, rowBytes}
 
 -- "is marked and desires the new version"
 unfoldable pub markedRow : ℕ → List ℕ → List ℕ

@@ -8,7 +8,7 @@ use lib.Dec.{eqb, leb}
 use borrow.Author.Tests.{leb-true, le-leb}
 use Rattle.rows.specs.Sets.{has}
 use Rattle.rows.proofs.Bools.{and-l, and-r, and-i, same-test}
-use Rattle.table.specs.Layout.{usedOf}
+use Rattle.fields.specs.Layout.{usedOf}
 use Rattle.table.specs.WellFormed.{onlyRows, wellFormed}
 use Rattle.protocol.specs.Calls.{Call, Question, firstNo, questions, byCoordinator, isUsed, inFile, lent, outcome, resultOf}
 use Rattle.protocol.proofs.QuestionLaws.{ByCoordinator, yes-first, no-first, passed-first, refusal-is, when-refused}

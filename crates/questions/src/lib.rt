@@ -1,6 +1,6 @@
 // The questions that a call is asked before its poll, the limit, and the result.
+use fields::both;
 use rows::RowSet;
-use table::both;
 ghost use mathlib.Core.Path.{_≡_};
 ghost use mathlib.Core.Bool.{_&&_};
 ghost use mathlib.Core.List.{[]};
@@ -29,7 +29,7 @@ pub fn coordinator_asked(t: &[u8], c: usize, answering: RowSet) -> u32
     ensures { λ r. ⌜ r ≡ firstNo (byCoordinator (now (t .entry)) c (answering .bits) []) ⌝ }
 {
     if table::well_formed(t) {
-        let used = table::used(t);
+        let used = fields::used(t);
         if both(
             table::between(1, c, used),
             table::only_rows(used, answering.bits),
@@ -65,7 +65,7 @@ pub fn range_asked(t: &[u8], c: usize, answering: RowSet, offset: usize, count: 
     if no != 0 {
         return no;
     }
-    if in_range(table::file_length(t), offset, count) {
+    if in_range(fields::file_length(t), offset, count) {
         return 0;
     }
     4

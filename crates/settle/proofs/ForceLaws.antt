@@ -9,7 +9,7 @@ use Rattle.rows.specs.Sets.{has}
 use Rattle.rows.proofs.Bools.{and-l}
 use Rattle.rows.proofs.UptoLaws.{lowest-in}
 use Rattle.rows.proofs.SetLaws.{has-within}
-use Rattle.table.specs.Layout.{get, members, usedOf, rowBytes, membersOf}
+use Rattle.fields.specs.Layout.{get, members, usedOf, rowBytes, membersOf}
 use Rattle.protocol.specs.Polls.{Poll, polled, highestEpoch, inForce}
 use Rattle.protocol.specs.Calls.{answers}
 use Rattle.polls.specs.declared.Poll as code

@@ -7,7 +7,7 @@ use native.Mathlib.Omega.{arith}
 use lib.ListN.{take}
 use Rattle.rows.specs.Sets.{has, cutTo}
 use Rattle.grid.specs.declared.quorums.Kind.{Kind}
-use Rattle.table.specs.Layout.{membersOf, nameOf}
+use Rattle.fields.specs.Layout.{membersOf, nameOf}
 use Rattle.table.specs.Chain.{orderOf}
 use Rattle.protocol.specs.Lists.{listChoice}
 use Rattle.protocol.specs.Polls.{Poll, polled, current, quorumHeld, ownTry, workedOn}

@@ -6,7 +6,7 @@ use Prim.Native.Nat.{ℕ, _^_, _≤_, _<_}
 use lib.ListN.{length, take}
 use Rattle.rows.specs.Sets.{has}
 use Rattle.grid.specs.declared.quorums.Kind.{Kind}
-use Rattle.table.specs.Layout.{usedOf}
+use Rattle.fields.specs.Layout.{usedOf}
 use Rattle.table.specs.Chain.{orderOf}
 use Rattle.table.specs.Contracts.{Sized}
 use Rattle.protocol.specs.Polls.{goodVersion, good, current, quorumHeld}

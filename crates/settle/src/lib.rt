@@ -1,14 +1,14 @@
 // The set that a call works on, and questions 6 and 7.
+use fields::both;
 use grid::Kind;
 use polls::Poll;
 use rows::RowSet;
 use table::Order;
-use table::both;
 ghost use mathlib.Core.Path.{_≡_};
 ghost use mathlib.Core.Bool.{true, cond};
 ghost use Prim.Native.Nat.{ℕ};
 ghost use Rattle.rows.specs.Sets.{has};
-ghost use Rattle.table.specs.Layout.{nameOf};
+ghost use Rattle.fields.specs.Layout.{nameOf};
 ghost use Rattle.protocol.specs.Polls.{highestEpoch, inForce, current, quorumHeld};
 ghost use Rattle.protocol.specs.Calls.{answers, workSet};
 ghost use Rattle.table.specs.Chain.{orderOf};
@@ -46,7 +46,7 @@ pub fn list_in_force(t: &[u8], o: Order, p: Poll, answering: RowSet, s: RowSet) 
         return RowSet::EMPTY;
     }
     RowSet {
-        bits: table::members(table::row_of(t, leader)),
+        bits: fields::members(table::row_of(t, leader)),
     }
 }
 
@@ -102,10 +102,10 @@ pub fn settle(kind: Kind, t: &[u8], o: Order, p: Poll, answering: RowSet, c: usi
 {
     let row = table::row_of(t, c);
     let own = RowSet {
-        bits: table::members(row),
+        bits: fields::members(row),
     };
     let count = o.count;
-    let tried = lists::choice(kind, &o.rows, count, own, table::name(row)).cut(answering);
+    let tried = lists::choice(kind, &o.rows, count, own, fields::name(row)).cut(answering);
     let verdict = judge(kind, t, o, p, answering, tried);
     if verdict.refusal == 0 {
         return Settled {

@@ -8,8 +8,8 @@ ghost use lib.Dec.{eqb};
 ghost use lib.ListN.{length};
 ghost use Rattle.rows.specs.Upto.{Within};
 ghost use Rattle.rows.specs.Sets.{has};
-ghost use Rattle.table.specs.Bytes.{part, put};
-ghost use Rattle.table.specs.Layout.{store, name, link, mark, version, desired, members, usedOf, rowLength, rowBytes};
+ghost use Rattle.fields.specs.Bytes.{part, put};
+ghost use Rattle.fields.specs.Layout.{store, name, link, mark, version, desired, members, usedOf, rowLength, rowBytes};
 ghost use Rattle.table.specs.Contracts.{Sized};
 ghost use Rattle.protocol.specs.Rows.{markedRow, patchedRow, enrolledRow, refreshedRow, withRow, withRows, wroteRow, checkedRow};
 ghost use Rattle.protocol.specs.Calls.{namesIn, founded};
@@ -19,8 +19,8 @@ fn mark_row(row: &mut [u8], desired: u32)
     requires { ⌜ 32 ≤ length (now row) ⌝ }
     ensures { λ r. ⌜ now (row .exit) ≡ markedRow desired (now (row .entry)) ⌝ }
 {
-    table::set_mark(row, 1);
-    table::set_desired(row, desired);
+    fields::set_mark(row, 1);
+    fields::set_desired(row, desired);
 }
 
 // A row takes a patch, and a version.
@@ -28,8 +28,8 @@ fn patch_row(row: &mut [u8], version: u32, offset: usize, patch: &[u8])
     requires { ⌜ 32 + offset + length (now patch) ≤ length (now row) ⌝ }
     ensures { λ r. ⌜ now (row .exit) ≡ patchedRow version offset (now (patch .entry)) (now (row .entry)) ⌝ }
 {
-    table::set_version(row, version);
-    table::patch(row, offset, patch);
+    fields::set_version(row, version);
+    fields::patch(row, offset, patch);
 }
 
 // What a write makes of a row: of a good one that it works on, of another that it works on, of any other.
@@ -58,7 +58,7 @@ pub fn write_rows(
     requires { ⌜ Sized (now t) × (32 + offset + length (now patch) ≤ rowLength (now t)) ⌝ }
     ensures { λ r. ⌜ now (t .exit) ≡ withRows (now (t .entry)) (has (works .bits)) (wroteRow (has (good .bits)) version offset (now (patch .entry))) (usedOf (now (t .entry))) ⌝ }
 {
-    let used = table::used(t);
+    let used = fields::used(t);
     let size = table::row_length(t);
     let mut at = table::rows_end(t, 0);
     let mut i = 0;
@@ -81,8 +81,8 @@ fn enroll_row(row: &mut [u8], epoch: u32, list: u64)
     requires { ⌜ 32 ≤ length (now row) ⌝ }
     ensures { λ r. ⌜ now (row .exit) ≡ enrolledRow epoch list (now (row .entry)) ⌝ }
 {
-    table::set_epoch(row, epoch);
-    table::set_members(row, list);
+    fields::set_epoch(row, epoch);
+    fields::set_members(row, list);
 }
 
 // A row that is not good is marked.
@@ -112,7 +112,7 @@ pub fn check_rows(t: &mut [u8], set: RowSet, good: RowSet, version: u32, epoch: 
     requires { ⌜ Sized (now t) ⌝ }
     ensures { λ r. ⌜ now (t .exit) ≡ withRows (now (t .entry)) (has (set .bits)) (checkedRow (has (good .bits)) version epoch (set .bits)) (usedOf (now (t .entry))) ⌝ }
 {
-    let used = table::used(t);
+    let used = fields::used(t);
     let size = table::row_length(t);
     let mut at = table::rows_end(t, 0);
     let mut i = 0;
@@ -135,9 +135,9 @@ fn renew_row(row: &mut [u8], v: u32)
     requires { ⌜ 32 ≤ length (now row) ⌝ }
     ensures { λ r. ⌜ now (row .exit) ≡ store desired 0 (store version v (store mark 0 (now (row .entry)))) ⌝ }
 {
-    table::set_mark(row, 0);
-    table::set_version(row, v);
-    table::set_desired(row, 0);
+    fields::set_mark(row, 0);
+    fields::set_version(row, v);
+    fields::set_desired(row, 0);
 }
 
 // Bytes copied within a slice, between ranges that lie apart.
@@ -157,8 +157,8 @@ pub fn refresh(t: &mut [u8], from: usize, to: usize)
     requires { ⌜ Sized (now t) × Within (usedOf (now t)) from × Within (usedOf (now t)) to × (from ≢ to) ⌝ }
     ensures { λ r. ⌜ now (t .exit) ≡ withRow (now (t .entry)) to (refreshedRow (rowBytes (now (t .entry)) from)) ⌝ }
 {
-    let version = table::version(table::row_of(t, from));
-    let file = table::file_length(t);
+    let version = fields::version(table::row_of(t, from));
+    let file = fields::file_length(t);
     let source = table::rows_end(t, from) - file;
     let target = table::rows_end(t, to) - file;
     let size = table::row_length(t);
@@ -180,9 +180,9 @@ fn found_row(row: &mut [u8], x: u16, next: u8, list: u64)
     requires { ⌜ 32 ≤ length (now row) ⌝ }
     ensures { λ r. ⌜ now (row .exit) ≡ store members list (store link next (store name x (now (row .entry)))) ⌝ }
 {
-    table::set_name(row, x);
-    table::set_link(row, next);
-    table::set_members(row, list);
+    fields::set_name(row, x);
+    fields::set_link(row, next);
+    fields::set_members(row, list);
 }
 
 // A table of so many rows for a file of so many bytes, with the named rows in it.
@@ -195,11 +195,11 @@ pub fn found(t: &mut [u8], capacity: usize, file: usize, names: &[u8])
     let size = table::row_size(file);
     // the rows stand behind the header, up to the end
     let mut at = t.len() - capacity * size;
-    table::fill(t, 0);
-    table::set_header(t, capacity as u8, n as u8, file as u16);
+    fields::fill(t, 0);
+    fields::set_header(t, capacity as u8, n as u8, file as u16);
     let mut i = 0;
     while i < n {
-        let x = table::u16_at(names, 2 * i);
+        let x = fields::u16_at(names, 2 * i);
         i += 1;
         found_row(&mut t[at..at + size], x, next_row(i, n), list.bits);
         at += size;

@@ -18,11 +18,12 @@ use Rattle.rows.specs.Sets.{gaining}
 use Rattle.rows.proofs.Bools.{and-l, and-r, clash}
 use Rattle.rows.proofs.UptoLaws.{every-at}
 use Rattle.rows.proofs.SetLaws.{gain-where}
-use Rattle.table.specs.Layout.{usedOf, firstOf, linkOf, nameOf}
+use Rattle.fields.specs.Layout.{usedOf, firstOf, linkOf, nameOf}
 use Rattle.table.specs.Chain.{chain, orderOf, among, risesFrom}
 use Rattle.table.specs.WellFormed.{visitsEach, namesRise, wellFormed}
 use Rattle.table.specs.Contracts.{Linked, Listed, Walked, Followed}
-use Rattle.table.proofs.CodeLaws.{and-assoc, eqb-swap}
+use Rattle.fields.proofs.CodeLaws.{and-assoc}
+use Rattle.table.proofs.TestLaws.{eqb-swap}
 use Rattle.table.proofs.WellFormedLaws.{header, few-rows, link-in}
 
 pub chain-zero : (next : ℕ → ℕ) (m : ℕ) → chain next m 0 ≡ []

@@ -1,6 +1,4 @@
-pub mod ByteLaws
-pub mod FieldLaws
-pub mod CodeLaws
+pub mod TestLaws
 pub mod WellFormedLaws
 pub mod ChainLaws
 pub mod ListLaws

@@ -13,9 +13,9 @@ use borrow.Author.Tests.{eqb-true, eq-eqb}
 use Rattle.rows.specs.Upto.{Within, every}
 use Rattle.rows.proofs.Bools.{and-l, and-r, same-test}
 use Rattle.rows.proofs.UptoLaws.{last, every-at, every-of, every-ext}
-use Rattle.table.specs.Layout.{get, epoch, members, usedOf, rowBytes, epochOf, membersOf}
+use Rattle.fields.specs.Layout.{get, epoch, members, usedOf, rowBytes, epochOf, membersOf}
 use Rattle.table.specs.WellFormed.{listsAgree, wellFormed}
-use Rattle.table.proofs.CodeLaws.{eqb-swap}
+use Rattle.table.proofs.TestLaws.{eqb-swap}
 
 -- ---- an array filled from its start: one of 64 whose element i - 1 is f i, for i from 1 to n
 pub record Gathered (f : ℕ → ℕ) (n : ℕ) (xs : List ℕ) : Type 0 where

@@ -6,8 +6,8 @@ use lib.Dec.{eqb, leb, ltb}
 use lib.ListN.{length, drop}
 use Rattle.rows.specs.Upto.{every}
 use Rattle.rows.specs.Sets.{has}
-use Rattle.table.specs.Bytes.{part, allZero}
-use Rattle.table.specs.Layout.{get, form, name, link, mark, version, desired, epoch, members, reserved, capacityOf, usedOf, firstOf, fileOf, rowLength, rowsEnd, rowBytes, linkOf, nameOf}
+use Rattle.fields.specs.Bytes.{part, allZero}
+use Rattle.fields.specs.Layout.{get, form, name, link, mark, version, desired, epoch, members, reserved, capacityOf, usedOf, firstOf, fileOf, rowLength, rowsEnd, rowBytes, linkOf, nameOf}
 use Rattle.table.specs.Chain.{chain, among, risesFrom}
 
 unfoldable pub between : ℕ → ℕ → ℕ → Bool

@@ -1,13 +1,12 @@
 // The chain of used rows.
-use crate::layout;
-use crate::logic::both;
 use crate::places;
+use fields::both;
 use rows::RowSet;
 ghost use mathlib.Core.Path.{_≡_};
 ghost use mathlib.Core.Bool.{true};
 ghost use lib.ListN.{take};
 ghost use Rattle.rows.specs.Sets.{has};
-ghost use Rattle.table.specs.Layout.{usedOf};
+ghost use Rattle.fields.specs.Layout.{usedOf};
 ghost use Rattle.table.specs.Chain.{among, orderOf};
 ghost use Rattle.table.specs.WellFormed.{visitsEach, namesRise};
 ghost use Rattle.table.specs.Contracts.{Linked, Listed, Followed};
@@ -30,10 +29,10 @@ pub fn follow(t: &[u8]) -> Walk
     requires { ⌜ Linked (now t) ⌝ }
     ensures { λ r. ⌜ Followed (now (t .entry)) (r .rows) (r .count) (r .next) ⌝ }
 {
-    let used = layout::used(t);
+    let used = fields::used(t);
     let mut rows = [0u8; 64];
     let mut count = 0;
-    let mut next = layout::first(t);
+    let mut next = fields::first(t);
     while count < used {
         if next == 0 {
             return Walk {
@@ -43,7 +42,7 @@ pub fn follow(t: &[u8]) -> Walk
             };
         }
         rows[count] = next as u8;
-        next = layout::link(places::row_of(t, next)) as usize;
+        next = fields::link(places::row_of(t, next)) as usize;
         count += 1;
     }
     Walk {
@@ -85,7 +84,7 @@ pub fn visits_each(t: &[u8], w: Walk) -> bool
     requires { ⌜ Linked (now t) × Followed (now t) (w .rows) (w .count) (w .next) ⌝ }
     ensures { λ r. ⌜ r ≡ visitsEach (now (t .entry)) ⌝ }
 {
-    let used = layout::used(t);
+    let used = fields::used(t);
     if w.next != 0 {
         return false;
     }
@@ -106,7 +105,7 @@ pub fn names_rise(t: &[u8], w: Walk) -> bool
     let mut k = 0;
     while k < w.count {
         let i = w.rows[k];
-        let name = layout::name(places::row_of(t, i as usize));
+        let name = fields::name(places::row_of(t, i as usize));
         ok = both(ok, low < name);
         low = name;
         k += 1;

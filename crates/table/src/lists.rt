@@ -1,15 +1,14 @@
 // Used rows of one epoch carry the same list.
-use crate::layout;
-use crate::logic::any;
-use crate::logic::both;
 use crate::places;
+use fields::any;
+use fields::both;
 ghost use mathlib.Core.Path.{_≡_};
 ghost use mathlib.Core.Bool.{not, _||_};
 ghost use Prim.Native.Nat.{_-_, _≤_};
 ghost use lib.Dec.{eqb};
 ghost use lib.ListN.{getD};
 ghost use Rattle.rows.specs.Upto.{every};
-ghost use Rattle.table.specs.Layout.{usedOf, rowBytes};
+ghost use Rattle.fields.specs.Layout.{usedOf, rowBytes};
 ghost use Rattle.table.specs.WellFormed.{listsAgree};
 ghost use Rattle.table.specs.Contracts.{Sized};
 
@@ -32,15 +31,15 @@ pub fn lists_agree(t: &[u8]) -> bool
     requires { ⌜ Sized (now t) ⌝ }
     ensures { λ r. ⌜ r ≡ every (usedOf (now (t .entry))) (λ i. every (usedOf (now (t .entry))) (λ j. listsAgree (rowBytes (now (t .entry)) i) (rowBytes (now (t .entry)) j))) ⌝ }
 {
-    let used = layout::used(t);
+    let used = fields::used(t);
     let mut epochs = [0u32; 64];
     let mut lists = [0u64; 64];
     let mut ok = true;
     let mut k = 0;
     while k < used {
         let row = places::row_of(t, k + 1);
-        let epoch = layout::epoch(row);
-        let list = layout::members(row);
+        let epoch = fields::epoch(row);
+        let list = fields::members(row);
         ok = both(ok, agrees(epoch, list, &epochs, &lists, k));
         epochs[k] = epoch;
         lists[k] = list;

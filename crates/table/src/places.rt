@@ -1,11 +1,10 @@
 // Where the rows of a table stand.
-use crate::layout;
 ghost use mathlib.Core.Path.{_≡_};
 ghost use mathlib.Core.Bool.{true};
 ghost use Prim.Native.Nat.{_+_, _≤_};
 ghost use lib.ListN.{length};
 ghost use Rattle.rows.specs.Upto.{Within};
-ghost use Rattle.table.specs.Layout.{capacityOf, usedOf, rowLength, rowsEnd, rowBytes};
+ghost use Rattle.fields.specs.Layout.{capacityOf, usedOf, rowLength, rowsEnd, rowBytes};
 ghost use Rattle.table.specs.WellFormed.{headerValues};
 ghost use Rattle.table.specs.Contracts.{Sized};
 
@@ -14,14 +13,14 @@ pub fn row_size(file: usize) -> usize
     requires { ⌜ file ≤ 4_096 ⌝ }
     ensures { λ r. ⌜ r ≡ 32 + file ⌝ }
 {
-    layout::HEAD + file
+    fields::HEAD + file
 }
 
 pub fn row_length(t: &[u8]) -> usize
     requires { ⌜ (16 ≤ length (now t)) × (headerValues (now t) ≡ true) ⌝ }
     ensures { λ r. ⌜ r ≡ rowLength (now (t .entry)) ⌝ }
 {
-    row_size(layout::file_length(t))
+    row_size(fields::file_length(t))
 }
 
 // Where the rows behind row k start.
@@ -29,7 +28,7 @@ pub fn rows_end(t: &[u8], k: usize) -> usize
     requires { ⌜ (16 ≤ length (now t)) × (headerValues (now t) ≡ true) × (k ≤ capacityOf (now t)) ⌝ }
     ensures { λ r. ⌜ r ≡ rowsEnd (now (t .entry)) k ⌝ }
 {
-    layout::HEADER + k * row_length(t)
+    fields::HEADER + k * row_length(t)
 }
 
 // The bytes of a used row.

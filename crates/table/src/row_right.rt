@@ -1,55 +1,44 @@
 // Question 1 of one used row by itself.
-use crate::layout;
-use crate::logic::between;
-use crate::logic::both;
-use crate::logic::either;
-use crate::numbers::all_zero;
+use crate::values::between;
+use crate::values::only_rows;
+use fields::all_zero;
+use fields::both;
+use fields::either;
 use rows::RowSet;
 ghost use mathlib.Core.Path.{_≡_};
 ghost use Prim.Native.Nat.{_≤_};
 ghost use lib.ListN.{length};
-ghost use Rattle.table.specs.WellFormed.{onlyRows, rowValues, numbersSmall, desiredRight, listRight, rowRight};
+ghost use Rattle.table.specs.WellFormed.{rowValues, numbersSmall, desiredRight, listRight, rowRight};
 
 // No version, desired version or epoch number passes this.
 const LIMIT: u32 = 1_000_000;
-
-// Does s name rows 1 to n only?
-pub fn only_rows(n: usize, s: u64) -> bool
-    requires { ⌜ n ≤ 64 ⌝ }
-    ensures { λ r. ⌜ r ≡ onlyRows n s ⌝ }
-{
-    if n == 64 {
-        return true;
-    }
-    s < 1 << n
-}
 
 fn row_values(n: usize, row: &[u8]) -> bool
     requires { ⌜ 32 ≤ length (now row) ⌝ }
     ensures { λ r. ⌜ r ≡ rowValues n (now (row .entry)) ⌝ }
 {
-    let named = between(1, layout::name(row) as usize, 65_535);
-    let linked = both(named, layout::link(row) as usize <= n);
-    let marked = both(linked, layout::mark(row) <= 1);
-    both(marked, all_zero(&row[layout::HEAD_REST..layout::HEAD]))
+    let named = between(1, fields::name(row) as usize, 65_535);
+    let linked = both(named, fields::link(row) as usize <= n);
+    let marked = both(linked, fields::mark(row) <= 1);
+    both(marked, all_zero(&row[fields::HEAD_REST..fields::HEAD]))
 }
 
 fn numbers_small(row: &[u8]) -> bool
     requires { ⌜ 32 ≤ length (now row) ⌝ }
     ensures { λ r. ⌜ r ≡ numbersSmall (now (row .entry)) ⌝ }
 {
-    let versions = both(layout::version(row) <= LIMIT, layout::desired(row) <= LIMIT);
-    both(versions, layout::epoch(row) <= LIMIT)
+    let versions = both(fields::version(row) <= LIMIT, fields::desired(row) <= LIMIT);
+    both(versions, fields::epoch(row) <= LIMIT)
 }
 
 fn desired_right(row: &[u8]) -> bool
     requires { ⌜ 32 ≤ length (now row) ⌝ }
     ensures { λ r. ⌜ r ≡ desiredRight (now (row .entry)) ⌝ }
 {
-    let desired = layout::desired(row);
+    let desired = fields::desired(row);
     either(
-        layout::is_stale(row),
-        layout::version(row) < desired,
+        fields::is_stale(row),
+        fields::version(row) < desired,
         desired == 0,
     )
 }
@@ -58,7 +47,7 @@ fn list_right(n: usize, i: usize, row: &[u8]) -> bool
     requires { ⌜ (n ≤ 64) × (32 ≤ length (now row)) ⌝ }
     ensures { λ r. ⌜ r ≡ listRight n i (now (row .entry)) ⌝ }
 {
-    let bits = layout::members(row);
+    let bits = fields::members(row);
     let list = RowSet { bits: bits };
     both(only_rows(n, bits), list.has(i))
 }

@@ -2,19 +2,18 @@
 use crate::chain::follow;
 use crate::chain::names_rise;
 use crate::chain::visits_each;
-use crate::layout;
 use crate::lists::lists_agree;
-use crate::logic::between;
-use crate::logic::both;
-use crate::numbers::all_zero;
 use crate::places;
 use crate::row_right::row_right;
+use crate::values::between;
+use fields::all_zero;
+use fields::both;
 ghost use mathlib.Core.Path.{_≡_};
 ghost use mathlib.Core.Bool.{true, _&&_};
 ghost use Prim.Native.Nat.{_≤_};
 ghost use lib.ListN.{length};
 ghost use Rattle.rows.specs.Upto.{every};
-ghost use Rattle.table.specs.Layout.{usedOf, rowBytes};
+ghost use Rattle.fields.specs.Layout.{usedOf, rowBytes};
 ghost use Rattle.table.specs.WellFormed.{headerValues, lengthRight, rowRight, visitsEach, namesRise, unusedZero, wellFormed};
 ghost use Rattle.table.specs.Contracts.{Sized, Linked};
 
@@ -22,20 +21,20 @@ fn header_values(t: &[u8]) -> bool
     requires { ⌜ 16 ≤ length (now t) ⌝ }
     ensures { λ r. ⌜ r ≡ headerValues (now (t .entry)) ⌝ }
 {
-    let capacity = layout::capacity(t);
-    let used = layout::used(t);
-    let roomy = both(layout::form(t) == 1, between(1, capacity, 64));
+    let capacity = fields::capacity(t);
+    let used = fields::used(t);
+    let roomy = both(fields::form(t) == 1, between(1, capacity, 64));
     let filled = both(roomy, between(1, used, capacity));
-    let started = both(filled, between(1, layout::first(t), used));
-    let sized = both(started, between(1, layout::file_length(t), 4_096));
-    both(sized, all_zero(&t[layout::HEADER_REST..layout::HEADER]))
+    let started = both(filled, between(1, fields::first(t), used));
+    let sized = both(started, between(1, fields::file_length(t), 4_096));
+    both(sized, all_zero(&t[fields::HEADER_REST..fields::HEADER]))
 }
 
 fn length_right(t: &[u8]) -> bool
     requires { ⌜ (16 ≤ length (now t)) × (headerValues (now t) ≡ true) ⌝ }
     ensures { λ r. ⌜ r ≡ lengthRight (now (t .entry)) ⌝ }
 {
-    let end = places::rows_end(t, layout::capacity(t));
+    let end = places::rows_end(t, fields::capacity(t));
     t.len() == end
 }
 
@@ -44,7 +43,7 @@ fn rows_right(t: &[u8]) -> bool
     requires { ⌜ Sized (now t) ⌝ }
     ensures { λ r. ⌜ r ≡ every (usedOf (now (t .entry))) (λ i. rowRight (usedOf (now (t .entry))) i (rowBytes (now (t .entry)) i)) ⌝ }
 {
-    let used = layout::used(t);
+    let used = fields::used(t);
     let mut ok = true;
     let mut k = 0;
     while k < used {
@@ -70,7 +69,7 @@ fn unused_zero(t: &[u8]) -> bool
     requires { ⌜ Sized (now t) ⌝ }
     ensures { λ r. ⌜ r ≡ unusedZero (now (t .entry)) ⌝ }
 {
-    let end = places::rows_end(t, layout::used(t));
+    let end = places::rows_end(t, fields::used(t));
     all_zero(&t[end..])
 }
 
@@ -78,7 +77,7 @@ fn unused_zero(t: &[u8]) -> bool
 pub fn well_formed(t: &[u8]) -> bool
     ensures { λ r. ⌜ r ≡ wellFormed (now (t .entry)) ⌝ }
 {
-    if t.len() < layout::HEADER {
+    if t.len() < fields::HEADER {
         return false;
     }
     if !header_values(t) {

@@ -7,7 +7,7 @@ use lib.Dec.{eqb, leb}
 use Rattle.rows.specs.Upto.{Within}
 use Rattle.rows.specs.Sets.{has}
 use Rattle.rows.proofs.Bools.{and-l, and-r}
-use Rattle.table.specs.Layout.{get, version, usedOf, staleOf, versionOf, desiredOf, rowBytes}
+use Rattle.fields.specs.Layout.{get, version, usedOf, staleOf, versionOf, desiredOf, rowBytes}
 use Rattle.table.specs.WellFormed.{between, onlyRows, wellFormed}
 use Rattle.table.proofs.FormLaws.{between-is}
 use Rattle.protocol.specs.Rows.{withRow, refreshedRow}

@@ -1,4 +1,5 @@
 // Sends and epoch checks: their questions in order, then what is done.
+use fields::both;
 use grid::Kind;
 use questions::below_limit;
 use questions::coordinator_asked;
@@ -6,7 +7,6 @@ use questions::result;
 use rows::RowSet;
 use settle::Verdict;
 use table::between;
-use table::both;
 ghost use mathlib.Core.Path.{_≡_};
 ghost use mathlib.Core.Bool.{true, not, cond, _&&_};
 ghost use Prim.Native.Nat.{_^_, _≤_, _<_};
@@ -14,7 +14,7 @@ ghost use lib.Dec.{eqb, leb};
 ghost use lib.ListN.{length};
 ghost use Rattle.rows.specs.Sets.{has};
 ghost use Rattle.grid.specs.declared.quorums.Kind.the-variants.{Write};
-ghost use Rattle.table.specs.Layout.{get, mark, version, desired, usedOf};
+ghost use Rattle.fields.specs.Layout.{get, mark, version, desired, usedOf};
 ghost use Rattle.table.specs.WellFormed.{between, onlyRows, wellFormed};
 ghost use Rattle.protocol.specs.Polls.{highestEpoch, inForce};
 ghost use Rattle.protocol.specs.Calls.{firstNo, questions, answers, resultOf, outcome, send, check};
@@ -35,12 +35,12 @@ fn rows_asked(source: &[u8], target: &[u8]) -> u32
     requires { ⌜ (32 ≤ length (now source)) × (32 ≤ length (now target)) ⌝ }
     ensures { λ r. ⌜ r ≡ cond (not (eqb (get mark (now (source .entry))) 1)) (cond (eqb (get mark (now (target .entry))) 1 && leb (get desired (now (target .entry))) (get version (now (source .entry)))) 0 10) 9 ⌝ }
 {
-    if table::is_stale(source) {
+    if fields::is_stale(source) {
         return 9;
     }
     if both(
-        table::is_stale(target),
-        table::desired(target) <= table::version(source),
+        fields::is_stale(target),
+        fields::desired(target) <= fields::version(source),
     ) {
         return 0;
     }
@@ -52,7 +52,7 @@ fn send_asked(t: &[u8], from: usize, to: usize, answering: RowSet) -> u32
     ensures { λ r. ⌜ r ≡ firstNo (questions (now (t .entry)) (send from to (answering .bits))) ⌝ }
 {
     if table::well_formed(t) {
-        if rows_named(table::used(t), from, to, answering) {
+        if rows_named(fields::used(t), from, to, answering) {
             if both(answering.has(from), answering.has(to)) {
                 return rows_asked(table::row_of(t, from), table::row_of(t, to));
             }
@@ -72,7 +72,7 @@ pub fn send(t: &mut [u8], from: usize, to: usize, r: u64) -> u64
     if no != 0 {
         return result(no, 0);
     }
-    let version = table::version(table::row_of(t, from));
+    let version = fields::version(table::row_of(t, from));
     store::refresh(t, from, to);
     result(0, version)
 }

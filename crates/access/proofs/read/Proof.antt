@@ -2,8 +2,8 @@ use mathlib.Core.Path.{_≡_, sym, _∙_, ap}
 use native.Mathlib.Omega.{arith}
 use borrow.Author.Needs.{needs}
 use lib.ListN.{length}
-use Rattle.table.specs.Bytes.{part}
-use Rattle.table.specs.Layout.{rowBytes, contents}
+use Rattle.fields.specs.Bytes.{part}
+use Rattle.fields.specs.Layout.{rowBytes, contents}
 use Rattle.table.proofs.WellFormedLaws.{sized}
 use Rattle.protocol.specs.Calls.{firstNo, lent}
 use Rattle.protocol.proofs.QuestionLaws.{ByCoordinator}

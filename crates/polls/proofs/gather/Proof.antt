@@ -6,7 +6,7 @@ use borrow.Author.Needs.{needs}
 use Rattle.polls.proofs.PlaceLaws.{upTo, gathered-none, gathered-next, gathered-used, Placed, placed-none, placed-more, placed-masked}
 use Rattle.protocol.specs.Polls.{polled}
 use Rattle.table.proofs.WellFormedLaws.{long, few-rows}
-use Rattle.table.specs.Layout.{usedOf, staleOf, versionOf, desiredOf, epochOf}
+use Rattle.fields.specs.Layout.{usedOf, staleOf, versionOf, desiredOf, epochOf}
 use Rattle.rows.proofs.SetLaws.{has-empty}
 use Rattle.rows.specs.Sets.{has}
 use Rattle.polls.proofs.gather.Statement.{statement}

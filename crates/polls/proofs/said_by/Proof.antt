@@ -3,7 +3,7 @@ use mathlib.Core.Path.{refl, ap, _∙_}
 use Prim.Native.Nat.{ℕ}
 use borrow.Author.Needs.{needs}
 use lib.Dec.{eqb}
-use Rattle.table.specs.Layout.{get, mark, version, desired, epoch, staleOf, versionOf, desiredOf, epochOf}
+use Rattle.fields.specs.Layout.{get, mark, version, desired, epoch, staleOf, versionOf, desiredOf, epochOf}
 use Rattle.polls.proofs.said_by.Statement.{statement}
 use Rattle.polls.proofs.said_by.Tie as tie
 

@@ -4,7 +4,7 @@ use Prim.Native.Nat.{ℕ, _≤_}
 use native.Mathlib.Omega.{arith}
 use borrow.Author.Needs.{needs}
 use Rattle.settle.proofs.ForceLaws.{leader, leader-is, leader-in, leader-used, force-is}
-use Rattle.table.specs.Layout.{get, members, rowBytes}
+use Rattle.fields.specs.Layout.{get, members, rowBytes}
 use Rattle.rows.specs.Sets.{has}
 use Rattle.settle.proofs.list_in_force.Statement.{statement}
 use Rattle.settle.proofs.list_in_force.Tie as tie

@@ -4,7 +4,7 @@ use native.Mathlib.Omega.{arith}
 use borrow.Author.Needs.{needs}
 use Rattle.settle.proofs.SettleLaws.{try-is, works-on-try, works-on-all}
 use Rattle.protocol.proofs.PollLaws.{cut-in}
-use Rattle.table.specs.Layout.{get, name, members, usedOf, membersOf, nameOf}
+use Rattle.fields.specs.Layout.{get, name, members, usedOf, membersOf, nameOf}
 use Rattle.rows.proofs.SetLaws.{has-within}
 use Rattle.rows.specs.Sets.{has}
 use Rattle.settle.proofs.settle.Statement.{statement}

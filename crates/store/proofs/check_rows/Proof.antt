@@ -5,7 +5,7 @@ use borrow.Author.Needs.{needs}
 use Rattle.store.proofs.RowsLaws.{roomy, Done, none-done, Turn, turn-fits, turn-long, rows-turn}
 use Rattle.protocol.specs.Rows.{checkedRow}
 use Rattle.table.proofs.WellFormedLaws.{long, row-length}
-use Rattle.table.specs.Layout.{usedOf}
+use Rattle.fields.specs.Layout.{usedOf}
 use Rattle.rows.specs.Sets.{has}
 use Rattle.store.proofs.check_rows.Statement.{statement}
 use Rattle.store.proofs.check_rows.Tie as tie

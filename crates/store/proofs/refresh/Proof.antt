@@ -4,7 +4,7 @@ use native.Mathlib.Omega.{arith}
 use borrow.Author.Needs.{needs}
 use Rattle.store.proofs.CopyLaws.{Places, file-below, target-fits, target-long, copy-fits, refreshed}
 use Rattle.table.proofs.WellFormedLaws.{header, long}
-use Rattle.table.specs.Layout.{get, version}
+use Rattle.fields.specs.Layout.{get, version}
 use Rattle.store.proofs.refresh.Statement.{statement}
 use Rattle.store.proofs.refresh.Tie as tie
 

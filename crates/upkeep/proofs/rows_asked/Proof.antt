@@ -2,7 +2,7 @@ use borrow.Author.Needs.{needs}
 use mathlib.Core.Path.{_≡_, sym, _∙_, ap₂}
 use mathlib.Core.Bool.{_&&_}
 use lib.Dec.{eqb, leb}
-use Rattle.table.specs.Layout.{get, mark, version, desired}
+use Rattle.fields.specs.Layout.{get, mark, version, desired}
 use Rattle.upkeep.proofs.rows_asked.Statement.{statement}
 use Rattle.upkeep.proofs.rows_asked.Tie as tie
 

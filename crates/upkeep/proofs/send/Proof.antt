@@ -1,7 +1,7 @@
 use borrow.Author.Needs.{needs}
 use mathlib.Core.Path.{_≡_, sym, _∙_, ap}
 use native.Mathlib.Omega.{arith}
-use Rattle.table.specs.Layout.{get, version}
+use Rattle.fields.specs.Layout.{get, version}
 use Rattle.table.proofs.WellFormedLaws.{sized}
 use Rattle.protocol.specs.Calls.{send, firstNo, questions}
 use Rattle.protocol.proofs.QuestionLaws.{SendYes, send-yes}

@@ -3,7 +3,7 @@ use mathlib.Core.Path.{_≡_, _∙_, ap}
 use Prim.Native.Nat.{_-_}
 use native.Mathlib.Omega.{arith}
 use borrow.Author.Needs.{needs}
-use Rattle.table.specs.Layout.{usedOf, linkOf, get, link}
+use Rattle.fields.specs.Layout.{usedOf, linkOf, get, link}
 use Rattle.table.proofs.WellFormedLaws.{few-rows, long}
 use Rattle.table.specs.Contracts.{Walked}
 use Rattle.table.proofs.ChainLaws.{walk-start, walk-turn}

@@ -5,7 +5,7 @@ use native.Mathlib.Omega.{arith}
 use borrow.Author.Needs.{needs}
 use lib.Seq.{getD-take, length-take-le}
 use lib.ListN.{length, getD, take, drop}
-use Rattle.table.specs.Layout.{nameOf, get, name}
+use Rattle.fields.specs.Layout.{nameOf, get, name}
 use Rattle.table.specs.WellFormed.{namesRise}
 use Rattle.table.proofs.WellFormedLaws.{long}
 use Rattle.table.specs.Chain.{risesFrom}

@@ -5,7 +5,7 @@ use native.Mathlib.Omega.{arith}
 use borrow.Author.Needs.{needs}
 use lib.ListN.{getD}
 use lib.Dec.{eqb}
-use Rattle.table.proofs.CodeLaws.{every-turn}
+use Rattle.table.proofs.TestLaws.{every-turn}
 use Rattle.rows.specs.Upto.{every}
 use Rattle.table.proofs.lists.agrees.Statement.{statement}
 use Rattle.table.proofs.lists.agrees.Tie as tie

@@ -3,10 +3,10 @@ use Prim.Native.Nat.{ℕ, _+_, _-_, _≤_, _<_}
 use native.Mathlib.Omega.{arith}
 use borrow.Author.Needs.{needs}
 use Rattle.table.proofs.ListLaws.{Gathered, gathered-none, gathered-more, agree-turn, agree-all}
-use Rattle.table.specs.Layout.{usedOf, rowBytes, get, epoch, members, epochOf, membersOf}
+use Rattle.fields.specs.Layout.{usedOf, rowBytes, get, epoch, members, epochOf, membersOf}
 use Rattle.table.specs.WellFormed.{listsAgree}
 use Rattle.table.proofs.WellFormedLaws.{few-rows, long}
-use Rattle.table.proofs.CodeLaws.{every-turn}
+use Rattle.table.proofs.TestLaws.{every-turn}
 use Rattle.rows.specs.Upto.{every}
 use Rattle.table.proofs.lists.lists_agree.Statement.{statement}
 use Rattle.table.proofs.lists.lists_agree.Tie as tie

@@ -3,8 +3,8 @@ use Prim.Native.Nat.{_+_, _-_, _≤_}
 use native.Mathlib.Omega.{arith}
 use borrow.Author.Needs.{needs}
 use lib.ListN.{length, take, drop}
-use Rattle.table.proofs.CodeLaws.{part-is}
-use Rattle.table.specs.Layout.{rowBytes}
+use Rattle.fields.proofs.CodeLaws.{part-is}
+use Rattle.fields.specs.Layout.{rowBytes}
 use Rattle.table.proofs.WellFormedLaws.{header, long, row-in, row-part, row-long}
 use Rattle.table.proofs.places.row_of.Statement.{statement}
 use Rattle.table.proofs.places.row_of.Tie as tie

@@ -1,7 +1,7 @@
 use Prim.Native.Nat.{_*_, _≤_}
 use native.Mathlib.Omega.{arith}
 use borrow.Author.Needs.{needs}
-use Rattle.table.specs.Layout.{rowsEnd}
+use Rattle.fields.specs.Layout.{rowsEnd}
 use Rattle.table.proofs.WellFormedLaws.{ends-small}
 use Rattle.table.proofs.places.rows_end.Statement.{statement}
 use Rattle.table.proofs.places.rows_end.Tie as tie

@@ -3,10 +3,10 @@ use mathlib.Core.Path.{_≡_, refl, _∙_, ap, ap₂}
 use Prim.Native.Nat.{ℕ, _+_, _-_, _≤_}
 use native.Mathlib.Omega.{arith}
 use borrow.Author.Needs.{needs}
-use Rattle.table.specs.Layout.{usedOf, rowBytes}
+use Rattle.fields.specs.Layout.{usedOf, rowBytes}
 use Rattle.table.proofs.WellFormedLaws.{header, long}
 use Rattle.table.specs.WellFormed.{rowRight}
-use Rattle.table.proofs.CodeLaws.{every-turn}
+use Rattle.table.proofs.TestLaws.{every-turn}
 use Rattle.rows.specs.Upto.{every}
 use Rattle.table.proofs.stages.rows_right.Statement.{statement}
 use Rattle.table.proofs.stages.rows_right.Tie as tie

@@ -3,11 +3,11 @@ use Prim.Native.Nat.{_≤_}
 use native.Mathlib.Omega.{arith}
 use borrow.Author.Needs.{needs}
 use lib.ListN.{length}
-use Rattle.table.specs.Layout.{rowsEnd, usedOf}
+use Rattle.fields.specs.Layout.{rowsEnd, usedOf}
 use Rattle.table.proofs.WellFormedLaws.{header, long, rows-in}
 use Rattle.table.specs.WellFormed.{unusedZero}
-use Rattle.table.proofs.CodeLaws.{tail-is}
-use Rattle.table.specs.Bytes.{allZero}
+use Rattle.fields.proofs.CodeLaws.{tail-is}
+use Rattle.fields.specs.Bytes.{allZero}
 use Rattle.table.proofs.stages.unused_zero.Statement.{statement}
 use Rattle.table.proofs.stages.unused_zero.Tie as tie
 

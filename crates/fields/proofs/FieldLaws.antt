@@ -1,0 +1,75 @@
+-- Fields: what was stored is read back; other fields, the reserved bytes and the contents stay; the length stays.
+use mathlib.Core.Path.{_≡_, refl, sym, _∙_, ap}
+use mathlib.Core.Logic.{_⊎_, inl, inr}
+use mathlib.Core.List.{List}
+use Prim.Native.Nat.{ℕ, _+_, _-_, _^_, _≤_, _<_}
+use native.Mathlib.Omega.{arith}
+use lib.ListN.{length, drop}
+use Rattle.fields.specs.Bytes.{number, bytesOf, part, put}
+use Rattle.fields.specs.Layout.{Field, get, store, reserved, contents, storeContents}
+use Rattle.fields.proofs.ByteLaws.{length-bytes, number-bytes, length-put, part-put, part-apart, drop-put-after, drop-put-before}
+
+-- the bytes of f end by place n
+abbrev pub Ends : Field → ℕ → Type 0
+Ends f n = f .place + f .width ≤ n
+
+-- the bytes of f and those from a to b lie apart
+abbrev pub Apart : Field → ℕ → ℕ → Type 0
+Apart f a b = (f .place + f .width ≤ a) ⊎ (b ≤ f .place)
+
+-- ---- a number stored in field f
+module _ (f : Field) (v : ℕ) (xs : List ℕ) (h : Ends f (length xs)) where
+  stored-fits : f .place + length (bytesOf (f .width) v) ≤ length xs
+  stored-fits = rw (length-bytes (f .width) v) h
+
+  pub length-store : length (store f v xs) ≡ length xs
+  unfolding store
+  length-store = length-put xs (f .place) (bytesOf (f .width) v) stored-fits
+
+  pub get-store : v < 256 ^ f .width → get f (store f v xs) ≡ v
+  unfolding get store
+  get-store l =
+      ap (λ (k : ℕ). number (part (f .place) k (put (f .place) (bytesOf (f .width) v) xs))) (sym (length-bytes (f .width) v))
+      ∙ ap number (part-put xs (f .place) (bytesOf (f .width) v) stored-fits) ∙ number-bytes (f .width) v l
+
+  pub part-store : (a n : ℕ) → (a + n ≤ f .place) ⊎ (f .place + f .width ≤ a) → part a n (store f v xs) ≡ part a n xs
+  unfolding store
+  part-store a n (inl q) = part-apart xs (f .place) (bytesOf (f .width) v) stored-fits a n (inl q)
+  part-store a n (inr q) = part-apart xs (f .place) (bytesOf (f .width) v) stored-fits a n (inr (rw (length-bytes (f .width) v) q))
+
+  pub get-other : (g : Field) → Apart g (f .place) (f .place + f .width) → get g (store f v xs) ≡ get g xs
+  unfolding get
+  get-other g q = ap number (part-store (g .place) (g .width) q)
+
+  pub reserved-store : f .place + f .width ≤ 24 → reserved (store f v xs) ≡ reserved xs
+  unfolding reserved
+  reserved-store q = part-store 24 8 (inr q)
+
+  pub contents-store : f .place + f .width ≤ 32 → contents (store f v xs) ≡ contents xs
+  unfolding contents store
+  contents-store q = drop-put-after xs (f .place) (bytesOf (f .width) v) stored-fits 32 (rw (length-bytes (f .width) v) q)
+
+-- ---- bytes stored in the contents
+module _ (offset : ℕ) (p xs : List ℕ) (h : 32 + offset + length p ≤ length xs) where
+  pub length-contents : length (storeContents offset p xs) ≡ length xs
+  unfolding storeContents
+  length-contents = length-put xs (32 + offset) p h
+
+  pub part-contents : (a n : ℕ) → a + n ≤ 32 → part a n (storeContents offset p xs) ≡ part a n xs
+  unfolding storeContents
+  part-contents a n q = part-apart xs (32 + offset) p h a n (inl (omega arith))
+
+  pub get-contents : (g : Field) → Ends g 32 → get g (storeContents offset p xs) ≡ get g xs
+  unfolding get
+  get-contents g q = ap number (part-contents (g .place) (g .width) q)
+
+  pub reserved-contents : reserved (storeContents offset p xs) ≡ reserved xs
+  unfolding reserved
+  reserved-contents = part-contents 24 8 (omega arith)
+
+  -- the patch is laid over the contents
+  pub contents-contents : contents (storeContents offset p xs) ≡ put offset p (contents xs)
+  unfolding contents storeContents
+  contents-contents =
+      let n : 32 + offset - 32 ≡ offset = omega arith in
+      drop-put-before xs (32 + offset) p h 32 (omega arith) ∙ ap (λ (n : ℕ). put n p (drop 32 xs)) n

@@ -1,0 +1,14 @@
+use mathlib.Core.Path.{sym}
+use borrow.Author.Needs.{needs}
+use Rattle.fields.proofs.CodeLaws.{number-one}
+use Rattle.fields.proofs.numbers.u8_at.Statement.{statement}
+use Rattle.fields.proofs.numbers.u8_at.Tie as tie
+
+shared-slice-read-result : tie.Need-shared-slice-read-result
+shared-slice-read-result c = search needs
+
+returns : tie.Need-returns
+returns c = sym (number-one _ _)
+
+pub u8-at-spec : {M : Type 1} → statement M
+u8-at-spec = tie.close (tie.spec shared-slice-read-result returns)

@@ -1,0 +1,117 @@
+-- The table in memory: the only places where offsets stand. A table is its bytes; every reading of it is total.
+use mathlib.Core.Bool.{Bool}
+use mathlib.Core.List.{List, []}
+use Prim.Native.Nat.{ℕ, zero, suc, _+_, _*_}
+use lib.Dec.{eqb}
+use lib.ListN.{drop}
+use Rattle.fields.specs.Bytes.{number, bytesOf, part, put}
+
+-- a number at a place, so many bytes wide
+pub record Field : Type 0 where
+  pub place : ℕ
+  pub width : ℕ
+
+unfoldable pub get : Field → List ℕ → ℕ
+get f xs = number (part (f .place) (f .width) xs)
+
+unfoldable pub store : Field → ℕ → List ℕ → List ℕ
+store f v xs = put (f .place) (bytesOf (f .width) v) xs
+
+-- "Header, 16 bytes: byte 0 form; 1 capacity; 2 rows used; 3 index of the first row in the chain; 4 to 5 file length L; the rest 0."
+unfoldable pub form : Field
+form = record { place = 0; width = 1 }
+
+unfoldable pub capacity : Field
+capacity = record { place = 1; width = 1 }
+
+unfoldable pub used : Field
+used = record { place = 2; width = 1 }
+
+unfoldable pub first : Field
+first = record { place = 3; width = 1 }
+
+unfoldable pub fileLength : Field
+fileLength = record { place = 4; width = 2 }
+
+-- a row's head: "0 to 1 name; 2 next row's index; 12 to 15 epoch number; 16 to 23 epoch list"
+unfoldable pub name : Field
+name = record { place = 0; width = 2 }
+
+unfoldable pub link : Field
+link = record { place = 2; width = 1 }
+
+unfoldable pub epoch : Field
+epoch = record { place = 12; width = 4 }
+
+unfoldable pub members : Field
+members = record { place = 16; width = 8 }
+
+-- a row's part: "3 stale mark; 4 to 7 version; 8 to 11 desired version; 24 to 31 zero; then L contents bytes"
+unfoldable pub mark : Field
+mark = record { place = 3; width = 1 }
+
+unfoldable pub version : Field
+version = record { place = 4; width = 4 }
+
+unfoldable pub desired : Field
+desired = record { place = 8; width = 4 }
+
+unfoldable pub reserved : List ℕ → List ℕ
+reserved row = part 24 8 row
+
+unfoldable pub contents : List ℕ → List ℕ
+contents row = drop 32 row
+
+-- the row with bytes put into its contents
+unfoldable pub storeContents : ℕ → List ℕ → List ℕ → List ℕ
+storeContents offset p row = put (32 + offset) p row
+
+-- "Then each row takes 32 + L bytes", row 1 first
+unfoldable pub rowLength : List ℕ → ℕ
+rowLength t = 32 + get fileLength t
+
+-- where the rows behind row k start
+unfoldable pub rowsEnd : List ℕ → ℕ → ℕ
+rowsEnd t k = 16 + k * rowLength t
+
+-- "Rows have indexes 1 upward": row i's bytes; there is no row 0
+unfoldable pub rowBytes : List ℕ → ℕ → List ℕ
+rowBytes t zero = []
+rowBytes t (suc k) = part (rowsEnd t k) (rowLength t) t
+
+-- ---- what a table says: its header, and its row i
+unfoldable pub capacityOf : List ℕ → ℕ
+capacityOf t = get capacity t
+
+unfoldable pub usedOf : List ℕ → ℕ
+usedOf t = get used t
+
+unfoldable pub firstOf : List ℕ → ℕ
+firstOf t = get first t
+
+unfoldable pub fileOf : List ℕ → ℕ
+fileOf t = get fileLength t
+
+unfoldable pub nameOf : List ℕ → ℕ → ℕ
+nameOf t i = get name (rowBytes t i)
+
+unfoldable pub linkOf : List ℕ → ℕ → ℕ
+linkOf t i = get link (rowBytes t i)
+
+unfoldable pub epochOf : List ℕ → ℕ → ℕ
+epochOf t i = get epoch (rowBytes t i)
+
+unfoldable pub membersOf : List ℕ → ℕ → ℕ
+membersOf t i = get members (rowBytes t i)
+
+unfoldable pub staleOf : List ℕ → ℕ → Bool
+staleOf t i = eqb (get mark (rowBytes t i)) 1
+
+unfoldable pub versionOf : List ℕ → ℕ → ℕ
+versionOf t i = get version (rowBytes t i)
+
+unfoldable pub desiredOf : List ℕ → ℕ → ℕ
+desiredOf t i = get desired (rowBytes t i)
+
+unfoldable pub contentsOf : List ℕ → ℕ → List ℕ
+contentsOf t i = contents (rowBytes t i)

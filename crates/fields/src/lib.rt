@@ -1,0 +1,38 @@
+// Numbers in bytes, and the fields of a table's header and of a row.
+mod layout;
+mod logic;
+mod numbers;
+
+pub use layout::HEAD;
+pub use layout::HEAD_REST;
+pub use layout::HEADER;
+pub use layout::HEADER_REST;
+pub use layout::capacity;
+pub use layout::copy_out;
+pub use layout::desired;
+pub use layout::epoch;
+pub use layout::file_length;
+pub use layout::first;
+pub use layout::form;
+pub use layout::is_stale;
+pub use layout::link;
+pub use layout::mark;
+pub use layout::members;
+pub use layout::name;
+pub use layout::patch;
+pub use layout::set_desired;
+pub use layout::set_epoch;
+pub use layout::set_header;
+pub use layout::set_link;
+pub use layout::set_mark;
+pub use layout::set_members;
+pub use layout::set_name;
+pub use layout::set_version;
+pub use layout::used;
+pub use layout::version;
+pub use logic::any;
+pub use logic::both;
+pub use logic::either;
+pub use numbers::all_zero;
+pub use numbers::fill;
+pub use numbers::u16_at;
