@@ -1,0 +1,75 @@
+-- A founding, as the code goes through it.
+use mathlib.Core.Path.{_≡_, refl, sym, _∙_, ap}
+use mathlib.Core.Bool.{Bool, true, cond, _&&_, and-true}
+use mathlib.Core.List.{List, [], _∷_}
+use Prim.Native.Nat.{ℕ, suc, _+_, _*_, _%_, _^_, _≤_, _<_}
+use native.Mathlib.Numerals.{add-one}
+use native.Mathlib.Omega.{arith}
+use lib.Dec.{eqb, leb, ltb}
+use lib.ListN.{length, getD, drop}
+use lib.Seq.{drop-cons, drop-length}
+use borrow.Author.Tests.{le-leb, eqb-true}
+use Rattle.rows.specs.Upto.{Within}
+use Rattle.rows.proofs.Bools.{and-l, and-r}
+use Rattle.fields.proofs.CodeLaws.{and-assoc}
+use Rattle.table.specs.WellFormed.{between}
+use Rattle.protocol.specs.Calls.{Outcome, founding, firstNo, questions, namesIn, namesRise, founded, done, outcome, resultOf}
+use Rattle.protocol.proofs.QuestionLaws.{refusal-is, when-done}
+use Rattle.protocol.proofs.FoundedLaws.{founds-of}
+use Rattle.store.proofs.FoundLaws.{names-even}
+
+-- ---- question 11's loop: the names before the k-th rise (ok) up to `low`
+module _ (names : List ℕ) (k low : ℕ) (ok : Bool) (so-far : (ok && namesRise low (drop k names)) ≡ namesRise 0 names) where
+  pub rise-turn : (x : ℕ) (r : Bool) → k < length names → x ≡ getD names k 0 → x ≤ 65_535 → r ≡ (ok && ltb low x)
+      → (r && namesRise x (drop (k + 1) names)) ≡ namesRise 0 names
+  unfolding namesRise
+  rise-turn x r h e small d =
+      rw (d, add-one k)
+      (and-assoc ok (ltb low x) (namesRise x (drop (suc k) names))
+      ∙ ap (λ (b : Bool). ok && (b && namesRise x (drop (suc k) names))) (sym (and-true (ltb low x)) ∙ ap (λ (b : Bool). ltb low x && b) (sym (le-leb x 65_535 small)))
+      ∙ ap (λ (y : ℕ). ok && namesRise low (y ∷ drop (suc k) names)) e
+      ∙ ap (λ (xs : List ℕ). ok && namesRise low xs) (sym (drop-cons names k 0 h))
+      ∙ so-far)
+
+  pub rise-end : k ≡ length names → ok ≡ namesRise 0 names
+  unfolding namesRise
+  rise-end e =
+      let z : drop k names ≡ [] = ap (λ (n : ℕ). drop n names) e ∙ drop-length names in
+      sym (and-true ok) ∙ ap (λ (xs : List ℕ). ok && namesRise low xs) (sym z) ∙ so-far
+
+-- ---- the two questions
+module _ (t : List ℕ) (capacity file : ℕ) (names : List ℕ) where
+  abbrev pub NamesRight : Bool
+  NamesRight = eqb (length names % 2) 0 && between 1 (length (namesIn names)) 64 && namesRise 0 (namesIn names)
+
+  abbrev pub SizesRight : Bool
+  SizesRight = between 1 capacity 64 && leb (length (namesIn names)) capacity && between 1 file 4_096 && eqb (length t) (16 + capacity * (32 + file))
+
+  pub found-answers : (x y : Bool) → NamesRight ≡ x → SizesRight ≡ y → cond x (cond y 0 12) 11 ≡ firstNo (questions t (founding capacity file names))
+  unfolding questions firstNo
+  found-answers x y ex ey = rw (ex, ey) refl
+
+  -- as many bytes as two for each name
+  pub two-each : NamesRight ≡ true → length names ≡ 2 * length (namesIn names)
+  two-each h = names-even names (eqb-true (length names % 2) 0 (and-l _ _ (and-l (eqb (length names % 2) 0 && between 1 (length (namesIn names)) 64) _ h)))
+
+  module _ (eleven : NamesRight ≡ true) (twelve : SizesRight ≡ true) where
+    all-yes : firstNo (questions t (founding capacity file names)) ≡ 0
+    all-yes = sym (found-answers true true eleven twelve)
+
+    pub found-fits : (length t ≡ 16 + capacity * (32 + file)) × Within 4_096 file × (capacity ≤ 64) × (length names ≡ 2 * length (namesIn names)) × Within capacity (length (namesIn names))
+    found-fits =
+        let f = founds-of t capacity file names all-yes in (
+          eqb-true (length t) (16 + capacity * (32 + file)) (and-r (between 1 capacity 64 && leb (length (namesIn names)) capacity && between 1 file 4_096) _ twelve),
+          f .bytes,
+          f .most,
+          two-each eleven,
+          (f .some, f .room),
+        )
+
+    pub found-done : (0 * 2 ^ 32 + length (namesIn names) ≡ resultOf (outcome t (founding capacity file names)))
+        × (founded capacity file (namesIn names) ≡ outcome t (founding capacity file names) .table)
+    unfolding done resultOf
+    found-done =
+        let o = when-done t (founding capacity file names) (refusal-is t (founding capacity file names) ∙ all-yes) in
+        (sym (ap resultOf o), sym (ap (λ (x : Outcome). x .table) o))

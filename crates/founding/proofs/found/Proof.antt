@@ -1,0 +1,91 @@
+use borrow.Author.Needs.{needs}
+use mathlib.Core.Path.{_≡_, refl, sym, _∙_, ap}
+use mathlib.Core.Bool.{true, false, _&&_}
+use Prim.Native.Nat.{ℕ, _+_, _*_, _/_, _^_}
+use native.Mathlib.Omega.{arith}
+use borrow.Author.Tests.{not-true, not-false}
+use lib.Dec.{eqb, leb}
+use lib.ListN.{length}
+use Rattle.table.specs.WellFormed.{between}
+use Rattle.protocol.specs.Calls.{founding, namesIn}
+use Rattle.questions.proofs.QuestionLaws.{refused-is}
+use Rattle.founding.proofs.FoundingLaws.{NamesRight, SizesRight, two-each, found-answers, found-fits, found-done}
+use Rattle.founding.proofs.found.Statement.{statement}
+use Rattle.founding.proofs.found.Tie as tie
+
+-- question 11 is passed
+eleven : (c : tie.Else1) → let a = c .before .before .before .before .args in NamesRight (a .t .now) (a .capacity) (a .file) (a .names .now) ≡ true
+eleven c = sym (c .before .names-right .ensures) ∙ not-false _ (c .if1 .left)
+
+half : (c : tie.Else1) → let names = c .before .before .before .before .args .names .now in length names / 2 ≡ length (namesIn names)
+half c = let a = c .before .before .before .before .args in omega (arith, two-each (a .t .now) (a .capacity) (a .file) (a .names .now) (eleven c))
+
+-- question 12 by its answer
+sized : (c : tie.After-sizes-right) → let a = c .before .before .before .before .before .args in SizesRight (a .t .now) (a .capacity) (a .file) (a .names .now) ≡ c .sizes-right .result
+sized c =
+    let a = c .before .before .before .before .before .args in
+    sym (c .sizes-right .ensures ∙ ap (λ (n : ℕ). between 1 (a .capacity) 64 && leb n (a .capacity) && between 1 (a .file) 4_096 && eqb (length (a .t .now)) (16 + a .capacity * (32 + a .file))) (half (c .before)))
+
+twelve : (c : tie.Else2) → let a = c .before .before .before .before .before .before .args in SizesRight (a .t .now) (a .capacity) (a .file) (a .names .now) ≡ true
+twelve c = sized (c .before) ∙ not-false _ (c .if2 .left)
+
+names-right-requires : tie.Need-names-right-requires
+names-right-requires c κs = search needs
+
+result-requires : tie.Need-result-requires
+result-requires c κs = search needs
+
+returns : tie.Need-returns
+returns c =
+    let a = c .before .before .before .before .before .args in
+    let no = refused-is (a .t .now) (founding (a .capacity) (a .file) (a .names .now)) 11 (sym (found-answers (a .t .now) (a .capacity) (a .file) (a .names .now) false _ (sym (c .before .before .names-right .ensures) ∙ not-true _ (c .before .if1 .taken)) refl)) (omega arith) in
+    (c .result .ensures ∙ no .result, no .table)
+
+sizes-right-requires : tie.Need-sizes-right-requires
+sizes-right-requires c κs = search needs
+
+result-requires-2 : tie.Need-result-requires-2
+result-requires-2 c κs = search needs
+
+returns-2 : tie.Need-returns-2
+returns-2 c =
+    let a = c .before .before .before .before .before .before .before .args in
+    let no = refused-is (a .t .now) (founding (a .capacity) (a .file) (a .names .now)) 12 (sym (found-answers (a .t .now) (a .capacity) (a .file) (a .names .now) true false (eleven (c .before .before .before)) (sized (c .before .before) ∙ not-true _ (c .before .if2 .taken)))) (omega arith) in
+    (c .result2 .ensures ∙ no .result, no .table)
+
+found-requires : tie.Need-found-requires
+found-requires c κs = let a = c .before .before .before .before .before .before .before .args in found-fits (a .t .now) (a .capacity) (a .file) (a .names .now) (eleven (c .before .before .before)) (twelve (c .before))
+
+cast-result : tie.Need-cast-result
+cast-result c =
+    let a = c .before .before .before .before .before .before .before .before .before .before .args in
+    let f = found-fits (a .t .now) (a .capacity) (a .file) (a .names .now) (eleven (c .before .before .before .before .before .before)) (twelve (c .before .before .before .before)) in
+    record { fits = omega (arith, f .2, f .3, f .4) }
+
+result-requires-3 : tie.Need-result-requires-3
+result-requires-3 c κs = search needs
+
+same-length : tie.Need-same-length
+same-length c = search needs
+
+returns-3 : tie.Need-returns-3
+returns-3 c =
+    let a = c .before .before .before .before .before .before .before .before .before .before .before .args in
+    let yes = found-done (a .t .now) (a .capacity) (a .file) (a .names .now) (eleven (c .before .before .before .before .before .before .before)) (twelve (c .before .before .before .before .before)) in
+    (c .result3 .ensures ∙ ap (λ (n : ℕ). 0 * 2 ^ 32 + n) (half (c .before .before .before .before .before .before .before)) ∙ yes .0, c .before .before .before .found .ensures ∙ yes .1)
+
+pub found-spec : {M : Type 1} → statement M
+found-spec =
+    tie.close
+    (tie.spec
+    names-right-requires
+    result-requires
+    returns
+    sizes-right-requires
+    result-requires-2
+    returns-2
+    found-requires
+    cast-result
+    result-requires-3
+    same-length
+    returns-3)

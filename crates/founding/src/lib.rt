@@ -1,0 +1,68 @@
+// The founding of a table: its questions in order, then what is done.
+use fields::both;
+use questions::result;
+use table::between;
+ghost use mathlib.Core.Path.{_≡_};
+ghost use mathlib.Core.Bool.{_&&_};
+ghost use Prim.Native.Nat.{_+_, _*_, _%_};
+ghost use lib.Dec.{eqb, leb};
+ghost use lib.ListN.{length};
+ghost use Rattle.table.specs.WellFormed.{between};
+ghost use Rattle.protocol.specs.Calls.{founding, namesIn, namesRise, resultOf, outcome};
+
+// Do the names rise strictly, and is none of them 0?
+fn names_rise(names: &[u8]) -> bool
+    requires { ⌜ length (now names) ≡ 2 * length (namesIn (now names)) ⌝ }
+    ensures { λ r. ⌜ r ≡ namesRise 0 (namesIn (now (names .entry))) ⌝ }
+{
+    let n = names.len() / 2;
+    let mut ok = true;
+    let mut low: u16 = 0;
+    let mut i = 0;
+    while i < n {
+        let x = fields::u16_at(names, 2 * i);
+        ok = both(ok, low < x);
+        low = x;
+        i += 1;
+    }
+    ok
+}
+
+// Question 11: 1 to 64 names, two bytes each, strictly rising, none 0?
+fn names_right(names: &[u8]) -> bool
+    ensures { λ r. ⌜ r ≡ (eqb (length (now (names .entry)) % 2) 0 && between 1 (length (namesIn (now (names .entry)))) 64 && namesRise 0 (namesIn (now (names .entry)))) ⌝ }
+{
+    if names.len() % 2 != 0 {
+        return false;
+    }
+    if !between(1, names.len() / 2, 64) {
+        return false;
+    }
+    names_rise(names)
+}
+
+// Question 12: is there a row for each of n names, and is the table as long as it must be?
+fn sizes_right(bytes: usize, capacity: usize, file: usize, n: usize) -> bool
+    ensures { λ r. ⌜ r ≡ (between 1 capacity 64 && leb n capacity && between 1 file 4_096 && eqb bytes (16 + capacity * (32 + file))) ⌝ }
+{
+    let seated = both(between(1, capacity, 64), n <= capacity);
+    if !both(seated, between(1, file, 4_096)) {
+        return false;
+    }
+    bytes == fields::HEADER + capacity * table::row_size(file)
+}
+
+// A founding: a table of so many rows for a file of so many bytes, with the named machines in it. Value: how many.
+pub fn found(t: &mut [u8], capacity: usize, file: usize, names: &[u8]) -> u64
+    ensures { λ x. ⌜ (x ≡ resultOf (outcome (now (t .entry)) (founding capacity file (now (names .entry))))) × (now (t .exit) ≡ outcome (now (t .entry)) (founding capacity file (now (names .entry))) .table) ⌝ }
+{
+    if !names_right(names) {
+        return result(11, 0);
+    }
+    let n = names.len() / 2;
+    if !sizes_right(t.len(), capacity, file, n) {
+        return result(12, 0);
+    }
+    store::found(t, capacity, file, names);
+    result(0, n as u32)
+}
