@@ -1,0 +1,51 @@
+// What a host program in C sees: one function for each call. The result is refusal number times 2^32, plus value.
+ghost use mathlib.Core.Path.{_≡_};
+ghost use Rattle.protocol.specs.Calls.{founding, read, write, send, check, resultOf, outcome};
+
+#[no_mangle]
+pub extern "C" fn grid_found(table: &mut [u8], capacity: u64, file: u64, names: &[u8]) -> u64
+    ensures { λ r. ⌜ (r ≡ resultOf (outcome (now (table .entry)) (founding capacity file (now (names .entry))))) × (now (table .exit) ≡ outcome (now (table .entry)) (founding capacity file (now (names .entry))) .table) ⌝ }
+{
+    founding::found(table, capacity as usize, file as usize, names)
+}
+
+#[no_mangle]
+pub extern "C" fn grid_read(table: &[u8], coordinator: u64, answering: u64, offset: u64, length: u64, buffer: &mut [u8]) -> u64
+    ensures { λ r. ⌜ (r ≡ resultOf (outcome (now (table .entry)) (read coordinator answering offset length (now (buffer .entry))))) × (now (table .entry) ≡ outcome (now (table .entry)) (read coordinator answering offset length (now (buffer .entry))) .table) × (now (buffer .exit) ≡ outcome (now (table .entry)) (read coordinator answering offset length (now (buffer .entry))) .buffer) ⌝ }
+{
+    access::read(
+        table,
+        coordinator as usize,
+        answering,
+        offset as usize,
+        length as usize,
+        buffer,
+    )
+}
+
+#[no_mangle]
+pub extern "C" fn grid_write(table: &mut [u8], coordinator: u64, answering: u64, offset: u64, patch: &[u8]) -> u64
+    ensures { λ r. ⌜ (r ≡ resultOf (outcome (now (table .entry)) (write coordinator answering offset (now (patch .entry))))) × (now (table .exit) ≡ outcome (now (table .entry)) (write coordinator answering offset (now (patch .entry))) .table) ⌝ }
+{
+    access::write(
+        table,
+        coordinator as usize,
+        answering,
+        offset as usize,
+        patch,
+    )
+}
+
+#[no_mangle]
+pub extern "C" fn grid_send(table: &mut [u8], from: u64, to: u64, answering: u64) -> u64
+    ensures { λ r. ⌜ (r ≡ resultOf (outcome (now (table .entry)) (send from to answering))) × (now (table .exit) ≡ outcome (now (table .entry)) (send from to answering) .table) ⌝ }
+{
+    upkeep::send(table, from as usize, to as usize, answering)
+}
+
+#[no_mangle]
+pub extern "C" fn grid_check(table: &mut [u8], coordinator: u64, answering: u64) -> u64
+    ensures { λ r. ⌜ (r ≡ resultOf (outcome (now (table .entry)) (check coordinator answering))) × (now (table .exit) ≡ outcome (now (table .entry)) (check coordinator answering) .table) ⌝ }
+{
+    upkeep::check(table, coordinator as usize, answering)
+}
