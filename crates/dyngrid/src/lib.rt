@@ -10,30 +10,34 @@ pub extern "C" fn grid_found(table: &mut [u8], capacity: u64, file: u64, names: 
 }
 
 #[no_mangle]
-pub extern "C" fn grid_read(table: &[u8], coordinator: u64, answering: u64, offset: u64, length: u64, buffer: &mut [u8]) -> u64
+pub extern "C" fn grid_read(
+    table: &[u8],
+    coordinator: u64,
+    answering: u64,
+    offset: u64,
+    length: u64,
+    buffer: &mut [u8],
+) -> u64
     ensures { λ r. ⌜ (r ≡ resultOf (outcome (now (table .entry)) (read coordinator answering offset length (now (buffer .entry))))) × (now (table .entry) ≡ outcome (now (table .entry)) (read coordinator answering offset length (now (buffer .entry))) .table) × (now (buffer .exit) ≡ outcome (now (table .entry)) (read coordinator answering offset length (now (buffer .entry))) .buffer) ⌝ }
 {
-    access::read(
-        table,
-        coordinator as usize,
-        answering,
-        offset as usize,
-        length as usize,
-        buffer,
-    )
+    let reader = coordinator as usize;
+    let from = offset as usize;
+    access::read(table, reader, answering, from, length as usize, buffer)
 }
 
 #[no_mangle]
-pub extern "C" fn grid_write(table: &mut [u8], coordinator: u64, answering: u64, offset: u64, patch: &[u8]) -> u64
+pub extern "C" fn grid_write(
+    table: &mut [u8],
+    coordinator: u64,
+    answering: u64,
+    offset: u64,
+    patch: &[u8],
+) -> u64
     ensures { λ r. ⌜ (r ≡ resultOf (outcome (now (table .entry)) (write coordinator answering offset (now (patch .entry))))) × (now (table .exit) ≡ outcome (now (table .entry)) (write coordinator answering offset (now (patch .entry))) .table) ⌝ }
 {
-    access::write(
-        table,
-        coordinator as usize,
-        answering,
-        offset as usize,
-        patch,
-    )
+    let writer = coordinator as usize;
+    let to = offset as usize;
+    access::write(table, writer, answering, to, patch)
 }
 
 #[no_mangle]
