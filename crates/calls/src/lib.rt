@@ -1,5 +1,5 @@
 // The calls: their questions in order, then what is done.
-use fields::both;
+use bytes::both;
 use grid::Kind;
 use rows::RowSet;
 use settle::Settled;

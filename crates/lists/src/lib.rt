@@ -1,6 +1,6 @@
 // A list of rows in chain order: the quorum that a set holds of it, and the choice that a name makes over it.
 // The chain order is the first `count` of an array of 64 rows.
-use fields::both;
+use bytes::both;
 use grid::Kind;
 use rows::RowSet;
 ghost use mathlib.Core.Path.{_≡_};

@@ -10,11 +10,11 @@ use native.Mathlib.Omega.{arith}
 use lib.ListN.{length, getD, take, drop, set, length-drop}
 use lib.Seq.{drop-drop, take-at, drop-at, take-add, take-all, getD-drop, length-take-le, take-append-le, drop-append-le, paste, paste-zero, paste-suc}
 use Rattle.rows.specs.Upto.{Within}
-use Rattle.fields.specs.Bytes.{part, put}
+use Rattle.bytes.specs.Bytes.{part, put}
 use Rattle.fields.specs.Layout.{get, store, mark, version, desired, contents, storeContents, usedOf, fileOf, rowLength, rowsEnd, rowBytes}
 use Rattle.table.specs.Contracts.{Sized}
-use Rattle.fields.proofs.ByteLaws.{length-part, part-part, length-put, put-before, put-after, part-apart}
-use Rattle.fields.proofs.CodeLaws.{part-back, part-is, part-length}
+use Rattle.bytes.proofs.ByteLaws.{length-part, part-part, length-put, put-before, put-after, part-apart}
+use Rattle.bytes.proofs.CodeLaws.{part-back, part-is, part-length}
 use Rattle.table.proofs.WellFormedLaws.{row-length, row-in, row-part, length-row}
 use Rattle.protocol.specs.Rows.{refreshedRow, withRow}
 use Rattle.protocol.proofs.TableLaws.{end-le}

@@ -12,10 +12,10 @@ use lib.ListN.{length, getD, take, drop, length-append, replicate-append-replica
 use lib.Seq.{take-at, drop-at, take-all, take-suc, length-take-le}
 use Rattle.rows.specs.Sets.{has, firstRows}
 use Rattle.rows.proofs.SetLaws.{has-first, same-members}
-use Rattle.fields.specs.Bytes.{number, bytesOf, part, put}
+use Rattle.bytes.specs.Bytes.{number, bytesOf, part, put}
 use Rattle.fields.specs.Layout.{store, form, capacity, used, first, fileLength, name, link, members}
-use Rattle.fields.proofs.ByteLaws.{length-put}
-use Rattle.fields.proofs.CodeLaws.{part-length, part-back}
+use Rattle.bytes.proofs.ByteLaws.{length-put}
+use Rattle.bytes.proofs.CodeLaws.{part-length, part-back}
 use Rattle.protocol.specs.Calls.{zeros, namesIn, foundedHeader, foundedRow, foundedRows, founded}
 use Rattle.protocol.proofs.FoundedLaws.{length-zeros, length-header, length-rows}
 

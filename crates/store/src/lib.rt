@@ -8,7 +8,7 @@ ghost use lib.Dec.{eqb};
 ghost use lib.ListN.{length};
 ghost use Rattle.rows.specs.Upto.{Within};
 ghost use Rattle.rows.specs.Sets.{has};
-ghost use Rattle.fields.specs.Bytes.{part, put};
+ghost use Rattle.bytes.specs.Bytes.{part, put};
 ghost use Rattle.fields.specs.Layout.{store, name, link, mark, version, desired, members, usedOf, rowLength, rowBytes};
 ghost use Rattle.table.specs.Contracts.{Sized};
 ghost use Rattle.protocol.specs.Rows.{markedRow, patchedRow, enrolledRow, refreshedRow, withRow, withRows, wroteRow, checkedRow};
@@ -195,11 +195,11 @@ pub fn found(t: &mut [u8], capacity: usize, file: usize, names: &[u8])
     let size = table::row_size(file);
     // the rows stand behind the header, up to the end
     let mut at = t.len() - capacity * size;
-    fields::fill(t, 0);
+    bytes::fill(t, 0);
     fields::set_header(t, capacity as u8, n as u8, file as u16);
     let mut i = 0;
     while i < n {
-        let x = fields::u16_at(names, 2 * i);
+        let x = bytes::u16_at(names, 2 * i);
         i += 1;
         found_row(&mut t[at..at + size], x, next_row(i, n), list.bits);
         at += size;

@@ -13,7 +13,7 @@ use Rattle.rows.specs.Upto.{Within, every}
 use Rattle.rows.specs.Sets.{has}
 use Rattle.rows.proofs.Bools.{and-l, and-r, and-i, or-l, or-r, or-e, clash}
 use Rattle.rows.proofs.UptoLaws.{every-at, every-of}
-use Rattle.fields.specs.Bytes.{part, allZero}
+use Rattle.bytes.specs.Bytes.{part, allZero}
 use Rattle.fields.specs.Layout.{get, form, name, link, mark, version, desired, epoch, members, reserved, capacityOf, usedOf, firstOf, fileOf, rowLength, rowsEnd, rowBytes}
 use Rattle.table.specs.WellFormed.{between, limit, onlyRows, headerValues, rowValues, lengthRight, visitsEach, namesRise, unusedZero, numbersSmall, desiredRight, listRight, rowRight, listsAgree, wellFormed}
 

@@ -6,7 +6,7 @@ use lib.Dec.{eqb, leb, ltb}
 use lib.ListN.{length, drop}
 use Rattle.rows.specs.Upto.{every}
 use Rattle.rows.specs.Sets.{has}
-use Rattle.fields.specs.Bytes.{part, allZero}
+use Rattle.bytes.specs.Bytes.{part, allZero}
 use Rattle.fields.specs.Layout.{get, form, name, link, mark, version, desired, epoch, members, reserved, capacityOf, usedOf, firstOf, fileOf, rowLength, rowsEnd, rowBytes, linkOf, nameOf}
 use Rattle.table.specs.Chain.{chain, among, risesFrom}
 

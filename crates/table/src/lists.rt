@@ -1,7 +1,7 @@
 // Used rows of one epoch carry the same list.
 use crate::places;
-use fields::any;
-use fields::both;
+use bytes::any;
+use bytes::both;
 ghost use mathlib.Core.Path.{_≡_};
 ghost use mathlib.Core.Bool.{not, _||_};
 ghost use Prim.Native.Nat.{_-_, _≤_};

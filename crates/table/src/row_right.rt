@@ -1,9 +1,9 @@
 // Question 1 of one used row by itself.
 use crate::values::between;
 use crate::values::only_rows;
-use fields::all_zero;
-use fields::both;
-use fields::either;
+use bytes::all_zero;
+use bytes::both;
+use bytes::either;
 use rows::RowSet;
 ghost use mathlib.Core.Path.{_≡_};
 ghost use Prim.Native.Nat.{_≤_};

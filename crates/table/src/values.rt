@@ -1,5 +1,5 @@
 // Tests that question 1 and the calls' questions share.
-use fields::both;
+use bytes::both;
 ghost use mathlib.Core.Path.{_≡_};
 ghost use Prim.Native.Nat.{_≤_};
 ghost use Rattle.table.specs.WellFormed.{between, onlyRows};

@@ -7,7 +7,7 @@ use Rattle.calls.proofs.ReadLaws.{read-early, read-long, read-no, sourc
 use Rattle.calls.proofs.QuestionLaws.{range-passed}
 use Rattle.table.proofs.WellFormedLaws.{sized}
 use Rattle.fields.specs.Layout.{rowBytes, contents}
-use Rattle.fields.specs.Bytes.{part}
+use Rattle.bytes.specs.Bytes.{part}
 use Rattle.calls.proofs.read.Statement.{statement}
 use Rattle.calls.proofs.read.Tie as tie
 

@@ -4,7 +4,7 @@ use native.Mathlib.Omega.{arith}
 use borrow.Author.Needs.{needs}
 use lib.ListN.{length, length-set}
 use Rattle.store.proofs.CopyLaws.{none-copied, copy-more}
-use Rattle.fields.specs.Bytes.{part, put}
+use Rattle.bytes.specs.Bytes.{part, put}
 use Rattle.store.proofs.copy_apart.Statement.{statement}
 use Rattle.store.proofs.copy_apart.Tie as tie
 

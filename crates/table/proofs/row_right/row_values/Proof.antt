@@ -1,7 +1,7 @@
 use borrow.Author.Needs.{needs}
 use Rattle.fields.specs.Layout.{reserved}
 use Rattle.table.specs.WellFormed.{rowValues}
-use Rattle.fields.specs.Bytes.{part}
+use Rattle.bytes.specs.Bytes.{part}
 use Rattle.table.proofs.row_right.row_values.Statement.{statement}
 use Rattle.table.proofs.row_right.row_values.Tie as tie
 

@@ -1,6 +1,6 @@
 use borrow.Author.Needs.{needs}
 use Rattle.table.specs.WellFormed.{headerValues}
-use Rattle.fields.specs.Bytes.{part}
+use Rattle.bytes.specs.Bytes.{part}
 use Rattle.table.proofs.stages.header_values.Statement.{statement}
 use Rattle.table.proofs.stages.header_values.Tie as tie
 

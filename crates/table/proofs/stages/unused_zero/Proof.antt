@@ -6,8 +6,8 @@ use lib.ListN.{length}
 use Rattle.fields.specs.Layout.{rowsEnd, usedOf}
 use Rattle.table.proofs.WellFormedLaws.{header, long, rows-in}
 use Rattle.table.specs.WellFormed.{unusedZero}
-use Rattle.fields.proofs.CodeLaws.{tail-is}
-use Rattle.fields.specs.Bytes.{allZero}
+use Rattle.bytes.proofs.CodeLaws.{tail-is}
+use Rattle.bytes.specs.Bytes.{allZero}
 use Rattle.table.proofs.stages.unused_zero.Statement.{statement}
 use Rattle.table.proofs.stages.unused_zero.Tie as tie
 
