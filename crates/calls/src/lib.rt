@@ -29,11 +29,11 @@ fn result(refusal: u32, value: u32) -> u64
 fn coordinator_asked(t: &[u8], c: usize, answering: RowSet) -> u32
     ensures { λ r. ⌜ r ≡ firstNo (byCoordinator (now (t .entry)) c (answering .bits) []) ⌝ }
 {
-    if table::well_formed(t) {
+    if wellformed::well_formed(t) {
         let used = fields::used(t);
         if both(
-            table::between(1, c, used),
-            table::only_rows(used, answering.bits),
+            wellformed::between(1, c, used),
+            wellformed::only_rows(used, answering.bits),
         ) {
             if answering.has(c) {
                 return 0;

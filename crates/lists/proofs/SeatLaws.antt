@@ -17,11 +17,11 @@ use Rattle.rows.specs.Sets.{has, gaining, noRow}
 use Rattle.rows.proofs.Bools.{and-l, and-r, and-i, or-l, or-r, or-e, same-test, clash}
 use Rattle.rows.proofs.UptoLaws.{some-at, some-of, some-none, some-ext, count-le}
 use Rattle.rows.proofs.SetLaws.{gain-where, has-within}
-use Rattle.grid.specs.declared.sizes.Grid.{Grid}
+use Rattle.sizes.specs.declared.Grid.{Grid}
 use Rattle.grid.specs.declared.quorums.Kind.{Kind}
-use Rattle.grid.specs.Sizes.{published, noGrid}
+use Rattle.sizes.specs.Sizes.{published, noGrid}
 use Rattle.grid.specs.Quorums.{quorum, choice}
-use Rattle.grid.proofs.SizeLaws.{Fits, published-fits}
+use Rattle.sizes.proofs.SizeLaws.{Fits, published-fits}
 use Rattle.grid.proofs.QuorumLaws.{choice-within}
 use Rattle.protocol.specs.Lists.{size, gridOf, keep, seats, atSeat, listQuorum, listChoice}
 

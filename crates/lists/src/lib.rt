@@ -70,7 +70,7 @@ pub fn quorum(kind: Kind, order: &[u8; 64], count: usize, list: RowSet, set: Row
     let length = list.size();
     grid::holds(
         kind,
-        grid::published(length),
+        sizes::published(length),
         length,
         held(order, count, list, set),
     )
@@ -86,6 +86,6 @@ pub fn choice(kind: Kind, order: &[u8; 64], count: usize, list: RowSet, name: u1
         order,
         count,
         list,
-        grid::choose(kind, grid::published(length), length, name),
+        grid::choose(kind, sizes::published(length), length, name),
     )
 }
