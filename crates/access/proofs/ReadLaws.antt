@@ -11,7 +11,7 @@ use Rattle.rows.specs.Upto.{Within, lowest}
 use Rattle.rows.specs.Sets.{has}
 use Rattle.rows.proofs.SetLaws.{has-within}
 use Rattle.grid.specs.declared.quorums.Kind.the-variants.{Read}
-use Rattle.fields.specs.Bytes.{part}
+use Rattle.bytes.specs.Bytes.{part}
 use Rattle.fields.specs.Layout.{usedOf, nameOf, rowBytes, contents, contentsOf}
 use Rattle.table.specs.Chain.{orderOf}
 use Rattle.table.proofs.WellFormedLaws.{sized, row-length, length-row}

@@ -1,13 +1,13 @@
 -- Fields: what was stored is read back; other fields, the reserved bytes and the contents stay; the length stays.
-use mathlib.Core.Path.{_≡_, refl, sym, _∙_, ap}
+use mathlib.Core.Path.{_≡_, sym, _∙_, ap}
 use mathlib.Core.Logic.{_⊎_, inl, inr}
 use mathlib.Core.List.{List}
 use Prim.Native.Nat.{ℕ, _+_, _-_, _^_, _≤_, _<_}
 use native.Mathlib.Omega.{arith}
 use lib.ListN.{length, drop}
-use Rattle.fields.specs.Bytes.{number, bytesOf, part, put}
+use Rattle.bytes.specs.Bytes.{number, bytesOf, part, put}
 use Rattle.fields.specs.Layout.{Field, get, store, reserved, contents, storeContents}
-use Rattle.fields.proofs.ByteLaws.{length-bytes, number-bytes, length-put, part-put, part-apart, drop-put-after, drop-put-before}
+use Rattle.bytes.proofs.ByteLaws.{length-bytes, number-bytes, length-put, part-put, part-apart, drop-put-after, drop-put-before}
 
 -- the bytes of f end by place n
 abbrev pub Ends : Field → ℕ → Type 0

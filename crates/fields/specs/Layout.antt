@@ -4,7 +4,7 @@ use mathlib.Core.List.{List, []}
 use Prim.Native.Nat.{ℕ, zero, suc, _+_, _*_}
 use lib.Dec.{eqb}
 use lib.ListN.{drop}
-use Rattle.fields.specs.Bytes.{number, bytesOf, part, put}
+use Rattle.bytes.specs.Bytes.{number, bytesOf, part, put}
 
 -- a number at a place, so many bytes wide
 pub record Field : Type 0 where

@@ -11,12 +11,12 @@ use lib.Seq.{drop-cons, drop-length}
 use borrow.Author.Tests.{le-leb, eqb-true}
 use Rattle.rows.specs.Upto.{Within}
 use Rattle.rows.proofs.Bools.{and-l, and-r}
-use Rattle.fields.proofs.CodeLaws.{and-assoc}
+use Rattle.bytes.proofs.CodeLaws.{and-assoc}
 use Rattle.table.specs.WellFormed.{between}
 use Rattle.protocol.specs.Calls.{Outcome, founding, firstNo, questions, namesIn, namesRise, founded, done, outcome, resultOf}
 use Rattle.protocol.proofs.QuestionLaws.{refusal-is, when-done}
 use Rattle.protocol.proofs.FoundedLaws.{founds-of}
-use Rattle.store.proofs.FoundLaws.{names-even}
+use Rattle.renew.proofs.FoundLaws.{names-even}
 
 -- ---- question 11's loop: the names before the k-th rise (ok) up to `low`
 module _ (names : List ℕ) (k low : ℕ) (ok : Bool) (so-far : (ok && namesRise low (drop k names)) ≡ namesRise 0 names) where

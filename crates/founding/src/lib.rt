@@ -1,7 +1,7 @@
 // The founding of a table: its questions in order, then what is done.
-use fields::both;
+use bytes::both;
 use questions::result;
-use table::between;
+use wellformed::between;
 ghost use mathlib.Core.Path.{_≡_};
 ghost use mathlib.Core.Bool.{_&&_};
 ghost use Prim.Native.Nat.{_+_, _*_, _%_};
@@ -20,7 +20,7 @@ fn names_rise(names: &[u8]) -> bool
     let mut low: u16 = 0;
     let mut i = 0;
     while i < n {
-        let x = fields::u16_at(names, 2 * i);
+        let x = bytes::u16_at(names, 2 * i);
         ok = both(ok, low < x);
         low = x;
         i += 1;
@@ -63,6 +63,6 @@ pub fn found(t: &mut [u8], capacity: usize, file: usize, names: &[u8]) -> u64
     if !sizes_right(t.len(), capacity, file, n) {
         return result(12, 0);
     }
-    store::found(t, capacity, file, names);
+    renew::found(t, capacity, file, names);
     result(0, n as u32)
 }

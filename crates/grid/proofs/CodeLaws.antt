@@ -2,22 +2,22 @@
 use mathlib.Core.Path.{_≡_, refl, sym, _∙_, ap, ap₂, fun-ext}
 use mathlib.Core.Bool.{Bool, true, false, not, cond, _&&_, _||_, and-true, and-false, or-false, or-true}
 use mathlib.Core.Logic.{_⊎_, inl, inr}
-use Prim.Native.Nat.{ℕ, zero, suc, _+_, _-_, _*_, _/_, _%_, _≤_, _<_}
+use Prim.Native.Nat.{ℕ, suc, _+_, _-_, _*_, _/_, _%_, _≤_, _<_}
 use native.Mathlib.Nat.{mod-lt, mod-le, add-mod-right, div-add-mod', mul-le-mul-right}
 use native.Mathlib.Numerals.{add-one}
 use native.Mathlib.Decide.{decLe, decLt, ℕ-discrete}
 use native.Mathlib.Omega.{arith}
 use lib.Dec.{leb, ltb, eqb}
-use borrow.Author.Tests.{le-leb, lt-leb, leb-true, leb-false, eq-eqb, ne-eqb, eqb-true, lt-ltb, le-ltb}
+use borrow.Author.Tests.{le-leb, lt-leb, leb-true, eq-eqb, eqb-true, lt-ltb, le-ltb}
 use Rattle.rows.specs.Upto.{Within, every, some}
 use Rattle.rows.specs.Sets.{gaining, noRow}
-use Rattle.rows.proofs.Bools.{not-both, and-l, and-r, clash}
+use Rattle.rows.proofs.Bools.{and-l, and-r, clash}
 use Rattle.rows.proofs.UptoLaws.{not-every}
 use Rattle.rows.proofs.SetLaws.{gain-where}
-use Rattle.grid.specs.declared.sizes.Grid.{Grid}
+use Rattle.sizes.specs.declared.Grid.{Grid}
 use Rattle.grid.specs.declared.quorums.Kind.{Kind}
 use Rattle.grid.specs.declared.quorums.Kind.the-variants.{Read, Write}
-use Rattle.grid.specs.Sizes.{rowOf, columnOf, height}
+use Rattle.sizes.specs.Sizes.{rowOf, columnOf, height}
 use Rattle.grid.specs.Quorums.{touches, covers, readQuorum, writeQuorum, quorum, isPosition, readChoice, writeChoice, choice, isWrite}
 use Rattle.grid.proofs.PositionLaws.{column-suc, position, position-row, position-column, position-of, position-suc}
 

@@ -1,4 +1,3 @@
-pub mod SizeLaws
 pub mod PositionLaws
 pub mod QuorumLaws
 pub mod StarredLaws

@@ -1,17 +1,17 @@
 -- Rows, columns, heights and positions, for any length.
 use mathlib.Core.Path.{_≡_, refl, sym, _∙_, ap}
-use mathlib.Core.Bool.{Bool, true, false, cond, _&&_}
+use mathlib.Core.Bool.{Bool, true, false, cond}
 use Prim.Native.Nat.{ℕ, zero, suc, _+_, _-_, _*_, _/_, _%_, _≤_, _<_, min}
 use native.Mathlib.Nat.{mod-lt, mod-zero, div-add-mod', mul-le-mul-right, lt-of-not-le}
 use native.Mathlib.Decide.{ℕ-discrete}
 use native.Mathlib.Omega.{arith}
-use lib.Dec.{leb, eqb}
+use lib.Dec.{leb}
 use lib.Arith.{digits-div, digits-mod}
-use borrow.Author.Tests.{leb-true, leb-false, eqb-true}
+use borrow.Author.Tests.{leb-true, leb-false}
 use Rattle.rows.specs.Upto.{Within}
-use Rattle.grid.specs.declared.sizes.Grid.{Grid}
-use Rattle.grid.specs.Sizes.{spare, rowOf, columnOf, height}
-use Rattle.grid.proofs.SizeLaws.{Fits}
+use Rattle.sizes.specs.declared.Grid.{Grid}
+use Rattle.sizes.specs.Sizes.{spare, rowOf, columnOf, height}
+use Rattle.sizes.proofs.SizeLaws.{Fits}
 
 -- ---- row and column of position k + 1
 pub row-suc : (n k : ℕ) → rowOf n (k + 1) ≡ k / n + 1

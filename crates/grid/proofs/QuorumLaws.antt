@@ -1,8 +1,8 @@
 -- Quorums and choices, for any grid and any length.
 use mathlib.Core.Path.{_≡_, refl, sym, _∙_, ap, subst}
-use mathlib.Core.Bool.{Bool, true, false, not, cond, _&&_, _||_}
+use mathlib.Core.Bool.{Bool, true, false, not, _&&_, _||_}
 use mathlib.Core.Logic.{_⊎_, inl, inr}
-use Prim.Native.Nat.{ℕ, zero, suc, _+_, _-_, _*_, _/_, _%_, _≤_, _<_}
+use Prim.Native.Nat.{ℕ, _+_, _-_, _%_, _≤_}
 use native.Mathlib.Nat.{mod-lt}
 use native.Mathlib.Omega.{arith}
 use lib.Dec.{leb, eqb}
@@ -10,12 +10,12 @@ use borrow.Author.Tests.{le-leb, leb-true, eqb-true, eq-eqb}
 use Rattle.rows.specs.Upto.{Within, every, some}
 use Rattle.rows.proofs.Bools.{and-l, and-r, and-i, or-l, or-r, or-e, same-test}
 use Rattle.rows.proofs.UptoLaws.{every-at, every-of, some-at, some-of}
-use Rattle.grid.specs.declared.sizes.Grid.{Grid}
+use Rattle.sizes.specs.declared.Grid.{Grid}
 use Rattle.grid.specs.declared.quorums.Kind.{Kind}
 use Rattle.grid.specs.declared.quorums.Kind.the-variants.{Read, Write}
-use Rattle.grid.specs.Sizes.{rowOf, columnOf, height}
+use Rattle.sizes.specs.Sizes.{rowOf, columnOf, height}
 use Rattle.grid.specs.Quorums.{touches, covers, readQuorum, writeQuorum, quorum, isPosition, readChoice, writeChoice, choice}
-use Rattle.grid.proofs.SizeLaws.{Fits}
+use Rattle.sizes.proofs.SizeLaws.{Fits}
 use Rattle.grid.proofs.PositionLaws.{position, cell-of, position-of, height-some, occupied, in-grid}
 
 module _ (g : Grid) (N : ℕ) where

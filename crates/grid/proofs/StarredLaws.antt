@@ -1,8 +1,8 @@
 -- The starred lines hold: by computing the definitions.
 use mathlib.Core.Path.{_≡_, refl}
-use mathlib.Core.Bool.{Bool, true, false, not, _&&_, _||_}
+use mathlib.Core.Bool.{true}
 use Rattle.rows.specs.Upto.{every, some}
-use Rattle.grid.specs.Sizes.{root, rootUp, published, spare, rowOf, columnOf, height}
+use Rattle.sizes.specs.Sizes.{root, rootUp, published, spare, rowOf, columnOf, height}
 use Rattle.grid.specs.Quorums.{touches, covers, readQuorum, writeQuorum, quorum, isPosition, readChoice, writeChoice, choice}
 use Rattle.grid.specs.Starred.{gridOf, among, same, lineHolds, allHold, starred}
 

@@ -3,10 +3,10 @@ use mathlib.Core.Bool.{Bool, true, false, not, _&&_, _||_}
 use Prim.Native.Nat.{ℕ, _+_, _%_}
 use lib.Dec.{eqb, leb}
 use Rattle.rows.specs.Upto.{every, some}
-use Rattle.grid.specs.declared.sizes.Grid.{Grid}
+use Rattle.sizes.specs.declared.Grid.{Grid}
 use Rattle.grid.specs.declared.quorums.Kind.{Kind}
 use Rattle.grid.specs.declared.quorums.Kind.the-variants.{Read, Write}
-use Rattle.grid.specs.Sizes.{rowOf, columnOf, height}
+use Rattle.sizes.specs.Sizes.{rowOf, columnOf, height}
 
 -- "it has a member of the list in" column j
 unfoldable pub touches : ℕ → ℕ → (ℕ → Bool) → ℕ → Bool

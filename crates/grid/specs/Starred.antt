@@ -4,10 +4,10 @@ use mathlib.Core.List.{List, [], _∷_}
 use Prim.Native.Nat.{ℕ}
 use lib.Dec.{eqb}
 use Rattle.rows.specs.Upto.{every}
-use Rattle.grid.specs.declared.sizes.Grid.{Grid}
+use Rattle.sizes.specs.declared.Grid.{Grid}
 use Rattle.grid.specs.declared.quorums.Kind.{Kind}
 use Rattle.grid.specs.declared.quorums.Kind.the-variants.{Read, Write}
-use Rattle.grid.specs.Sizes.{published, spare}
+use Rattle.sizes.specs.Sizes.{published, spare}
 use Rattle.grid.specs.Quorums.{quorum, choice}
 
 -- the grid that a line speaks of

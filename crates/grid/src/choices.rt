@@ -1,16 +1,16 @@
 // The positions that a caller chooses by its name.
 use crate::quorums::Kind;
 use crate::quorums::is_write;
-use crate::sizes::Grid;
-use crate::sizes::height;
 use rows::RowSet;
+use sizes::Grid;
+use sizes::height;
 ghost use mathlib.Core.Path.{_≡_};
 ghost use mathlib.Core.Bool.{_&&_, _||_, cond};
 ghost use Prim.Native.Nat.{ℕ, _+_, _%_, _≤_, _<_};
 ghost use lib.Dec.{eqb, leb};
 ghost use Rattle.rows.specs.Upto.{Within};
 ghost use Rattle.rows.specs.Sets.{has, noRow};
-ghost use Rattle.grid.specs.Sizes.{columnOf};
+ghost use Rattle.sizes.specs.Sizes.{columnOf};
 ghost use Rattle.grid.specs.Quorums.{isPosition, readChoice, choice};
 
 // a mod h; a itself where h is 0.

@@ -1,8 +1,8 @@
 // Quorums over positions.
-use crate::sizes::Grid;
 use rows::RowSet;
+use sizes::Grid;
 ghost use mathlib.Core.Path.{_≡_};
-ghost use mathlib.Core.Bool.{_&&_, _||_, not};
+ghost use mathlib.Core.Bool.{_&&_, not};
 ghost use Prim.Native.Nat.{ℕ, _+_, _%_, _≤_};
 ghost use lib.Dec.{leb};
 ghost use Rattle.rows.specs.Sets.{has};

@@ -11,11 +11,11 @@ use Rattle.rows.specs.Upto.{Within, upward}
 use Rattle.rows.specs.Sets.{has}
 use Rattle.grid.specs.declared.quorums.Kind.{Kind}
 use Rattle.grid.specs.declared.quorums.Kind.the-variants.{Read, Write}
-use Rattle.fields.specs.Bytes.{put}
+use Rattle.bytes.specs.Bytes.{put}
 use Rattle.fields.specs.Layout.{get, mark, version, desired, contents, rowBytes, usedOf, fileOf, nameOf, staleOf, versionOf, desiredOf, contentsOf, epochOf, membersOf}
 use Rattle.table.specs.Chain.{orderOf}
 use Rattle.table.specs.WellFormed.{limit}
-use Rattle.fields.proofs.ByteLaws.{length-put}
+use Rattle.bytes.proofs.ByteLaws.{length-put}
 use Rattle.table.proofs.FormLaws.{Formed}
 use Rattle.protocol.specs.Polls.{Poll, polled, highestEpoch, inForce, goodVersion, good, current, quorumHeld, workedOn}
 use Rattle.protocol.specs.Calls.{answers, workSet}

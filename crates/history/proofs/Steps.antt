@@ -15,9 +15,9 @@ use Rattle.rows.proofs.Bools.{and-l, and-r, and-i, or-l, or-r, or-e, clash, sam
 use Rattle.rows.proofs.SetLaws.{has-within}
 use Rattle.grid.specs.declared.quorums.Kind.{Kind}
 use Rattle.grid.specs.declared.quorums.Kind.the-variants.{Read, Write}
-use Rattle.fields.specs.Bytes.{put}
+use Rattle.bytes.specs.Bytes.{put}
 use Rattle.table.specs.WellFormed.{limit}
-use Rattle.fields.proofs.ByteLaws.{length-put}
+use Rattle.bytes.proofs.ByteLaws.{length-put}
 use Rattle.protocol.specs.Lists.{listQuorum}
 use Rattle.protocol.specs.Polls.{Poll, highestEpoch, inForce, goodVersion, good, current}
 use Rattle.protocol.proofs.ListLaws.{shared, inhabited, reads}

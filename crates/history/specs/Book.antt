@@ -8,7 +8,7 @@ use Rattle.rows.specs.Upto.{every, some, upward}
 use Rattle.rows.specs.Sets.{has, cutTo}
 use Rattle.grid.specs.declared.quorums.Kind.{Kind}
 use Rattle.grid.specs.declared.quorums.Kind.the-variants.{Read, Write}
-use Rattle.fields.specs.Bytes.{put}
+use Rattle.bytes.specs.Bytes.{put}
 use Rattle.protocol.specs.Lists.{listQuorum, listChoice}
 use Rattle.protocol.specs.Calls.{Call, founding, read, write, send, check, namesIn, zeros}
 

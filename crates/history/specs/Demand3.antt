@@ -7,7 +7,7 @@ use lib.Dec.{eqb}
 use Rattle.rows.specs.Sets.{has}
 use Rattle.grid.specs.declared.quorums.Kind.{Kind}
 use Rattle.grid.specs.declared.quorums.Kind.the-variants.{Read, Write}
-use Rattle.fields.specs.Bytes.{part}
+use Rattle.bytes.specs.Bytes.{part}
 use Rattle.protocol.specs.Calls.{Call, founding, read, write, send, check, Outcome, firstNo, upTo, questions, outcome, namesIn}
 use Rattle.history.specs.Book.{Book, opened, holdsQuorum, someHasAll, entered}
 

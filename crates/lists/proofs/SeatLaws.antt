@@ -4,7 +4,6 @@ use mathlib.Core.Bool.{Bool, true, false, cond, _&&_, _||_, and-false, and-true,
 use mathlib.Core.Logic.{_⊎_, inl, inr}
 use mathlib.Core.List.{List, [], _∷_, _++_}
 use Prim.Native.Nat.{ℕ, zero, suc, _+_, _-_, _^_, _≤_, _<_}
-use native.Mathlib.Nat.{le-of-suc-le-suc}
 use native.Mathlib.Numerals.{add-one}
 use native.Mathlib.Decide.{decLe, ℕ-discrete}
 use native.Mathlib.Omega.{arith}
@@ -17,11 +16,11 @@ use Rattle.rows.specs.Sets.{has, gaining, noRow}
 use Rattle.rows.proofs.Bools.{and-l, and-r, and-i, or-l, or-r, or-e, same-test, clash}
 use Rattle.rows.proofs.UptoLaws.{some-at, some-of, some-none, some-ext, count-le}
 use Rattle.rows.proofs.SetLaws.{gain-where, has-within}
-use Rattle.grid.specs.declared.sizes.Grid.{Grid}
+use Rattle.sizes.specs.declared.Grid.{Grid}
 use Rattle.grid.specs.declared.quorums.Kind.{Kind}
-use Rattle.grid.specs.Sizes.{published, noGrid}
+use Rattle.sizes.specs.Sizes.{published, noGrid}
 use Rattle.grid.specs.Quorums.{quorum, choice}
-use Rattle.grid.proofs.SizeLaws.{Fits, published-fits}
+use Rattle.sizes.proofs.SizeLaws.{published-fits}
 use Rattle.grid.proofs.QuorumLaws.{choice-within}
 use Rattle.protocol.specs.Lists.{size, gridOf, keep, seats, atSeat, listQuorum, listChoice}
 
@@ -96,66 +95,68 @@ some-more n q a c m w = same-test _ _ to from
             some-of n _ (r .0) (r .1) (and-i (q (r .0)) _ (and-l _ _ (r .2)) (or-l (a (r .0)) _ (and-r (q (r .0)) _ (r .2))))
         by (inr p) = some-of n _ m w (and-i (q m) _ (and-l _ _ p) (or-r (a m) _ (and-i c _ (and-r (q m) _ p) (eq-eqb m m refl))))
 
--- ---- a walk: j rows passed, seat of them members of v
-module _ (order : List ℕ) (v j : ℕ) (few : length order ≡ 64) (inside : j < 64) where
-  x : ℕ
-  x = getD order j 0
+-- ---- a walk: j rows passed, n of them members of v; what the code finds of the next row
+pub record Seat (order : List ℕ) (v j n row seat : ℕ) (member : Bool) : Type 0 where
+  pub before : n ≡ length (seats (take j order) v)
+  pub passed : row ≡ getD order j 0
+  pub listed : member ≡ has v row
+  pub counted : seat ≡ cond member (n + 1) n
 
+module _ (order : List ℕ) (v j : ℕ) (few : length order ≡ 64) (inside : j < 64) where
   done : List ℕ
   done = seats (take j order) v
 
-  next : seats (take (j + 1) order) v ≡ cond (has v x) (done ++ (x ∷ [])) done
-  unfolding seats x done
+  next : seats (take (j + 1) order) v ≡ cond (has v (getD order j 0)) (done ++ (getD order j 0 ∷ [])) done
+  unfolding seats done
   next = ap (λ (l : List ℕ). keep (has v) l) (ap (λ (m : ℕ). take m order) (add-one j) ∙ take-suc order j 0 (omega arith)) ∙ keep-more (has v) (take j order) (getD order j 0)
-
-  pub seat-next : (n : ℕ) → n ≡ length (seats (take j order) v) → cond (has v (getD order j 0)) (n + 1) n ≡ length (seats (take (j + 1) order) v)
-  unfolding x done
-  seat-next n e = rw (next, e) (go (has v (getD order j 0)))
-    where
-      go : (b : Bool) → cond b (length done + 1) (length done) ≡ length (cond b (done ++ (getD order j 0 ∷ [])) done)
-      go true = sym (length-append done (getD order j 0 ∷ []))
-      go false = refl
 
   pub seat-few : length (seats (take j order) v) ≤ j
   unfolding seats
   seat-few = omega (arith, keep-length (has v) (take j order), length-take j order)
 
-  -- the positions held
-  pub held-next : (s : ℕ → Bool) (f : ℕ → Bool) (n m : ℕ) (b : Bool) → n ≡ length (seats (take j order) v) → f ≡ atSeat (seats (take j order) v) s
-      → m ≡ cond (has v (getD order j 0)) (n + 1) n → b ≡ (has v (getD order j 0) && s (getD order j 0))
-      → cond b (gaining f m) f ≡ atSeat (seats (take (j + 1) order) v) s
-  unfolding x done
-  held-next s f n m b en ef em eb = go (has v (getD order j 0)) refl
-    where
-      go : (y : Bool) → has v (getD order j 0) ≡ y → cond b (gaining f m) f ≡ atSeat (seats (take (j + 1) order) v) s
-      go false e =
-          let off : b ≡ false = eb ∙ rw e in
-          rw (off, next, e) ef
-      go true e =
-          let at : m ≡ n + 1 = em ∙ rw e in
-          let test : b ≡ s (getD order j 0) = eb ∙ rw e in
-          rw (next, e) (gain-where f m b (omega (arith, seat-few)) ∙ fun-ext (λ k. ap₂ (λ (g : ℕ → Bool) (t : Bool). g k || (t && eqb k m)) ef test
-          ∙ ap (λ (z : ℕ). atSeat done s k || (s (getD order j 0) && eqb k z)) (at ∙ ap (λ (z : ℕ). z + 1) en) ∙ sym (at-seat-more done (getD order j 0) s k)))
+  module _ {n row seat : ℕ} {member : Bool} (w : Seat order v j n row seat member) where
+    -- the seats after a row that is a member, and after another
+    after : (y : Bool) → member ≡ y → seats (take (j + 1) order) v ≡ cond y (done ++ (row ∷ [])) done
+    after y e = next ∙ ap₂ (λ (b : Bool) (r : ℕ). cond b (done ++ (r ∷ [])) done) (ap (has v) (sym (w .passed)) ∙ sym (w .listed) ∙ e) (sym (w .passed))
 
-  -- the rows that stand at positions of q
-  pub standing-next : (q f : ℕ → Bool) (n m : ℕ) (b : Bool) → v < 2 ^ 64 → n ≡ length (seats (take j order) v)
-      → f ≡ (λ (i : ℕ). some 64 (λ k. q k && atSeat (seats (take j order) v) (eqb i) k))
-      → m ≡ cond (has v (getD order j 0)) (n + 1) n → b ≡ (has v (getD order j 0) && q m)
-      → cond b (gaining f (getD order j 0)) f ≡ (λ (i : ℕ). some 64 (λ k. q k && atSeat (seats (take (j + 1) order) v) (eqb i) k))
-  unfolding x done
-  standing-next q f n m b small en ef em eb = go (has v (getD order j 0)) refl
-    where
-      go : (y : Bool) → has v (getD order j 0) ≡ y → cond b (gaining f (getD order j 0)) f ≡ (λ (i : ℕ). some 64 (λ k. q k && atSeat (seats (take (j + 1) order) v) (eqb i) k))
-      go false e =
-          let off : b ≡ false = eb ∙ rw e in
-          rw (off, next, e) ef
-      go true e =
-          let at : m ≡ length done + 1 = em ∙ rw e (ap (λ (z : ℕ). z + 1) en) in
-          let test : b ≡ q (length done + 1) = eb ∙ rw e (ap q at) in
-          let row : Within 64 (getD order j 0) = has-within 64 v (getD order j 0) small e in
-          rw (next, e) (gain-where f (getD order j 0) b row ∙ fun-ext (λ i. ap₂ (λ (g : ℕ → Bool) (t : Bool). g i || (t && eqb i (getD order j 0))) ef test
-          ∙ sym (some-more 64 q (atSeat done (eqb i)) (eqb i (getD order j 0)) (length done + 1) (omega (arith, seat-few)))
-          ∙ some-ext 64 _ _ (λ k w. ap (λ (z : Bool). q k && z) (sym (at-seat-more done (getD order j 0) (eqb i) k)))))
+    at : member ≡ true → seat ≡ length done + 1
+    unfolding done
+    at e = w .counted ∙ rw e (ap (λ (z : ℕ). z + 1) (w .before))
+
+    pub seat-next : seat ≡ length (seats (take (j + 1) order) v)
+    unfolding done
+    seat-next = go member refl
+      where
+        go : (y : Bool) → member ≡ y → seat ≡ length (seats (take (j + 1) order) v)
+        go true e = at e ∙ sym (ap length (after true e) ∙ length-append done (row ∷ []))
+        go false e = w .counted ∙ rw (e, after false e) (w .before)
+
+    -- the positions held
+    pub held-next : (s f : ℕ → Bool) (t b : Bool) → f ≡ atSeat (seats (take j order) v) s → t ≡ s row → b ≡ (member && t)
+        → cond b (gaining f seat) f ≡ atSeat (seats (take (j + 1) order) v) s
+    unfolding done
+    held-next s f t b ef et eb = go member refl
+      where
+        go : (y : Bool) → member ≡ y → cond b (gaining f seat) f ≡ atSeat (seats (take (j + 1) order) v) s
+        go false e = let off : b ≡ false = eb ∙ rw e in rw (off, after false e) ef
+        go true e =
+            let test : b ≡ s row = eb ∙ rw e et in
+            rw (after true e) (gain-where f seat b (omega (arith, seat-few, at e)) ∙ fun-ext (λ k. ap₂ (λ (g : ℕ → Bool) (u : Bool). g k || (u && eqb k seat)) ef test
+            ∙ ap (λ (z : ℕ). atSeat done s k || (s row && eqb k z)) (at e) ∙ sym (at-seat-more done row s k)))
+
+    -- the rows that stand at positions of q
+    pub standing-next : (q f : ℕ → Bool) (t b : Bool) → v < 2 ^ 64 → f ≡ (λ (i : ℕ). some 64 (λ k. q k && atSeat (seats (take j order) v) (eqb i) k)) → t ≡ q seat → b ≡ (member && t)
+        → cond b (gaining f row) f ≡ (λ (i : ℕ). some 64 (λ k. q k && atSeat (seats (take (j + 1) order) v) (eqb i) k))
+    unfolding done
+    standing-next q f t b small ef et eb = go member refl
+      where
+        go : (y : Bool) → member ≡ y → cond b (gaining f row) f ≡ (λ (i : ℕ). some 64 (λ k. q k && atSeat (seats (take (j + 1) order) v) (eqb i) k))
+        go false e = let off : b ≡ false = eb ∙ rw e in rw (off, after false e) ef
+        go true e =
+            let test : b ≡ q (length done + 1) = eb ∙ rw e (et ∙ ap q (at e)) in
+            rw (after true e) (gain-where f row b (has-within 64 v row small (sym (w .listed) ∙ e)) ∙ fun-ext (λ i. ap₂ (λ (g : ℕ → Bool) (u : Bool). g i || (u && eqb i row)) ef test
+            ∙ sym (some-more 64 q (atSeat done (eqb i)) (eqb i row) (length done + 1) (omega (arith, seat-few)))
+            ∙ some-ext 64 _ _ (λ k u. ap (λ (z : Bool). q k && z) (sym (at-seat-more done row (eqb i) k)))))
 
 -- what is done at the start, and at the end
 pub none-held : (s : ℕ → Bool) → noRow ≡ atSeat [] s

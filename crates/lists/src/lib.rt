@@ -1,6 +1,6 @@
 // A list of rows in chain order: the quorum that a set holds of it, and the choice that a name makes over it.
 // The chain order is the first `count` of an array of 64 rows.
-use fields::both;
+use bytes::both;
 use grid::Kind;
 use rows::RowSet;
 ghost use mathlib.Core.Path.{_≡_};
@@ -70,7 +70,7 @@ pub fn quorum(kind: Kind, order: &[u8; 64], count: usize, list: RowSet, set: Row
     let length = list.size();
     grid::holds(
         kind,
-        grid::published(length),
+        sizes::published(length),
         length,
         held(order, count, list, set),
     )
@@ -86,6 +86,6 @@ pub fn choice(kind: Kind, order: &[u8; 64], count: usize, list: RowSet, name: u1
         order,
         count,
         list,
-        grid::choose(kind, grid::published(length), length, name),
+        grid::choose(kind, sizes::published(length), length, name),
     )
 }

@@ -1,6 +1,6 @@
 // What the answering rows say, and questions 6 and 7 about a set of them.
-use fields::any;
-use fields::both;
+use bytes::any;
+use bytes::both;
 use rows::RowSet;
 ghost use mathlib.Core.Path.{_≡_};
 ghost use mathlib.Core.Bool.{_&&_, cond};

@@ -13,7 +13,7 @@ use Rattle.rows.specs.Sets.{has}
 use Rattle.rows.proofs.Bools.{and-l, and-r, or-e, clash}
 use Rattle.grid.specs.declared.quorums.Kind.{Kind}
 use Rattle.grid.specs.declared.quorums.Kind.the-variants.{Read, Write}
-use Rattle.fields.specs.Bytes.{part}
+use Rattle.bytes.specs.Bytes.{part}
 use Rattle.fields.specs.Layout
 use Rattle.fields.specs.Layout.{usedOf, fileOf, nameOf, linkOf, rowLength, rowsEnd, rowBytes}
 use Rattle.table.specs.Chain.{chain, orderOf}

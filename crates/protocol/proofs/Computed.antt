@@ -7,9 +7,9 @@ use lib.Dec.{eqb}
 use lib.ListN.{length, replicate}
 use Rattle.rows.specs.Upto
 use Rattle.rows.specs.Sets
-use Rattle.grid.specs.Sizes
+use Rattle.sizes.specs.Sizes
 use Rattle.grid.specs.Quorums
-use Rattle.fields.specs.Bytes
+use Rattle.bytes.specs.Bytes
 use Rattle.fields.specs.Layout
 use Rattle.fields.specs.Layout.{rowBytes}
 use Rattle.table.specs.Chain

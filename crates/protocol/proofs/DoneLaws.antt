@@ -14,7 +14,7 @@ use Rattle.rows.specs.Sets.{has}
 use Rattle.rows.proofs.Bools.{and-l, and-r, or-e, clash}
 use Rattle.grid.specs.declared.quorums.Kind.{Kind}
 use Rattle.grid.specs.declared.quorums.Kind.the-variants.{Read, Write}
-use Rattle.fields.specs.Bytes.{put}
+use Rattle.bytes.specs.Bytes.{put}
 use Rattle.fields.specs.Layout.{get, name, link, mark, version, desired, epoch, members, contents, rowLength, rowBytes, usedOf, fileOf, nameOf, linkOf, epochOf, membersOf, staleOf, versionOf, desiredOf, contentsOf}
 use Rattle.table.specs.Chain.{orderOf}
 use Rattle.table.specs.WellFormed.{limit, wellFormed}

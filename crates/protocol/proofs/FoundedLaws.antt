@@ -18,11 +18,11 @@ use Rattle.rows.specs.Sets.{has}
 use Rattle.rows.proofs.Bools.{and-l, and-r, and-i, or-l, or-r, clash}
 use Rattle.rows.proofs.UptoLaws.{every-of}
 use Rattle.rows.proofs.SetLaws.{has-all}
-use Rattle.fields.specs.Bytes.{number, bytesOf, part, allZero}
+use Rattle.bytes.specs.Bytes.{number, bytesOf, part, allZero}
 use Rattle.fields.specs.Layout.{get, form, capacity, used, first, fileLength, name, link, mark, version, desired, epoch, members, reserved, contents, rowLength, rowsEnd, rowBytes, capacityOf, usedOf, firstOf, fileOf, nameOf, linkOf}
 use Rattle.table.specs.Chain.{chain, orderOf, among, risesFrom}
 use Rattle.table.specs.WellFormed.{between, limit, headerValues, lengthRight, visitsEach, namesRise, unusedZero}
-use Rattle.fields.proofs.ByteLaws.{length-bytes, number-bytes}
+use Rattle.bytes.proofs.ByteLaws.{length-bytes, number-bytes}
 use Rattle.table.proofs.FormLaws.{between-is, is-between, RowFacts, Formed}
 use Rattle.protocol.specs.Calls
 use Rattle.protocol.proofs.QuestionLaws.{yes-first}

@@ -8,7 +8,7 @@ use native.Mathlib.Omega.{arith}
 use lib.Dec.{eqb}
 use lib.ListN.{length, drop}
 use Rattle.rows.specs.Upto.{Within, every}
-use Rattle.fields.specs.Bytes.{part, allZero}
+use Rattle.bytes.specs.Bytes.{part, allZero}
 use Rattle.fields.specs.Layout.{get, form, capacity, used, first, fileLength, name, link, capacityOf, usedOf, firstOf, fileOf, nameOf, linkOf, rowLength, rowsEnd, rowBytes}
 use Rattle.table.specs.Chain.{chain, orderOf, among, risesFrom}
 use Rattle.table.specs.WellFormed.{between, headerValues, lengthRight, visitsEach, namesRise, unusedZero}

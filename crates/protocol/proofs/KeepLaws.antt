@@ -12,7 +12,7 @@ use Rattle.rows.specs.Upto.{Within}
 use Rattle.rows.specs.Sets.{has}
 use Rattle.rows.proofs.Bools.{and-l, and-r, or-e, clash}
 use Rattle.grid.specs.declared.quorums.Kind.the-variants.{Read, Write}
-use Rattle.fields.specs.Bytes.{allZero, put}
+use Rattle.bytes.specs.Bytes.{allZero, put}
 use Rattle.fields.specs.Layout.{get, name, link, mark, version, desired, epoch, members, reserved, contents, rowBytes, usedOf, epochOf, membersOf, staleOf, versionOf, desiredOf}
 use Rattle.table.specs.WellFormed.{limit, wellFormed}
 use Rattle.table.proofs.FormLaws.{RowFacts, Formed, formed, well-formed-of, HeaderFacts, header-facts}

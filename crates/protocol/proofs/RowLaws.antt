@@ -11,9 +11,9 @@ use borrow.Author.Tests.{leb-true, eqb-true}
 use Rattle.rows.specs.Upto.{Within, every}
 use Rattle.rows.proofs.Bools.{and-l, and-r, or-e, clash}
 use Rattle.rows.proofs.UptoLaws.{every-at}
-use Rattle.fields.specs.Bytes.{put}
+use Rattle.bytes.specs.Bytes.{put}
 use Rattle.fields.specs.Layout.{Field, get, store, name, link, mark, version, desired, epoch, members, reserved, contents, storeContents}
-use Rattle.fields.proofs.ByteLaws.{put-all}
+use Rattle.bytes.proofs.ByteLaws.{put-all}
 use Rattle.fields.proofs.FieldLaws.{Apart, length-store, get-store, get-other, reserved-store, contents-store, length-contents, get-contents, reserved-contents, contents-contents}
 use Rattle.protocol.specs.Rows.{markedRow, patchedRow, enrolledRow, refreshedRow}
 

@@ -12,9 +12,9 @@ use lib.ListN.{length, take, drop}
 use borrow.Author.Tests.{eqb-true, eq-eqb, ne-eqb}
 use Rattle.rows.specs.Upto.{Within}
 use Rattle.rows.proofs.UptoLaws.{last}
-use Rattle.fields.specs.Bytes.{number, part, put}
+use Rattle.bytes.specs.Bytes.{number, part, put}
 use Rattle.fields.specs.Layout.{Field, get, fileLength, rowLength, rowsEnd, rowBytes}
-use Rattle.fields.proofs.ByteLaws.{length-part, length-put, part-put, part-apart, drop-put-after}
+use Rattle.bytes.proofs.ByteLaws.{length-part, length-put, part-put, part-apart, drop-put-after}
 use Rattle.protocol.specs.Rows.{withRow, withRows}
 
 -- u has the length and the header of t

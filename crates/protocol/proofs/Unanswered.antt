@@ -13,12 +13,12 @@ use Rattle.rows.specs.Sets.{has}
 use Rattle.rows.proofs.SetLaws.{has-within}
 use Rattle.grid.specs.declared.quorums.Kind.{Kind}
 use Rattle.grid.specs.declared.quorums.Kind.the-variants.{Read, Write}
-use Rattle.fields.specs.Bytes.{number, part}
+use Rattle.bytes.specs.Bytes.{number, part}
 use Rattle.fields.specs.Layout
 use Rattle.fields.specs.Layout.{get, mark, version, desired, epoch, members, usedOf, firstOf, fileOf, capacityOf, nameOf, linkOf, staleOf, versionOf, desiredOf, epochOf, membersOf, contentsOf, rowsEnd, rowBytes}
 use Rattle.table.specs.Chain.{chain, orderOf}
 use Rattle.table.specs.WellFormed.{between, limit, onlyRows, lengthRight, wellFormed}
-use Rattle.fields.proofs.ByteLaws.{part-part}
+use Rattle.bytes.proofs.ByteLaws.{part-part}
 use Rattle.table.proofs.FormLaws.{Formed, formed, HeaderFacts, header-facts}
 use Rattle.protocol.specs.Polls.{Poll, polled, highestEpoch, inForce, goodVersion, good, current, quorumHeld, workedOn}
 use Rattle.protocol.specs.Rows.{wroteRow, checkedRow, refreshedRow}

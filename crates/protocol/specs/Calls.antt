@@ -8,7 +8,7 @@ use Rattle.rows.specs.Upto.{every, lowest}
 use Rattle.rows.specs.Sets.{has}
 use Rattle.grid.specs.declared.quorums.Kind.{Kind}
 use Rattle.grid.specs.declared.quorums.Kind.the-variants.{Read, Write}
-use Rattle.fields.specs.Bytes.{bytesOf, part}
+use Rattle.bytes.specs.Bytes.{bytesOf, part}
 use Rattle.fields.specs.Layout.{usedOf, fileOf, nameOf, staleOf, versionOf, desiredOf, contentsOf, rowBytes}
 use Rattle.table.specs.Chain.{orderOf}
 use Rattle.table.specs.WellFormed.{between, limit, onlyRows, wellFormed}

@@ -3,7 +3,7 @@ use mathlib.Core.Bool.{Bool, cond}
 use mathlib.Core.List.{List}
 use Prim.Native.Nat.{ℕ, zero, suc}
 use lib.ListN.{length}
-use Rattle.fields.specs.Bytes.{part, put}
+use Rattle.bytes.specs.Bytes.{part, put}
 use Rattle.fields.specs.Layout.{get, store, mark, version, desired, epoch, members, contents, storeContents, rowLength, rowsEnd, rowBytes}
 
 -- "is marked and desires the new version"

@@ -1,5 +1,5 @@
 // The questions that a call is asked before its poll, the limit, and the result.
-use fields::both;
+use bytes::both;
 use rows::RowSet;
 ghost use mathlib.Core.Path.{_≡_};
 ghost use mathlib.Core.Bool.{_&&_};
@@ -28,11 +28,11 @@ pub fn below_limit(number: u32) -> bool
 pub fn coordinator_asked(t: &[u8], c: usize, answering: RowSet) -> u32
     ensures { λ r. ⌜ r ≡ firstNo (byCoordinator (now (t .entry)) c (answering .bits) []) ⌝ }
 {
-    if table::well_formed(t) {
+    if wellformed::well_formed(t) {
         let used = fields::used(t);
         if both(
-            table::between(1, c, used),
-            table::only_rows(used, answering.bits),
+            wellformed::between(1, c, used),
+            wellformed::only_rows(used, answering.bits),
         ) {
             if answering.has(c) {
                 return 0;

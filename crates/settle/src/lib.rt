@@ -1,5 +1,5 @@
 // The set that a call works on, and questions 6 and 7.
-use fields::both;
+use bytes::both;
 use grid::Kind;
 use polls::Poll;
 use rows::RowSet;

@@ -1,3 +1,1 @@
 pub mod RowsLaws
-pub mod CopyLaws
-pub mod FoundLaws

@@ -8,11 +8,11 @@ use native.Mathlib.Numerals.{add-one}
 use native.Mathlib.Omega.{arith}
 use lib.ListN.{length, take, drop, take-append-drop}
 use lib.Seq.{drop-drop}
-use Rattle.fields.specs.Bytes.{part, put}
+use Rattle.bytes.specs.Bytes.{part, put}
 use Rattle.fields.specs.Layout.{usedOf, rowLength, rowsEnd, rowBytes}
 use Rattle.table.specs.Contracts.{Sized}
-use Rattle.fields.proofs.ByteLaws.{length-part}
-use Rattle.fields.proofs.CodeLaws.{part-back, part-is, part-length}
+use Rattle.bytes.proofs.ByteLaws.{length-part}
+use Rattle.bytes.proofs.CodeLaws.{part-back, part-is, part-length}
 use Rattle.table.proofs.WellFormedLaws.{header, rows-in}
 use Rattle.protocol.specs.Rows.{withRow, withRows}
 use Rattle.protocol.proofs.TableLaws.{Like, like-refl, like-trans, like-length, like-end, Roomy, row-within, row-like}

@@ -22,7 +22,7 @@ use Rattle.fields.specs.Layout.{usedOf, firstOf, linkOf, nameOf}
 use Rattle.table.specs.Chain.{chain, orderOf, among, risesFrom}
 use Rattle.table.specs.WellFormed.{visitsEach, namesRise, wellFormed}
 use Rattle.table.specs.Contracts.{Linked, Listed, Walked, Followed}
-use Rattle.fields.proofs.CodeLaws.{and-assoc}
+use Rattle.bytes.proofs.CodeLaws.{and-assoc}
 use Rattle.table.proofs.TestLaws.{eqb-swap}
 use Rattle.table.proofs.WellFormedLaws.{header, few-rows, link-in}
 

@@ -1,20 +1,19 @@
 -- What a well-formed table is, clause by clause, as facts; and back.
-use mathlib.Core.Path.{_≡_, refl, sym, _∙_, ap}
+use mathlib.Core.Path.{_≡_, refl}
 use mathlib.Core.Bool.{Bool, true, false, not, cond, _&&_, _||_}
-use mathlib.Core.Logic.{_⊎_, inl, inr}
 use mathlib.Core.List.{List}
 use Prim.Native.Nat.{ℕ, _+_, _*_, _^_, _≤_, _<_}
 use native.Mathlib.Nat.{mul-le-mul-right}
 use native.Mathlib.Omega.{arith}
 use lib.Dec.{eqb, leb, ltb}
 use lib.ListN.{length}
-use borrow.Author.Tests.{leb-true, le-leb, ltb-true, lt-ltb, eqb-true, eq-eqb, ne-eqb, eqb-false, not-true}
+use borrow.Author.Tests.{leb-true, le-leb, ltb-true, lt-ltb, eqb-true, eq-eqb}
 use Rattle.rows.specs.Upto.{Within, every}
 use Rattle.rows.specs.Sets.{has}
-use Rattle.rows.proofs.Bools.{and-l, and-r, and-i, or-l, or-r, or-e, clash}
+use Rattle.rows.proofs.Bools.{and-l, and-r, and-i}
 use Rattle.rows.proofs.UptoLaws.{every-at, every-of}
-use Rattle.fields.specs.Bytes.{part, allZero}
-use Rattle.fields.specs.Layout.{get, form, name, link, mark, version, desired, epoch, members, reserved, capacityOf, usedOf, firstOf, fileOf, rowLength, rowsEnd, rowBytes}
+use Rattle.bytes.specs.Bytes.{allZero}
+use Rattle.fields.specs.Layout.{get, name, link, mark, version, desired, epoch, members, reserved, capacityOf, usedOf, firstOf, fileOf, rowLength, rowsEnd, rowBytes}
 use Rattle.table.specs.WellFormed.{between, limit, onlyRows, headerValues, rowValues, lengthRight, visitsEach, namesRise, unusedZero, numbersSmall, desiredRight, listRight, rowRight, listsAgree, wellFormed}
 
 pub between-is : (a x b : ℕ) → between a x b ≡ true → (a ≤ x) × (x ≤ b)

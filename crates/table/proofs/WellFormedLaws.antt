@@ -10,12 +10,12 @@ use borrow.Author.Tests.{eqb-true, ne-eqb}
 use Rattle.rows.specs.Upto.{Within, every}
 use Rattle.rows.proofs.Bools.{and-l, and-r}
 use Rattle.rows.proofs.UptoLaws.{every-at}
-use Rattle.fields.specs.Bytes.{part}
+use Rattle.bytes.specs.Bytes.{part}
 use Rattle.fields.specs.Layout.{capacityOf, usedOf, fileOf, rowLength, rowsEnd, rowBytes, linkOf}
 use Rattle.table.specs.WellFormed.{headerValues, lengthRight, rowRight, visitsEach, namesRise, unusedZero, listsAgree, wellFormed}
 use Rattle.table.specs.Contracts.{Sized, Linked}
-use Rattle.fields.proofs.ByteLaws.{length-part}
-use Rattle.fields.proofs.CodeLaws.{and-assoc}
+use Rattle.bytes.proofs.ByteLaws.{length-part}
+use Rattle.bytes.proofs.CodeLaws.{and-assoc}
 use Rattle.table.proofs.FormLaws.{HeaderFacts, header-facts, row-facts}
 
 pub header : {t : List ℕ} → headerValues t ≡ true → HeaderFacts t

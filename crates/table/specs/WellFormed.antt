@@ -1,13 +1,13 @@
 -- Question 1: "A table is well formed when: .." clause by clause.
 use mathlib.Core.Bool.{Bool, not, cond, _&&_, _||_}
 use mathlib.Core.List.{List}
-use Prim.Native.Nat.{ℕ, suc, _+_, _*_, _^_}
+use Prim.Native.Nat.{ℕ, suc, _^_}
 use lib.Dec.{eqb, leb, ltb}
 use lib.ListN.{length, drop}
 use Rattle.rows.specs.Upto.{every}
 use Rattle.rows.specs.Sets.{has}
-use Rattle.fields.specs.Bytes.{part, allZero}
-use Rattle.fields.specs.Layout.{get, form, name, link, mark, version, desired, epoch, members, reserved, capacityOf, usedOf, firstOf, fileOf, rowLength, rowsEnd, rowBytes, linkOf, nameOf}
+use Rattle.bytes.specs.Bytes.{part, allZero}
+use Rattle.fields.specs.Layout.{get, form, name, link, mark, version, desired, epoch, members, reserved, capacityOf, usedOf, firstOf, fileOf, rowsEnd, rowBytes, linkOf, nameOf}
 use Rattle.table.specs.Chain.{chain, among, risesFrom}
 
 unfoldable pub between : ℕ → ℕ → ℕ → Bool

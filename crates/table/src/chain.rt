@@ -1,6 +1,6 @@
 // The chain of used rows.
 use crate::places;
-use fields::both;
+use bytes::both;
 use rows::RowSet;
 ghost use mathlib.Core.Path.{_≡_};
 ghost use mathlib.Core.Bool.{true};

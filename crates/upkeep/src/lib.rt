@@ -1,12 +1,12 @@
 // Sends and epoch checks: their questions in order, then what is done.
-use fields::both;
+use bytes::both;
 use grid::Kind;
 use questions::below_limit;
 use questions::coordinator_asked;
 use questions::result;
 use rows::RowSet;
 use settle::Verdict;
-use table::between;
+use wellformed::between;
 ghost use mathlib.Core.Path.{_≡_};
 ghost use mathlib.Core.Bool.{true, not, cond, _&&_};
 ghost use Prim.Native.Nat.{_^_, _≤_, _<_};
@@ -26,7 +26,7 @@ fn rows_named(used: usize, from: usize, to: usize, answering: RowSet) -> bool
     ensures { λ r. ⌜ r ≡ (between 1 from used && between 1 to used && onlyRows used (answering .bits) && not (eqb from to)) ⌝ }
 {
     let named = both(between(1, from, used), between(1, to, used));
-    let known = both(named, table::only_rows(used, answering.bits));
+    let known = both(named, wellformed::only_rows(used, answering.bits));
     both(known, from != to)
 }
 
@@ -51,7 +51,7 @@ fn rows_asked(source: &[u8], target: &[u8]) -> u32
 fn send_asked(t: &[u8], from: usize, to: usize, answering: RowSet) -> u32
     ensures { λ r. ⌜ r ≡ firstNo (questions (now (t .entry)) (send from to (answering .bits))) ⌝ }
 {
-    if table::well_formed(t) {
+    if wellformed::well_formed(t) {
         if rows_named(fields::used(t), from, to, answering) {
             if both(answering.has(from), answering.has(to)) {
                 return rows_asked(table::row_of(t, from), table::row_of(t, to));
@@ -73,7 +73,7 @@ pub fn send(t: &mut [u8], from: usize, to: usize, r: u64) -> u64
         return result(no, 0);
     }
     let version = fields::version(table::row_of(t, from));
-    store::refresh(t, from, to);
+    renew::refresh(t, from, to);
     result(0, version)
 }
 

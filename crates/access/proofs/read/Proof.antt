@@ -2,7 +2,7 @@ use mathlib.Core.Path.{_≡_, sym, _∙_, ap}
 use native.Mathlib.Omega.{arith}
 use borrow.Author.Needs.{needs}
 use lib.ListN.{length}
-use Rattle.fields.specs.Bytes.{part}
+use Rattle.bytes.specs.Bytes.{part}
 use Rattle.fields.specs.Layout.{rowBytes, contents}
 use Rattle.table.proofs.WellFormedLaws.{sized}
 use Rattle.protocol.specs.Calls.{firstNo, lent}

@@ -4,7 +4,7 @@ use native.Mathlib.Omega.{arith}
 use native.Mathlib.Nat.{mod-le, mul-le-mul-right}
 use borrow.Author.Needs.{needs}
 use Rattle.grid.proofs.CodeLaws.{chosenTo, chosen-none, chosen-all, read-turn}
-use Rattle.grid.specs.Sizes.{height}
+use Rattle.sizes.specs.Sizes.{height}
 use Rattle.rows.proofs.SetLaws.{has-empty}
 use Rattle.rows.specs.Sets.{has}
 use Rattle.grid.proofs.choices.read_choice.Statement.{statement}

@@ -5,7 +5,7 @@ use native.Mathlib.Omega.{arith}
 use native.Mathlib.Nat.{mod-eq-of-lt}
 use borrow.Author.Needs.{needs}
 use Rattle.grid.proofs.CodeLaws.{columnTo, column-start, column-turn, column-next, column-end}
-use Rattle.grid.specs.Sizes.{columnOf}
+use Rattle.sizes.specs.Sizes.{columnOf}
 use Rattle.rows.specs.Sets.{has, gaining}
 use Rattle.grid.proofs.choices.with_column.Statement.{statement}
 use Rattle.grid.proofs.choices.with_column.Tie as tie

@@ -6,7 +6,6 @@ use Rattle.rows.proofs.RowSet.is_empty.Tie as tie
 use Rattle.rows.proofs.RowSet.is_empty.Reads as reads
 use Rattle.rows.proofs.RowSet.is_empty.Lts as lts
 
--- src/lib.rt:124:5
 returns : tie.Need-returns
 returns c = empty-is (c .before .args .self .bits) (omega arith)
 

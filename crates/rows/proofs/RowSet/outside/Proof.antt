@@ -5,7 +5,6 @@ use Rattle.rows.proofs.RowSet.outside.Tie as tie
 use Rattle.rows.proofs.RowSet.outside.Reads as reads
 use Rattle.rows.proofs.RowSet.outside.Lts as lts
 
--- src/lib.rt:115:5
 returns : tie.Need-returns
 returns c = has-left (c .before .before .before .args .self .bits) (c .before .before .before .args .other .bits)
 

@@ -7,7 +7,6 @@ use lib.Seq.{getD-take, length-take-le}
 use lib.ListN.{length, getD, take, drop}
 use Rattle.fields.specs.Layout.{nameOf, get, name}
 use Rattle.table.specs.WellFormed.{namesRise}
-use Rattle.table.proofs.WellFormedLaws.{long}
 use Rattle.table.specs.Chain.{risesFrom}
 use Rattle.table.proofs.ChainLaws.{rise-turn, rise-end, path-passed}
 use Rattle.table.proofs.chain.names_rise.Statement.{statement}

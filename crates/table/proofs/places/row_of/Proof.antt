@@ -3,7 +3,7 @@ use Prim.Native.Nat.{_+_, _-_, _≤_}
 use native.Mathlib.Omega.{arith}
 use borrow.Author.Needs.{needs}
 use lib.ListN.{length, take, drop}
-use Rattle.fields.proofs.CodeLaws.{part-is}
+use Rattle.bytes.proofs.CodeLaws.{part-is}
 use Rattle.fields.specs.Layout.{rowBytes}
 use Rattle.table.proofs.WellFormedLaws.{header, long, row-in, row-part, row-long}
 use Rattle.table.proofs.places.row_of.Statement.{statement}

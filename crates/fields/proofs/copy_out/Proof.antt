@@ -1,0 +1,51 @@
+use mathlib.Core.Path.{refl, sym, _∙_, ap}
+use Prim.Native.Nat.{_+_}
+use lib.ListN.{length, take}
+use lib.Seq.{drop-drop}
+use Rattle.bytes.specs.Bytes.{part}
+use Rattle.fields.specs.Layout.{contents}
+use Rattle.bytes.proofs.CodeLaws.{part-is}
+use borrow.Author.Needs.{needs}
+use Rattle.fields.proofs.copy_out.Statement.{statement}
+use Rattle.fields.proofs.copy_out.Tie as tie
+
+add-from : tie.Need-add-from
+add-from c = search needs
+
+add-end : tie.Need-add-end
+add-end c = search needs
+
+sub-copy : tie.Need-sub-copy
+sub-copy c = search needs
+
+part-copy-start : tie.Need-part-copy-start
+part-copy-start c = search needs
+
+part-copy-end : tie.Need-part-copy-end
+part-copy-end c = search needs
+
+copy-requires : tie.Need-copy-requires
+copy-requires c κs = search needs
+
+same-length : tie.Need-same-length
+same-length c = search needs
+
+returns : tie.Need-returns
+unfolding part contents
+returns c =
+    let a = c .before .before .before .before .before .before .before .args in
+    c .before .before .copy .ensures ∙ part-is (a .row .now) (32 + a .offset) (length (a .to .now)) (32 + a .offset) (length (a .to .now)) refl refl
+    ∙ ap (take (length (a .to .now))) (sym (drop-drop (a .offset) 32 (a .row .now)))
+
+pub copy-out-spec : {M : Type 1} → statement M
+copy-out-spec =
+    tie.close
+    (tie.spec
+    add-from
+    add-end
+    sub-copy
+    part-copy-start
+    part-copy-end
+    copy-requires
+    same-length
+    returns)

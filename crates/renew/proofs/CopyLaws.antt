@@ -1,0 +1,182 @@
+-- Bytes copied within a table, over plain variables.
+use mathlib.Core.Path.{_≡_, refl, sym, _∙_, ap, ap₂}
+use mathlib.Core.Logic.{_⊎_, inl, inr, _≢_}
+use mathlib.Core.List.{List, _++_, append-assoc}
+use Prim.Native.Nat.{ℕ, zero, suc, _+_, _-_, _*_, _≤_, _<_}
+use native.Mathlib.Nat.{add-assoc, suc-mul}
+use native.Mathlib.Numerals.{add-one}
+use native.Mathlib.Decide.{decLt}
+use native.Mathlib.Omega.{arith}
+use lib.ListN.{length, getD, take, drop, set, length-drop}
+use lib.Seq.{drop-drop, take-at, drop-at, take-add, take-all, getD-drop, length-take-le, take-append-le, drop-append-le, paste, paste-zero, paste-suc}
+use Rattle.rows.specs.Upto.{Within}
+use Rattle.bytes.specs.Bytes.{part, put}
+use Rattle.fields.specs.Layout.{get, store, mark, version, desired, contents, storeContents, usedOf, fileOf, rowLength, rowsEnd, rowBytes}
+use Rattle.table.specs.Contracts.{Sized}
+use Rattle.bytes.proofs.ByteLaws.{length-part, part-part, length-put, put-before, put-after, part-apart}
+use Rattle.bytes.proofs.CodeLaws.{part-back, part-is, part-length}
+use Rattle.table.proofs.WellFormedLaws.{row-length, row-in, row-part, length-row}
+use Rattle.protocol.specs.Rows.{refreshedRow, withRow}
+use Rattle.protocol.proofs.TableLaws.{end-le}
+
+-- ---- the first j bytes copied
+module _ (d : List ℕ) (from to n : ℕ) (hf : from + n ≤ length d) (ht : to + n ≤ length d) where
+  pasted : (j : ℕ) → j ≤ n → paste d to (drop from d) j ≡ put to (part from j d) d
+  unfolding put part
+  pasted j h = rw (length-part from j d (omega arith)) (append-assoc (take to d) (take j (drop from d)) (drop (to + j) d))
+
+  pub none-copied : d ≡ put to (part from 0 d) d
+  none-copied = paste-zero d to (drop from d) ∙ pasted 0 (omega arith)
+
+  pub copy-more : (from + n ≤ to) ⊎ (to + n ≤ from) → (t : List ℕ) (j : ℕ) → j < n → t ≡ put to (part from j d) d
+      → set t (to + j) (getD t (from + j) 0) ≡ put to (part from (j + 1) d) d
+  copy-more apart t j h e =
+      let old : getD t (from + j) 0 ≡ getD (drop from d) j 0 = ap (λ (l : List ℕ). getD l (from + j) 0) e ∙ side apart ∙ sym (getD-drop from d j 0) in
+      ap₂ (λ (l : List ℕ) (x : ℕ). set l (to + j) x) (e ∙ sym (pasted j (omega arith))) old
+      ∙ paste-suc d to (drop from d) j 0 (omega arith) (omega (arith, length-drop from d))
+      ∙ pasted (suc j) h ∙ ap (λ (k : ℕ). put to (part from k d) d) (sym (add-one j))
+    where
+      long : length (part from j d) ≡ j
+      long = length-part from j d (omega arith)
+
+      side : (from + n ≤ to) ⊎ (to + n ≤ from) → getD (put to (part from j d) d) (from + j) 0 ≡ getD d (from + j) 0
+      side (inl q) = put-before d to (part from j d) (omega (arith, long)) (from + j) 0 (omega arith)
+      side (inr q) = put-after d to (part from j d) (omega (arith, long)) (from + j) 0 (omega (arith, long))
+
+-- ---- bytes put into bytes that were put
+pub put-put : (a b : ℕ) (p r xs : List ℕ) → b + length p ≤ length r → a + length r ≤ length xs → put (a + b) p (put a r xs) ≡ put a (put b p r) xs
+unfolding put
+put-put a b p r xs h fits =
+    ap₂ (λ (f g : List ℕ). f ++ (p ++ g)) front back
+    ∙ append-assoc (take a xs) (take b r) (p ++ (drop (b + length p) r ++ rest))
+    ∙ ap (λ (l : List ℕ). take a xs ++ l)
+    (sym (append-assoc (take b r) (p ++ drop (b + length p) r) rest ∙ ap (λ (l : List ℕ). take b r ++ l) (append-assoc p (drop (b + length p) r) rest)))
+    ∙ ap (λ (n : ℕ). take a xs ++ ((take b r ++ (p ++ drop (b + length p) r)) ++ drop (a + n) xs)) (sym (length-put r b p h))
+  where
+    rest : List ℕ
+    rest = drop (a + length r) xs
+
+    head : length (take a xs) ≡ a
+    head = length-take-le a xs (omega arith)
+
+    front : take (a + b) (take a xs ++ (r ++ rest)) ≡ take a xs ++ take b r
+    front =
+        take-add a b (take a xs ++ (r ++ rest))
+        ∙ ap₂ (λ (f g : List ℕ). f ++ take b g) (take-at (take a xs) (r ++ rest) a head) (drop-at (take a xs) (r ++ rest) a head)
+        ∙ ap (λ (l : List ℕ). take a xs ++ l) (take-append-le b r rest (omega arith))
+
+    back : drop (a + b + length p) (take a xs ++ (r ++ rest)) ≡ drop (b + length p) r ++ rest
+    back =
+        ap (λ (n : ℕ). drop n (take a xs ++ (r ++ rest))) (add-assoc a b (length p))
+        ∙ sym (drop-drop (b + length p) a (take a xs ++ (r ++ rest)))
+        ∙ ap (λ (l : List ℕ). drop (b + length p) l) (drop-at (take a xs) (r ++ rest) a head) ∙ drop-append-le (b + length p) r rest h
+
+-- ---- a refresh: the fields of row `to` stored, then the contents of row `from` copied
+module _ {t : List ℕ} (s : Sized t) where
+  row-ends : (i : ℕ) → Within (usedOf t) i → rowsEnd t i ≡ rowsEnd t (i - 1) + (32 + fileOf t)
+  unfolding rowsEnd
+  row-ends i w =
+      let e : suc (i - 1) ≡ i = omega arith in
+      omega (arith, row-length t, suc-mul (i - 1) (rowLength t), ap (λ (m : ℕ). m * rowLength t) e)
+
+  pub file-below : (i : ℕ) → Within (usedOf t) i → fileOf t ≤ rowsEnd t i
+  file-below i w = omega (arith, row-ends i w)
+
+  with-row : (i : ℕ) → Within (usedOf t) i → (f : List ℕ → List ℕ) → withRow t i f ≡ put (rowsEnd t (i - 1)) (f (rowBytes t i)) t
+  unfolding withRow
+  with-row zero w f = absurd (omega arith)
+  with-row (suc k) w f = let z : suc k - 1 ≡ k = omega arith in rw z
+
+-- what the code has found of the rows `from` and `to`: where row `to` and the contents of each start
+pub record Places (t : List ℕ) (from to at size file source target : ℕ) : Type 0 where
+  pub table : Sized t
+  pub source-row : Within (usedOf t) from
+  pub target-row : Within (usedOf t) to
+  pub other : from ≢ to
+  pub e-at : at ≡ rowsEnd t (to - 1)
+  pub e-size : size ≡ rowLength t
+  pub e-file : file ≡ fileOf t
+  pub e-source : source ≡ rowsEnd t from - file
+  pub e-target : target ≡ rowsEnd t to - file
+
+module _ {t : List ℕ} {from to at size file source target : ℕ} (p : Places t from to at size file source target) where
+  pub target-fits : at + size ≤ length t
+  target-fits = omega (arith, p .e-at, p .e-size, row-in (p .table) to (p .target-row))
+
+  pub target-long : 32 ≤ length (take ((at + size) - at) (drop at t))
+  target-long = omega (arith, part-length at size t target-fits, p .e-size, row-length t)
+
+  module _ (new : List ℕ) (kept : length new ≡ length (take ((at + size) - at) (drop at t))) where
+    u : List ℕ
+    u = take at t ++ (new ++ drop ((at + size) - at) (drop at t))
+
+    width : length new ≡ size
+    width = kept ∙ part-length at size t target-fits
+
+    stored : u ≡ put at new t
+    unfolding u
+    stored = part-back at size t new new refl width
+
+    room : at + length new ≤ length t
+    room = omega (arith, width, target-fits)
+
+    source-at : source ≡ rowsEnd t (from - 1) + 32
+    source-at = omega (arith, row-ends (p .table) from (p .source-row))
+
+    target-at : target ≡ at + 32
+    target-at = omega (arith, row-ends (p .table) to (p .target-row))
+
+    apart : (source + file ≤ at) ⊎ (at + size ≤ source)
+    apart = go (decLt from to)
+      where
+        go : Dec (from < to) → (source + file ≤ at) ⊎ (at + size ≤ source)
+        go (yes q) = inl (omega (arith, row-ends (p .table) from (p .source-row), end-le t from (to - 1) (omega arith)))
+        go (no q) = inr (omega (arith, source-at, row-ends (p .table) to (p .target-row), row-length t, end-le t to (from - 1) (omega arith)))
+
+    pub copy-fits : (source + file ≤ length (take at t ++ (new ++ drop ((at + size) - at) (drop at t)))) × (target + file ≤ length (take at t ++ (new ++ drop ((at + size) - at) (drop at t))))
+        × ((source + file ≤ target) ⊎ (target + file ≤ source))
+    unfolding u
+    copy-fits =
+        let long : length (take at t ++ (new ++ drop ((at + size) - at) (drop at t))) ≡ length t = ap length stored ∙ length-put t at new room in
+        (omega (arith, long, source-at, row-in (p .table) from (p .source-row), row-length t), omega (arith, long, target-at, target-fits, row-length t), side apart)
+      where
+        side : (source + file ≤ at) ⊎ (at + size ≤ source) → (source + file ≤ target) ⊎ (target + file ≤ source)
+        side (inl q) = inl (omega (arith, target-at))
+        side (inr q) = inr (omega (arith, target-at, row-length t))
+
+    whole : part 32 file (rowBytes t from) ≡ drop 32 (rowBytes t from)
+    unfolding part
+    whole = take-all file (drop 32 (rowBytes t from)) (omega (arith, length-drop 32 (rowBytes t from), length-row (p .table) from (p .source-row), row-length t))
+
+    bytes : part source file (put at new t) ≡ contents (rowBytes t from)
+    unfolding contents
+    bytes =
+        part-apart t at new room source file (side apart)
+        ∙ ap (λ (a : ℕ). part a file t) source-at
+        ∙ sym (part-part (rowsEnd t (from - 1)) (rowLength t) 32 file t (omega (arith, row-length t)))
+        ∙ ap (part 32 file) (sym (row-part (p .table) from (p .source-row))) ∙ whole
+      where
+        side : (source + file ≤ at) ⊎ (at + size ≤ source) → (source + file ≤ at) ⊎ (at + length new ≤ source)
+        side (inl q) = inl q
+        side (inr q) = inr (omega (arith, width))
+
+    contents-long : length (contents (rowBytes t from)) ≡ fileOf t
+    unfolding contents
+    contents-long = length-drop 32 (rowBytes t from) ∙ omega (arith, length-row (p .table) from (p .source-row), row-length t)
+
+    pub refreshed : (v : ℕ) → v ≡ get version (rowBytes t from) → new ≡ store desired 0 (store version v (store mark 0 (take ((at + size) - at) (drop at t))))
+        → (last : List ℕ) → last ≡ put target (part source file (take at t ++ (new ++ drop ((at + size) - at) (drop at t)))) (take at t ++ (new ++ drop ((at + size) - at) (drop at t)))
+        → last ≡ withRow t to (refreshedRow (rowBytes t from))
+    unfolding u refreshedRow storeContents contents
+    refreshed v e-v made last copied =
+        copied ∙ ap (λ (w : List ℕ). put target (part source file w) w) stored
+        ∙ ap₂ (λ (n : ℕ) (x : List ℕ). put n x (put at new t)) target-at bytes
+        ∙ put-put at 32 (contents (rowBytes t from)) new t (omega (arith, contents-long, width, p .e-size, row-length t)) room
+        ∙ ap₂ (λ (a : ℕ) (r : List ℕ). put a (put 32 (contents (rowBytes t from)) r) t) (p .e-at) fields
+        ∙ sym (with-row (p .table) to (p .target-row) (refreshedRow (rowBytes t from)))
+      where
+        fields : new ≡ store desired 0 (store version (get version (rowBytes t from)) (store mark 0 (rowBytes t to)))
+        fields =
+            made
+            ∙ ap₂ (λ (x : ℕ) (row : List ℕ). store desired 0 (store version x (store mark 0 row))) e-v
+            (part-is t at size (rowsEnd t (to - 1)) (rowLength t) (p .e-at) (p .e-size) ∙ sym (row-part (p .table) to (p .target-row)))
