@@ -2,7 +2,7 @@
 ghost use mathlib.Core.Path.{_≡_};
 ghost use mathlib.Core.Bool.{cond};
 ghost use lib.Dec.{leb};
-ghost use Prim.Native.Nat.{_-_};
+ghost use Prim.Native.Nat.{_-_, _≤_};
 ghost use Rattle.sizes.specs.Sizes.{published, noGrid, height};
 
 // The sizes of a grid. (The table below has one for each length of a list.)
@@ -79,6 +79,14 @@ const GRIDS: [Grid; 64] = [
     Grid { rows: 8, cols: 8 }, // 64
 ];
 
+// The entry of a length that the table has.
+fn entry(length: usize) -> Grid
+    requires { ⌜ (1 ≤ length) × (length ≤ 64) ⌝ }
+    ensures { λ r. ⌜ r ≡ published length ⌝ }
+{
+    GRIDS[length - 1]
+}
+
 // The published grid of a list of `length` members; no rows and no columns where the length is 0 or above 64.
 pub fn published(length: usize) -> Grid
     ensures { λ r. ⌜ r ≡ cond (leb length 64) (published length) noGrid ⌝ }
@@ -89,7 +97,7 @@ pub fn published(length: usize) -> Grid
     if 64 < length {
         return Grid { rows: 0, cols: 0 };
     }
-    GRIDS[length - 1]
+    entry(length)
 }
 
 // a - b; 0 where b is more.

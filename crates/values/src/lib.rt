@@ -1,6 +1,4 @@
-// Question 1 of one used row by itself.
-use crate::values::between;
-use crate::values::only_rows;
+// The values that question 1 allows: tests that the calls share, and all that is asked of one used row by itself.
 use bytes::all_zero;
 use bytes::both;
 use bytes::either;
@@ -8,7 +6,25 @@ use rows::RowSet;
 ghost use mathlib.Core.Path.{_≡_};
 ghost use Prim.Native.Nat.{_≤_};
 ghost use lib.ListN.{length};
-ghost use Rattle.table.specs.WellFormed.{rowValues, numbersSmall, desiredRight, listRight, rowRight};
+ghost use Rattle.table.specs.WellFormed.{between, onlyRows, rowValues, numbersSmall, desiredRight, listRight, rowRight};
+
+// Is x one of a to b?
+pub fn between(a: usize, x: usize, b: usize) -> bool
+    ensures { λ r. ⌜ r ≡ between a x b ⌝ }
+{
+    both(a <= x, x <= b)
+}
+
+// Does s name rows 1 to n only?
+pub fn only_rows(n: usize, s: u64) -> bool
+    requires { ⌜ n ≤ 64 ⌝ }
+    ensures { λ r. ⌜ r ≡ onlyRows n s ⌝ }
+{
+    if n == 64 {
+        return true;
+    }
+    s < 1 << n
+}
 
 // No version, desired version or epoch number passes this.
 const LIMIT: u32 = 1_000_000;

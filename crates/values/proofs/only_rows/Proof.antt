@@ -5,8 +5,8 @@ use borrow.Author.Tests.{lt-ltb}
 use borrow.Author.Needs.{needs}
 use Rattle.rows.proofs.DigitLaws.{shl-one}
 use Rattle.table.specs.WellFormed.{onlyRows}
-use Rattle.wellformed.proofs.values.only_rows.Statement.{statement}
-use Rattle.wellformed.proofs.values.only_rows.Tie as tie
+use Rattle.values.proofs.only_rows.Statement.{statement}
+use Rattle.values.proofs.only_rows.Tie as tie
 
 returns : tie.Need-returns
 unfolding onlyRows

@@ -2,8 +2,8 @@ use borrow.Author.Needs.{needs}
 use Rattle.fields.specs.Layout.{reserved}
 use Rattle.table.specs.WellFormed.{rowValues}
 use Rattle.bytes.specs.Bytes.{part}
-use Rattle.wellformed.proofs.row_right.row_values.Statement.{statement}
-use Rattle.wellformed.proofs.row_right.row_values.Tie as tie
+use Rattle.values.proofs.row_values.Statement.{statement}
+use Rattle.values.proofs.row_values.Tie as tie
 
 name-requires : tie.Need-name-requires
 name-requires c κs = search needs
