@@ -10,7 +10,7 @@ use borrow.Author.Tests.{eq-eqb, ne-eqb}
 use Rattle.rows.specs.Upto.{Within, lowest}
 use Rattle.rows.specs.Sets.{has}
 use Rattle.rows.proofs.SetLaws.{has-within}
-use Rattle.grid.specs.declared.quorums.Kind.the-variants.{Read}
+use Rattle.quorums.specs.declared.quorums.Kind.the-variants.{Read}
 use Rattle.bytes.specs.Bytes.{part}
 use Rattle.fields.specs.Layout.{usedOf, nameOf, rowBytes, contents, contentsOf}
 use Rattle.table.specs.Chain.{orderOf}

@@ -1,8 +1,8 @@
 // Reads and writes: their questions in order, then what is done.
-use grid::Kind;
 use questions::below_limit;
 use questions::range_asked;
 use questions::result;
+use quorums::Kind;
 use rows::RowSet;
 use settle::Settled;
 ghost use mathlib.Core.Path.{_≡_};

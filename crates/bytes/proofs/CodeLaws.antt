@@ -3,7 +3,7 @@ use mathlib.Core.Path.{_≡_, refl, sym, _∙_, ap, ap₂}
 use mathlib.Core.Bool.{Bool, true, false, _&&_, and-true}
 use mathlib.Core.List.{List, [], _∷_, _++_, append-nil}
 use Prim.Native.Nat.{ℕ, zero, suc, _+_, _-_, _*_, _/_, _%_, _^_, _≤_, _<_}
-use native.Mathlib.Nat.{add-zero}
+use native.Mathlib.Nat.{add-zero, mul-comm}
 use native.Mathlib.Numerals.{add-one}
 use native.Mathlib.Omega.{arith}
 use lib.Dec.{eqb}
@@ -20,13 +20,14 @@ number-one (suc a) [] = refl
 number-one zero (x ∷ xs) = add-zero x
 number-one (suc a) (x ∷ xs) = number-one a xs
 
--- a number of n + m bytes is one of n and one of m
-pub number-halves : (a n m : ℕ) (xs : List ℕ) → a + n ≤ length xs
-    → number (part a (n + m) xs) ≡ number (part a n xs) + 256 ^ n * number (part (a + n) m xs)
+-- a number of n + n bytes by its halves
+pub number-halves : (n a : ℕ) (xs : List ℕ) {low high : ℕ} → a + n ≤ length xs → low ≡ number (part a n xs) → high ≡ number (part (a + n) n xs)
+    → low + high * 256 ^ n ≡ number (part a (n + n) xs)
 unfolding part
-number-halves a n m xs h =
-    ap number (take-add n m (drop a xs)) ∙ number-append (take n (drop a xs)) (take m (drop n (drop a xs)))
-    ∙ ap₂ (λ (k : ℕ) (ys : List ℕ). number (take n (drop a xs)) + 256 ^ k * number (take m ys)) (length-part a n xs h) (drop-drop n a xs)
+number-halves n a xs h p q =
+    sym (ap number (take-add n n (drop a xs)) ∙ number-append (take n (drop a xs)) (take n (drop n (drop a xs)))
+    ∙ ap₂ (λ (k : ℕ) (ys : List ℕ). number (take n (drop a xs)) + 256 ^ k * number (take n ys)) (length-part a n xs h) (drop-drop n a xs)
+    ∙ ap₂ (λ (x y : ℕ). x + y) (sym p) (mul-comm (256 ^ n) _ ∙ ap (λ (x : ℕ). x * 256 ^ n) (sym q)))
 
 -- ---- fill: what is written so far, before the bytes of what is left
 module _ (s t : List ℕ) (i n v : ℕ) (long : length s ≡ n) (so-far : take i s ++ bytesOf (n - i) v ≡ t) where

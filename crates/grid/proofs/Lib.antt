@@ -1,4 +1,1 @@
-pub mod PositionLaws
-pub mod QuorumLaws
-pub mod StarredLaws
-pub mod CodeLaws
+pub mod SizeLaws

@@ -1,7 +1,122 @@
-// Positions of a list in a grid: quorums and choices. It knows lengths and positions, no rows and no bytes.
-mod choices;
-mod quorums;
+// The grid of a list: how many rows and columns it has.
+ghost use mathlib.Core.Path.{_≡_};
+ghost use mathlib.Core.Bool.{cond};
+ghost use lib.Dec.{leb};
+ghost use Prim.Native.Nat.{_-_, _≤_};
+ghost use Rattle.grid.specs.Sizes.{published, noGrid, height};
 
-pub use choices::choose;
-pub use quorums::Kind;
-pub use quorums::holds;
+// The sizes of a grid. (The table below has one for each length of a list.)
+pub struct Grid {
+    pub rows: u8,
+    pub cols: u8,
+}
+
+// The published grid of each length from 1 to 64.
+const GRIDS: [Grid; 64] = [
+    Grid { rows: 1, cols: 1 }, // 1
+    Grid { rows: 1, cols: 2 }, // 2
+    Grid { rows: 2, cols: 2 }, // 3
+    Grid { rows: 2, cols: 2 }, // 4
+    Grid { rows: 2, cols: 3 }, // 5
+    Grid { rows: 2, cols: 3 }, // 6
+    Grid { rows: 3, cols: 3 }, // 7
+    Grid { rows: 3, cols: 3 }, // 8
+    Grid { rows: 3, cols: 3 }, // 9
+    Grid { rows: 3, cols: 4 }, // 10
+    Grid { rows: 3, cols: 4 }, // 11
+    Grid { rows: 3, cols: 4 }, // 12
+    Grid { rows: 4, cols: 4 }, // 13
+    Grid { rows: 4, cols: 4 }, // 14
+    Grid { rows: 4, cols: 4 }, // 15
+    Grid { rows: 4, cols: 4 }, // 16
+    Grid { rows: 4, cols: 5 }, // 17
+    Grid { rows: 4, cols: 5 }, // 18
+    Grid { rows: 4, cols: 5 }, // 19
+    Grid { rows: 4, cols: 5 }, // 20
+    Grid { rows: 5, cols: 5 }, // 21
+    Grid { rows: 5, cols: 5 }, // 22
+    Grid { rows: 5, cols: 5 }, // 23
+    Grid { rows: 5, cols: 5 }, // 24
+    Grid { rows: 5, cols: 5 }, // 25
+    Grid { rows: 5, cols: 6 }, // 26
+    Grid { rows: 5, cols: 6 }, // 27
+    Grid { rows: 5, cols: 6 }, // 28
+    Grid { rows: 5, cols: 6 }, // 29
+    Grid { rows: 5, cols: 6 }, // 30
+    Grid { rows: 6, cols: 6 }, // 31
+    Grid { rows: 6, cols: 6 }, // 32
+    Grid { rows: 6, cols: 6 }, // 33
+    Grid { rows: 6, cols: 6 }, // 34
+    Grid { rows: 6, cols: 6 }, // 35
+    Grid { rows: 6, cols: 6 }, // 36
+    Grid { rows: 6, cols: 7 }, // 37
+    Grid { rows: 6, cols: 7 }, // 38
+    Grid { rows: 6, cols: 7 }, // 39
+    Grid { rows: 6, cols: 7 }, // 40
+    Grid { rows: 6, cols: 7 }, // 41
+    Grid { rows: 6, cols: 7 }, // 42
+    Grid { rows: 7, cols: 7 }, // 43
+    Grid { rows: 7, cols: 7 }, // 44
+    Grid { rows: 7, cols: 7 }, // 45
+    Grid { rows: 7, cols: 7 }, // 46
+    Grid { rows: 7, cols: 7 }, // 47
+    Grid { rows: 7, cols: 7 }, // 48
+    Grid { rows: 7, cols: 7 }, // 49
+    Grid { rows: 7, cols: 8 }, // 50
+    Grid { rows: 7, cols: 8 }, // 51
+    Grid { rows: 7, cols: 8 }, // 52
+    Grid { rows: 7, cols: 8 }, // 53
+    Grid { rows: 7, cols: 8 }, // 54
+    Grid { rows: 7, cols: 8 }, // 55
+    Grid { rows: 7, cols: 8 }, // 56
+    Grid { rows: 8, cols: 8 }, // 57
+    Grid { rows: 8, cols: 8 }, // 58
+    Grid { rows: 8, cols: 8 }, // 59
+    Grid { rows: 8, cols: 8 }, // 60
+    Grid { rows: 8, cols: 8 }, // 61
+    Grid { rows: 8, cols: 8 }, // 62
+    Grid { rows: 8, cols: 8 }, // 63
+    Grid { rows: 8, cols: 8 }, // 64
+];
+
+// The entry of a length that the table has.
+fn entry(length: usize) -> Grid
+    requires { ⌜ (1 ≤ length) × (length ≤ 64) ⌝ }
+    ensures { λ r. ⌜ r ≡ published length ⌝ }
+{
+    GRIDS[length - 1]
+}
+
+// The published grid of a list of `length` members; no rows and no columns where the length is 0 or above 64.
+pub fn published(length: usize) -> Grid
+    ensures { λ r. ⌜ r ≡ cond (leb length 64) (published length) noGrid ⌝ }
+{
+    if length == 0 {
+        return Grid { rows: 0, cols: 0 };
+    }
+    if 64 < length {
+        return Grid { rows: 0, cols: 0 };
+    }
+    entry(length)
+}
+
+// a - b; 0 where b is more.
+fn less(a: usize, b: usize) -> usize
+    ensures { λ r. ⌜ r ≡ a - b ⌝ }
+{
+    if b < a { a - b } else { 0 }
+}
+
+// How many rows of column j are occupied.
+pub fn height(g: Grid, length: usize, j: usize) -> usize
+    ensures { λ r. ⌜ r ≡ height g length j ⌝ }
+{
+    let rows = g.rows as usize;
+    let columns = g.cols as usize;
+    let spare = less(rows * columns, length);
+    if j <= less(columns, spare) {
+        rows
+    } else {
+        less(rows, 1)
+    }
+}

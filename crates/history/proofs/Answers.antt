@@ -9,8 +9,8 @@ use lib.ListN.{length}
 use borrow.Author.Tests.{lt-ltb}
 use Rattle.rows.specs.Upto.{Within, lowest}
 use Rattle.rows.specs.Sets.{has}
-use Rattle.grid.specs.declared.quorums.Kind.{Kind}
-use Rattle.grid.specs.declared.quorums.Kind.the-variants.{Read, Write}
+use Rattle.quorums.specs.declared.quorums.Kind.{Kind}
+use Rattle.quorums.specs.declared.quorums.Kind.the-variants.{Read, Write}
 use Rattle.bytes.specs.Bytes.{part}
 use Rattle.fields.specs.Layout.{usedOf, contentsOf}
 use Rattle.table.specs.Chain.{orderOf}

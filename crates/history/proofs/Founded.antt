@@ -12,7 +12,7 @@ use Rattle.rows.specs.Upto.{Within, upward}
 use Rattle.rows.specs.Sets.{has}
 use Rattle.rows.proofs.Bools.{and-l, and-r, clash}
 use Rattle.rows.proofs.SetLaws.{has-within}
-use Rattle.grid.specs.declared.quorums.Kind.the-variants.{Read, Write}
+use Rattle.quorums.specs.declared.quorums.Kind.the-variants.{Read, Write}
 use Rattle.fields.specs.Layout.{get, mark, version, desired, epoch, members, contents, rowBytes, usedOf, fileOf, epochOf, membersOf, staleOf, versionOf, desiredOf, contentsOf}
 use Rattle.table.specs.WellFormed.{between}
 use Rattle.table.proofs.FormLaws.{between-is}

@@ -14,8 +14,8 @@ use Rattle.rows.specs.Sets.{has, cutTo}
 use Rattle.rows.proofs.Bools.{and-l, and-r, and-i, clash, same-test}
 use Rattle.rows.proofs.UptoLaws.{every-at, every-of, some-at, some-of}
 use Rattle.rows.proofs.SetLaws.{has-within}
-use Rattle.grid.specs.declared.quorums.Kind.{Kind}
-use Rattle.grid.specs.declared.quorums.Kind.the-variants.{Read, Write}
+use Rattle.quorums.specs.declared.quorums.Kind.{Kind}
+use Rattle.quorums.specs.declared.quorums.Kind.the-variants.{Read, Write}
 use Rattle.table.specs.WellFormed.{limit}
 use Rattle.protocol.specs.Lists.{listQuorum, listChoice}
 use Rattle.protocol.specs.Polls.{Poll, highestEpoch, inForce, goodVersion, good, current, quorumHeld, ownTry, workedOn}

@@ -8,8 +8,8 @@ use lib.Dec.{eqb, leb, ltb}
 use lib.ListN.{length}
 use Rattle.rows.specs.Upto.{Within, some, lowest}
 use Rattle.rows.specs.Sets.{has}
-use Rattle.grid.specs.declared.quorums.Kind.{Kind}
-use Rattle.grid.specs.declared.quorums.Kind.the-variants.{Read, Write}
+use Rattle.quorums.specs.declared.quorums.Kind.{Kind}
+use Rattle.quorums.specs.declared.quorums.Kind.the-variants.{Read, Write}
 use Rattle.fields.specs.Layout.{usedOf, fileOf, nameOf, contentsOf}
 use Rattle.table.specs.Chain.{orderOf}
 use Rattle.table.proofs.FormLaws.{Formed, header-facts}

@@ -9,7 +9,7 @@ use lib.ListN.{length}
 use borrow.Author.Tests.{eqb-true, eqb-false, eq-eqb, ltb-true}
 use Rattle.rows.specs.Sets.{has}
 use Rattle.rows.proofs.Bools.{and-l, and-r, or-e, clash}
-use Rattle.grid.specs.declared.quorums.Kind.the-variants.{Read, Write}
+use Rattle.quorums.specs.declared.quorums.Kind.the-variants.{Read, Write}
 use Rattle.fields.specs.Layout.{usedOf}
 use Rattle.table.specs.Chain.{orderOf}
 use Rattle.table.specs.WellFormed.{limit, onlyRows, wellFormed}

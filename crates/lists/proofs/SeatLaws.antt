@@ -16,12 +16,12 @@ use Rattle.rows.specs.Sets.{has, gaining, noRow}
 use Rattle.rows.proofs.Bools.{and-l, and-r, and-i, or-l, or-r, or-e, same-test, clash}
 use Rattle.rows.proofs.UptoLaws.{some-at, some-of, some-none, some-ext, count-le}
 use Rattle.rows.proofs.SetLaws.{gain-where, has-within}
-use Rattle.sizes.specs.declared.Grid.{Grid}
-use Rattle.grid.specs.declared.quorums.Kind.{Kind}
-use Rattle.sizes.specs.Sizes.{published, noGrid}
-use Rattle.grid.specs.Quorums.{quorum, choice}
-use Rattle.sizes.proofs.SizeLaws.{published-fits}
-use Rattle.grid.proofs.QuorumLaws.{choice-within}
+use Rattle.grid.specs.declared.Grid.{Grid}
+use Rattle.quorums.specs.declared.quorums.Kind.{Kind}
+use Rattle.grid.specs.Sizes.{published, noGrid}
+use Rattle.quorums.specs.Quorums.{quorum, choice}
+use Rattle.grid.proofs.SizeLaws.{published-fits}
+use Rattle.quorums.proofs.QuorumLaws.{choice-within}
 use Rattle.protocol.specs.Lists.{size, gridOf, keep, seats, atSeat, listQuorum, listChoice}
 
 -- ---- one row more

@@ -1,7 +1,7 @@
 // A list of rows in chain order: the quorum that a set holds of it, and the choice that a name makes over it.
 // The chain order is the first `count` of an array of 64 rows.
 use bytes::both;
-use grid::Kind;
+use quorums::Kind;
 use rows::RowSet;
 ghost use mathlib.Core.Path.{_≡_};
 ghost use mathlib.Core.Bool.{_&&_, cond};
@@ -68,9 +68,9 @@ pub fn quorum(kind: Kind, order: &[u8; 64], count: usize, list: RowSet, set: Row
     ensures { λ r. ⌜ r ≡ listQuorum kind (take count (now (order .entry))) (list .bits) (has (set .bits)) ⌝ }
 {
     let length = list.size();
-    grid::holds(
+    quorums::holds(
         kind,
-        sizes::published(length),
+        grid::published(length),
         length,
         held(order, count, list, set),
     )
@@ -86,6 +86,6 @@ pub fn choice(kind: Kind, order: &[u8; 64], count: usize, list: RowSet, name: u1
         order,
         count,
         list,
-        grid::choose(kind, sizes::published(length), length, name),
+        quorums::choose(kind, grid::published(length), length, name),
     )
 }

@@ -7,8 +7,8 @@ use lib.Dec.{eqb}
 use lib.ListN.{length, replicate}
 use Rattle.rows.specs.Upto
 use Rattle.rows.specs.Sets
-use Rattle.sizes.specs.Sizes
-use Rattle.grid.specs.Quorums
+use Rattle.grid.specs.Sizes
+use Rattle.quorums.specs.Quorums
 use Rattle.bytes.specs.Bytes
 use Rattle.fields.specs.Layout
 use Rattle.fields.specs.Layout.{rowBytes}

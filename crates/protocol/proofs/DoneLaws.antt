@@ -12,8 +12,8 @@ use borrow.Author.Tests.{eqb-true, eq-eqb, ne-eqb, ltb-true}
 use Rattle.rows.specs.Upto.{Within}
 use Rattle.rows.specs.Sets.{has}
 use Rattle.rows.proofs.Bools.{and-l, and-r, or-e, clash}
-use Rattle.grid.specs.declared.quorums.Kind.{Kind}
-use Rattle.grid.specs.declared.quorums.Kind.the-variants.{Read, Write}
+use Rattle.quorums.specs.declared.quorums.Kind.{Kind}
+use Rattle.quorums.specs.declared.quorums.Kind.the-variants.{Read, Write}
 use Rattle.bytes.specs.Bytes.{put}
 use Rattle.fields.specs.Layout.{get, name, link, mark, version, desired, epoch, members, contents, rowLength, rowBytes, usedOf, fileOf, nameOf, linkOf, epochOf, membersOf, staleOf, versionOf, desiredOf, contentsOf}
 use Rattle.table.specs.Chain.{orderOf}

@@ -11,7 +11,7 @@ use borrow.Author.Tests.{eqb-true, eq-eqb, ne-eqb, ltb-true}
 use Rattle.rows.specs.Upto.{Within}
 use Rattle.rows.specs.Sets.{has}
 use Rattle.rows.proofs.Bools.{and-l, and-r, or-e, clash}
-use Rattle.grid.specs.declared.quorums.Kind.the-variants.{Read, Write}
+use Rattle.quorums.specs.declared.quorums.Kind.the-variants.{Read, Write}
 use Rattle.bytes.specs.Bytes.{allZero, put}
 use Rattle.fields.specs.Layout.{get, name, link, mark, version, desired, epoch, members, reserved, contents, rowBytes, usedOf, epochOf, membersOf, staleOf, versionOf, desiredOf}
 use Rattle.table.specs.WellFormed.{limit, wellFormed}

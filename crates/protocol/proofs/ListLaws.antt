@@ -11,9 +11,9 @@ use borrow.Author.Tests.{leb-true}
 use Rattle.rows.specs.Upto.{Within}
 use Rattle.rows.specs.Sets.{has}
 use Rattle.rows.proofs.Bools.{and-l, and-r, and-i}
-use Rattle.grid.specs.declared.quorums.Kind.{Kind}
-use Rattle.grid.specs.declared.quorums.Kind.the-variants.{Read, Write}
-use Rattle.grid.proofs.QuorumLaws as Q
+use Rattle.quorums.specs.declared.quorums.Kind.{Kind}
+use Rattle.quorums.specs.declared.quorums.Kind.the-variants.{Read, Write}
+use Rattle.quorums.proofs.QuorumLaws as Q
 use Rattle.protocol.specs.Lists.{size, gridOf, keep, seats, atSeat, listQuorum}
 
 -- what is kept passes

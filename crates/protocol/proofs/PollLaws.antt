@@ -10,7 +10,7 @@ use Rattle.rows.specs.Upto.{Within, some, lowest, most}
 use Rattle.rows.specs.Sets.{has, cutTo}
 use Rattle.rows.proofs.Bools.{and-l, and-r, and-i, same-test, clash}
 use Rattle.rows.proofs.UptoLaws.{some-at, some-of, some-none, some-ext, most-le, most-at, most-under, most-ext, lowest-at, lowest-ext}
-use Rattle.grid.specs.declared.quorums.Kind.{Kind}
+use Rattle.quorums.specs.declared.quorums.Kind.{Kind}
 use Rattle.protocol.specs.Lists.{listQuorum, listChoice}
 use Rattle.protocol.specs.Polls.{Poll, highestEpoch, inForce, unmarked, marked, goodVersion, good, current, quorumHeld, ownTry, workedOn}
 

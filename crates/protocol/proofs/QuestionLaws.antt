@@ -12,7 +12,7 @@ use Rattle.rows.specs.Upto.{Within}
 use Rattle.rows.specs.Sets.{has}
 use Rattle.rows.proofs.Bools.{and-l, and-r}
 use Rattle.rows.proofs.SetLaws.{has-within}
-use Rattle.grid.specs.declared.quorums.Kind.the-variants.{Read, Write}
+use Rattle.quorums.specs.declared.quorums.Kind.the-variants.{Read, Write}
 use Rattle.fields.specs.Layout.{usedOf, fileOf, staleOf, versionOf, desiredOf}
 use Rattle.table.specs.Chain.{orderOf}
 use Rattle.table.specs.WellFormed.{between, limit, onlyRows, wellFormed}

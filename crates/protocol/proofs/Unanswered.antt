@@ -11,8 +11,8 @@ use borrow.Author.Tests.{eqb-true, ltb-true}
 use Rattle.rows.specs.Upto.{Within, lowest}
 use Rattle.rows.specs.Sets.{has}
 use Rattle.rows.proofs.SetLaws.{has-within}
-use Rattle.grid.specs.declared.quorums.Kind.{Kind}
-use Rattle.grid.specs.declared.quorums.Kind.the-variants.{Read, Write}
+use Rattle.quorums.specs.declared.quorums.Kind.{Kind}
+use Rattle.quorums.specs.declared.quorums.Kind.the-variants.{Read, Write}
 use Rattle.bytes.specs.Bytes.{number, part}
 use Rattle.fields.specs.Layout
 use Rattle.fields.specs.Layout.{get, mark, version, desired, epoch, members, usedOf, firstOf, fileOf, capacityOf, nameOf, linkOf, staleOf, versionOf, desiredOf, epochOf, membersOf, contentsOf, rowsEnd, rowBytes}

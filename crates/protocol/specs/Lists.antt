@@ -6,10 +6,10 @@ use lib.Dec.{eqb, leb}
 use lib.ListN.{length, getD}
 use Rattle.rows.specs.Upto.{some, count}
 use Rattle.rows.specs.Sets.{has}
-use Rattle.sizes.specs.declared.Grid.{Grid}
-use Rattle.grid.specs.declared.quorums.Kind.{Kind}
-use Rattle.sizes.specs.Sizes.{published}
-use Rattle.grid.specs.Quorums.{quorum, choice}
+use Rattle.grid.specs.declared.Grid.{Grid}
+use Rattle.quorums.specs.declared.quorums.Kind.{Kind}
+use Rattle.grid.specs.Sizes.{published}
+use Rattle.quorums.specs.Quorums.{quorum, choice}
 
 -- "The length N of a list is how many members it has."
 unfoldable pub size : ℕ → ℕ

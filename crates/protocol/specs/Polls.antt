@@ -5,7 +5,7 @@ use Prim.Native.Nat.{ℕ}
 use lib.Dec.{eqb, leb, ltb}
 use Rattle.rows.specs.Upto.{some, lowest, most}
 use Rattle.rows.specs.Sets.{has, cutTo}
-use Rattle.grid.specs.declared.quorums.Kind.{Kind}
+use Rattle.quorums.specs.declared.quorums.Kind.{Kind}
 use Rattle.fields.specs.Layout.{epochOf, membersOf, staleOf, versionOf, desiredOf}
 use Rattle.protocol.specs.Lists.{listQuorum, listChoice}
 

@@ -31,8 +31,8 @@ pub fn coordinator_asked(t: &[u8], c: usize, answering: RowSet) -> u32
     if wellformed::well_formed(t) {
         let used = fields::used(t);
         if both(
-            wellformed::between(1, c, used),
-            wellformed::only_rows(used, answering.bits),
+            values::between(1, c, used),
+            values::only_rows(used, answering.bits),
         ) {
             if answering.has(c) {
                 return 0;

@@ -6,7 +6,7 @@ use Prim.Native.Nat.{ℕ}
 use lib.Dec.{eqb, ltb}
 use Rattle.rows.specs.Upto.{some, most}
 use Rattle.rows.specs.Sets.{has, cutTo, leftOf}
-use Rattle.grid.specs.declared.quorums.Kind.{Kind}
+use Rattle.quorums.specs.declared.quorums.Kind.{Kind}
 use Rattle.table.specs.Chain.{orderOf}
 use Rattle.protocol.specs.Polls.{unmarked, marked, goodVersion, good, current, quorumHeld}
 use Rattle.protocol.specs.Calls.{answers}

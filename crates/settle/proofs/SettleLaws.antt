@@ -6,7 +6,7 @@ use Prim.Native.Nat.{ℕ, _≤_}
 use native.Mathlib.Omega.{arith}
 use lib.ListN.{take}
 use Rattle.rows.specs.Sets.{has, cutTo}
-use Rattle.grid.specs.declared.quorums.Kind.{Kind}
+use Rattle.quorums.specs.declared.quorums.Kind.{Kind}
 use Rattle.fields.specs.Layout.{membersOf, nameOf}
 use Rattle.table.specs.Chain.{orderOf}
 use Rattle.protocol.specs.Lists.{listChoice}

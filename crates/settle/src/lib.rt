@@ -1,7 +1,7 @@
 // The set that a call works on, and questions 6 and 7.
 use bytes::both;
-use grid::Kind;
 use polls::Poll;
+use quorums::Kind;
 use rows::RowSet;
 use table::Order;
 ghost use mathlib.Core.Path.{_≡_};

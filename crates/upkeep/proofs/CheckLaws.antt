@@ -7,7 +7,7 @@ use native.Mathlib.Omega.{arith}
 use lib.Dec.{eqb, ltb}
 use borrow.Author.Tests.{eq-eqb, ne-eqb}
 use Rattle.rows.specs.Sets.{has}
-use Rattle.grid.specs.declared.quorums.Kind.the-variants.{Write}
+use Rattle.quorums.specs.declared.quorums.Kind.the-variants.{Write}
 use Rattle.fields.specs.Layout.{usedOf}
 use Rattle.table.specs.Chain.{orderOf}
 use Rattle.table.specs.WellFormed.{limit}

@@ -1,19 +1,19 @@
 // Sends and epoch checks: their questions in order, then what is done.
 use bytes::both;
-use grid::Kind;
 use questions::below_limit;
 use questions::coordinator_asked;
 use questions::result;
+use quorums::Kind;
 use rows::RowSet;
 use settle::Verdict;
-use wellformed::between;
+use values::between;
 ghost use mathlib.Core.Path.{_≡_};
 ghost use mathlib.Core.Bool.{true, not, cond, _&&_};
 ghost use Prim.Native.Nat.{_^_, _≤_, _<_};
 ghost use lib.Dec.{eqb, leb};
 ghost use lib.ListN.{length};
 ghost use Rattle.rows.specs.Sets.{has};
-ghost use Rattle.grid.specs.declared.quorums.Kind.the-variants.{Write};
+ghost use Rattle.quorums.specs.declared.quorums.Kind.the-variants.{Write};
 ghost use Rattle.fields.specs.Layout.{get, mark, version, desired, usedOf};
 ghost use Rattle.table.specs.WellFormed.{between, onlyRows, wellFormed};
 ghost use Rattle.protocol.specs.Polls.{highestEpoch, inForce};
@@ -26,7 +26,7 @@ fn rows_named(used: usize, from: usize, to: usize, answering: RowSet) -> bool
     ensures { λ r. ⌜ r ≡ (between 1 from used && between 1 to used && onlyRows used (answering .bits) && not (eqb from to)) ⌝ }
 {
     let named = both(between(1, from, used), between(1, to, used));
-    let known = both(named, wellformed::only_rows(used, answering.bits));
+    let known = both(named, values::only_rows(used, answering.bits));
     both(known, from != to)
 }
 

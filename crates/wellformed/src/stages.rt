@@ -1,12 +1,12 @@
 // Question 1: is a table well formed? Stages leave early, and no loop inside a stage does.
 use crate::lists::lists_agree;
-use crate::row_right::row_right;
-use crate::values::between;
 use bytes::all_zero;
 use bytes::both;
 use table::follow;
 use table::names_rise;
 use table::visits_each;
+use values::between;
+use values::row_right;
 ghost use mathlib.Core.Path.{_≡_};
 ghost use mathlib.Core.Bool.{true, _&&_};
 ghost use Prim.Native.Nat.{_≤_};

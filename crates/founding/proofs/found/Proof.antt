@@ -53,8 +53,8 @@ returns-2 c =
     let no = refused-is (a .t .now) (founding (a .capacity) (a .file) (a .names .now)) 12 (sym (found-answers (a .t .now) (a .capacity) (a .file) (a .names .now) true false (eleven (c .before .before .before)) (sized (c .before .before) ∙ not-true _ (c .before .if2 .taken)))) (omega arith) in
     (c .result2 .ensures ∙ no .result, no .table)
 
-found-requires : tie.Need-found-requires
-found-requires c κs = let a = c .before .before .before .before .before .before .before .args in found-fits (a .t .now) (a .capacity) (a .file) (a .names .now) (eleven (c .before .before .before)) (twelve (c .before))
+lay-table-requires : tie.Need-lay-table-requires
+lay-table-requires c κs = let a = c .before .before .before .before .before .before .before .args in found-fits (a .t .now) (a .capacity) (a .file) (a .names .now) (eleven (c .before .before .before)) (twelve (c .before))
 
 cast-result : tie.Need-cast-result
 cast-result c =
@@ -72,7 +72,7 @@ returns-3 : tie.Need-returns-3
 returns-3 c =
     let a = c .before .before .before .before .before .before .before .before .before .before .before .args in
     let yes = found-done (a .t .now) (a .capacity) (a .file) (a .names .now) (eleven (c .before .before .before .before .before .before .before)) (twelve (c .before .before .before .before .before)) in
-    (c .result3 .ensures ∙ ap (λ (n : ℕ). 0 * 2 ^ 32 + n) (half (c .before .before .before .before .before .before .before)) ∙ yes .0, c .before .before .before .found .ensures ∙ yes .1)
+    (c .result3 .ensures ∙ ap (λ (n : ℕ). 0 * 2 ^ 32 + n) (half (c .before .before .before .before .before .before .before)) ∙ yes .0, c .before .before .before .lay-table .ensures ∙ yes .1)
 
 pub found-spec : {M : Type 1} → statement M
 found-spec =
@@ -84,7 +84,7 @@ found-spec =
     sizes-right-requires
     result-requires-2
     returns-2
-    found-requires
+    lay-table-requires
     cast-result
     result-requires-3
     same-length

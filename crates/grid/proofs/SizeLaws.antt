@@ -1,0 +1,73 @@
+-- The sizes of the published grid, for any length.
+use mathlib.Core.Path.{_≡_, refl}
+use mathlib.Core.Bool.{Bool, true, false, cond}
+use Prim.Native.Nat.{ℕ, zero, suc, _+_, _-_, _*_, _≤_, _<_}
+use native.Mathlib.Nat.{mul-le-mul-right}
+use native.Mathlib.Omega.{arith}
+use lib.Dec.{leb, ltb, eqb}
+use borrow.Author.Tests.{leb-true, leb-false, ltb-true, ltb-false, eqb-true, eqb-false}
+use Rattle.grid.specs.declared.Grid.{Grid}
+use Rattle.grid.specs.Sizes.{root, rootUp, published}
+
+-- s is the square root of N rounded down
+pub record Root (N s : ℕ) : Type 0 where
+  pub low : s * s ≤ N
+  pub high : N < (s + 1) * (s + 1)
+
+pub root-is : (N : ℕ) → Root N (root N)
+unfolding root
+root-is zero = record { low = omega arith; high = omega arith }
+root-is (suc n) = go (root n) (root-is n) (leb ((root n + 1) * (root n + 1)) (suc n)) refl
+  where
+    go : (s : ℕ) → Root n s → (b : Bool) → leb ((s + 1) * (s + 1)) (suc n) ≡ b → Root (suc n) (cond b (s + 1) s)
+    go s r true e = record { low = omega (arith, leb-true); high = omega (arith, r .high) }
+    go s r false e = record { low = omega (arith, r .low); high = omega (arith, leb-false) }
+
+-- n is the square root of N rounded up
+pub record RootUp (N n : ℕ) : Type 0 where
+  pub high : N ≤ n * n
+  pub low : (s : ℕ) → n ≡ s + 1 → s * s < N
+
+pub root-up-is : (N : ℕ) → 1 ≤ N → RootUp N (rootUp N)
+unfolding rootUp
+root-up-is N pos = go (root N) (root-is N) (eqb (root N * root N) N) refl
+  where
+    go : (s : ℕ) → Root N s → (b : Bool) → eqb (s * s) N ≡ b → RootUp N (cond b s (s + 1))
+    go s r true e = record { high = omega (arith, eqb-true); low = λ t q. below t q (eqb-true (s * s) N e) }
+      where
+        below : (t : ℕ) → s ≡ t + 1 → s * s ≡ N → t * t < N
+        below t q f = let g : (t + 1) * (t + 1) ≡ N = rw q at f in omega arith
+    go s r false e = record { high = omega (arith, r .high); low = λ t q. let g : s ≡ t = omega arith in rw (← g) (omega (arith, r .low, eqb-false)) }
+
+-- What every grid that a list is laid in meets: there is room, no row to spare, and no more columns than members.
+pub record Fits (g : Grid) (N : ℕ) : Type 0 where
+  pub room : N ≤ g .rows * g .cols
+  pub tight : g .rows * g .cols < N + g .cols
+  pub narrow : g .cols ≤ N
+  pub some-column : 1 ≤ g .cols
+
+root-pos : (N s : ℕ) → 1 ≤ N → Root N s → 1 ≤ s
+root-pos N zero p r = absurd (omega (arith, r .high))
+root-pos N (suc s) p r = omega arith
+
+square : (s : ℕ) → 1 ≤ s → s ≤ s * s
+square zero h = omega arith
+square (suc s) h = omega arith
+
+pub published-fits : (N : ℕ) → 1 ≤ N → Fits (published N) N
+unfolding published rootUp
+published-fits N pos = go (root N) (root-is N) (eqb (root N * root N) N) refl (ltb (root N * rootUp N) N) refl
+  where
+    go : (s : ℕ) → Root N s → (b : Bool) → eqb (s * s) N ≡ b → (d : Bool) → ltb (s * cond b s (s + 1)) N ≡ d
+        → Fits (record { rows = cond d (s + 1) s; cols = cond b s (s + 1) }) N
+    go s r true e true f = absurd (omega (arith, eqb-true, ltb-true))
+    go s r true e false f =
+        record { room = omega (arith, eqb-true); tight = omega (arith, eqb-true, root-pos N s pos r); narrow = omega (arith, eqb-true, square s (root-pos N s pos r)); some-column = root-pos N s pos r }
+    go s r false e true f =
+        record { room = omega (arith, r .high); tight = omega (arith, ltb-true, r .low); narrow = omega (arith, ltb-true, square s (root-pos N s pos r)); some-column = omega arith }
+    go s r false e false f =
+        record { room = omega (arith, ltb-false); tight = omega (arith, r .low, root-pos N s pos r, eqb-false); narrow = omega (arith, square s (root-pos N s pos r), r .low, eqb-false); some-column = omega arith }
+
+-- two bytes multiplied
+pub byte-product : (a b : ℕ) → a < 256 → b < 256 → a * b < 65536
+byte-product a b h k = let q : a ≤ 255 = omega arith in omega (arith, mul-le-mul-right b q)

@@ -1,0 +1,38 @@
+-- The grid of a list of N members: its sizes, and the row and column of each position. Rows, columns and positions count from 1.
+use mathlib.Core.Bool.{cond}
+use Prim.Native.Nat.{ℕ, zero, suc, _+_, _-_, _*_, _/_, _%_}
+use lib.Dec.{eqb, leb, ltb}
+use Rattle.grid.specs.declared.Grid.{Grid}
+
+-- "the whole square root of N rounded down": it grows where the next square is reached
+unfoldable pub root : ℕ → ℕ
+root zero = 0
+root (suc n) = let s = root n in cond (leb ((s + 1) * (s + 1)) (suc n)) (s + 1) s
+
+-- "it rounded up"
+unfoldable pub rootUp : ℕ → ℕ
+rootUp N = cond (eqb (root N * root N) N) (root N) (root N + 1)
+
+-- "Rows m start at the whole square root of N rounded down, columns n at it rounded up; if m × n < N, m grows by one."
+unfoldable pub published : ℕ → Grid
+published N = record { rows = cond (ltb (root N * rootUp N) N) (root N + 1) (root N); cols = rootUp N }
+
+-- no rows and no columns
+unfoldable pub noGrid : Grid
+noGrid = record { rows = 0; cols = 0 }
+
+-- "Let b = m × n − N."
+unfoldable pub spare : Grid → ℕ → ℕ
+spare g N = g .rows * g .cols - N
+
+-- "position k is in row (k − 1) div n + 1"
+unfoldable pub rowOf : ℕ → ℕ → ℕ
+rowOf n k = (k - 1) / n + 1
+
+-- "column (k − 1) mod n + 1"
+unfoldable pub columnOf : ℕ → ℕ → ℕ
+columnOf n k = (k - 1) % n + 1
+
+-- the height of column j: "Columns beyond n − b are one shorter."
+unfoldable pub height : Grid → ℕ → ℕ → ℕ
+height g N j = cond (leb j (g .cols - spare g N)) (g .rows) (g .rows - 1)

@@ -1,0 +1,4 @@
+pub mod PositionLaws
+pub mod QuorumLaws
+pub mod StarredLaws
+pub mod CodeLaws
