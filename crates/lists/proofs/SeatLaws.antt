@@ -22,6 +22,7 @@ use Rattle.grid.specs.Sizes.{published, noGrid}
 use Rattle.quorums.specs.Quorums.{quorum, choice}
 use Rattle.grid.proofs.SizeLaws.{published-fits}
 use Rattle.quorums.proofs.QuorumLaws.{choice-within}
+use Rattle.lists.specs.Seats.{Seat}
 use Rattle.protocol.specs.Lists.{size, gridOf, keep, seats, atSeat, listQuorum, listChoice}
 
 -- ---- one row more
@@ -95,13 +96,7 @@ some-more n q a c m w = same-test _ _ to from
             some-of n _ (r .0) (r .1) (and-i (q (r .0)) _ (and-l _ _ (r .2)) (or-l (a (r .0)) _ (and-r (q (r .0)) _ (r .2))))
         by (inr p) = some-of n _ m w (and-i (q m) _ (and-l _ _ p) (or-r (a m) _ (and-i c _ (and-r (q m) _ p) (eq-eqb m m refl))))
 
--- ---- a walk: j rows passed, n of them members of v; what the code finds of the next row
-pub record Seat (order : List ℕ) (v j n row seat : ℕ) (member : Bool) : Type 0 where
-  pub before : n ≡ length (seats (take j order) v)
-  pub passed : row ≡ getD order j 0
-  pub listed : member ≡ has v row
-  pub counted : seat ≡ cond member (n + 1) n
-
+-- ---- a walk: j rows passed, n of them members of v
 module _ (order : List ℕ) (v j : ℕ) (few : length order ≡ 64) (inside : j < 64) where
   done : List ℕ
   done = seats (take j order) v
@@ -114,14 +109,14 @@ module _ (order : List ℕ) (v j : ℕ) (few : length order ≡ 64) (inside : j 
   unfolding seats
   seat-few = omega (arith, keep-length (has v) (take j order), length-take j order)
 
-  module _ {n row seat : ℕ} {member : Bool} (w : Seat order v j n row seat member) where
+  module _ {n row seat : ℕ} {member : Bool} (before : n ≡ length (seats (take j order) v)) (w : Seat order v j n row seat member) where
     -- the seats after a row that is a member, and after another
     after : (y : Bool) → member ≡ y → seats (take (j + 1) order) v ≡ cond y (done ++ (row ∷ [])) done
     after y e = next ∙ ap₂ (λ (b : Bool) (r : ℕ). cond b (done ++ (r ∷ [])) done) (ap (has v) (sym (w .passed)) ∙ sym (w .listed) ∙ e) (sym (w .passed))
 
     at : member ≡ true → seat ≡ length done + 1
     unfolding done
-    at e = w .counted ∙ rw e (ap (λ (z : ℕ). z + 1) (w .before))
+    at e = w .counted ∙ rw e (ap (λ (z : ℕ). z + 1) before)
 
     pub seat-next : seat ≡ length (seats (take (j + 1) order) v)
     unfolding done
@@ -129,7 +124,7 @@ module _ (order : List ℕ) (v j : ℕ) (few : length order ≡ 64) (inside : j 
       where
         go : (y : Bool) → member ≡ y → seat ≡ length (seats (take (j + 1) order) v)
         go true e = at e ∙ sym (ap length (after true e) ∙ length-append done (row ∷ []))
-        go false e = w .counted ∙ rw (e, after false e) (w .before)
+        go false e = w .counted ∙ rw (e, after false e) before
 
     -- the positions held
     pub held-next : (s f : ℕ → Bool) (t b : Bool) → f ≡ atSeat (seats (take j order) v) s → t ≡ s row → b ≡ (member && t)

@@ -10,6 +10,7 @@ ghost use lib.Dec.{eqb};
 ghost use lib.ListN.{length, take};
 ghost use Rattle.rows.specs.Upto.{some};
 ghost use Rattle.rows.specs.Sets.{has};
+ghost use Rattle.lists.specs.Seats.{Seat};
 ghost use Rattle.protocol.specs.Lists.{seats, atSeat, listQuorum, listChoice};
 
 fn wide(x: u8) -> usize
@@ -26,6 +27,27 @@ fn step(n: usize, counts: bool) -> usize
     if counts { n + 1 } else { n }
 }
 
+// What a walk along the chain order finds of its next row, and the seats taken with it.
+struct Next {
+    row: usize,
+    member: bool,
+    seat: usize,
+}
+
+// The row at place j of the order, after n seats.
+fn next_row(order: &[u8; 64], j: usize, list: RowSet, n: usize) -> Next
+    requires { ⌜ (length (now order) ≡ 64) × (j < 64) × (n < 64) ⌝ }
+    ensures { λ r. ⌜ Seat (now (order .entry)) (list .bits) j n (r .row) (r .seat) (r .member) ⌝ }
+{
+    let row = wide(order[j]);
+    let member = list.has(row);
+    Next {
+        row: row,
+        member: member,
+        seat: step(n, member),
+    }
+}
+
 // The positions of a list that a set of rows holds.
 pub fn held(order: &[u8; 64], count: usize, list: RowSet, set: RowSet) -> RowSet
     requires { ⌜ (length (now order) ≡ 64) × (count ≤ 64) ⌝ }
@@ -35,10 +57,9 @@ pub fn held(order: &[u8; 64], count: usize, list: RowSet, set: RowSet) -> RowSet
     let mut seat = 0;
     let mut j = 0;
     while j < count {
-        let row = wide(order[j]);
-        let member = list.has(row);
-        seat = step(seat, member);
-        positions = positions.gain(seat, both(member, set.has(row)));
+        let next = next_row(order, j, list, seat);
+        seat = next.seat;
+        positions = positions.gain(seat, both(next.member, set.has(next.row)));
         j += 1;
     }
     positions
@@ -53,10 +74,9 @@ pub fn standing(order: &[u8; 64], count: usize, list: RowSet, positions: RowSet)
     let mut seat = 0;
     let mut j = 0;
     while j < count {
-        let row = wide(order[j]);
-        let member = list.has(row);
-        seat = step(seat, member);
-        rows = rows.gain(row, both(member, positions.has(seat)));
+        let next = next_row(order, j, list, seat);
+        seat = next.seat;
+        rows = rows.gain(next.row, both(next.member, positions.has(seat)));
         j += 1;
     }
     rows

@@ -23,10 +23,6 @@ unfolding put part
 put-own a n xs h =
     rw (length-part a n xs h, ← drop-drop n a xs, take-append-drop n (drop a xs)) (take-append-drop a xs)
 
--- the used rows lie within the table
-pub roomy : {t : List ℕ} → Sized t → Roomy t (usedOf t)
-roomy {t} s = rows-in s (usedOf t) (header (s .header) .used .1)
-
 -- ---- row k + 1 lent and back
 module _ (t : List ℕ) (n k at size : ℕ) (room : Roomy t n) (h : k < n) (place : at ≡ rowsEnd t k) (wide : size ≡ rowLength t) where
   pub lent-fits : at + size ≤ length t
@@ -57,59 +53,59 @@ rows-more : (t : List ℕ) (s : ℕ → Bool) (f : ℕ → List ℕ → List ℕ
 unfolding withRows
 rows-more t s f k = refl
 
--- ---- u is t with the rows of s among 1 to k changed, and row k + 1 starts at `at`
-pub record Done (t : List ℕ) (s : ℕ → Bool) (f : ℕ → List ℕ → List ℕ) (k at : ℕ) (u : List ℕ) : Type 0 where
+-- ---- u is t with the rows of s among 1 to k changed, of n that lie within it; row k + 1 starts at `at`
+pub record Done (t : List ℕ) (s : ℕ → Bool) (f : ℕ → List ℕ → List ℕ) (n size k at : ℕ) (u : List ℕ) : Type 0 where
+  pub room : Roomy t n
+  pub wide : size ≡ rowLength t
   pub place : at ≡ rowsEnd t k
   pub like : Like t u
   pub rows : u ≡ withRows t s f k
 
-pub none-done : (t : List ℕ) (s : ℕ → Bool) (f : ℕ → List ℕ → List ℕ) (at : ℕ) → at ≡ rowsEnd t 0 → Done t s f 0 at t
+pub none-done : {t : List ℕ} → Sized t → (s : ℕ → Bool) (f : ℕ → List ℕ → List ℕ) {n size at : ℕ} → n ≡ usedOf t → size ≡ rowLength t → at ≡ rowsEnd t 0 → Done t s f n size 0 at t
 unfolding withRows
-none-done t s f at e = record { place = e; like = like-refl t; rows = refl }
+none-done {t} z s f {n} e w p =
+    let room : Roomy t n = rw e (rows-in z (usedOf t) (header (z .header) .used .1)) in
+    record { room = room; wide = w; place = p; like = like-refl t; rows = refl }
 
--- what the code knows in the turn of row k + 1, of n
-pub record Turn (t : List ℕ) (s : ℕ → Bool) (f : ℕ → List ℕ → List ℕ) (n k at size : ℕ) (u : List ℕ) : Type 0 where
-  pub room : Roomy t n
-  pub below : k < n
-  pub wide : size ≡ rowLength t
-  pub done : Done t s f k at u
-
-module _ {t : List ℕ} {s : ℕ → Bool} {f : ℕ → List ℕ → List ℕ} {n k at size : ℕ} {u : List ℕ} (w : Turn t s f n k at size u) where
+-- the turn of row k + 1
+module _ {t : List ℕ} {s : ℕ → Bool} {f : ℕ → List ℕ → List ℕ} {n size k at : ℕ} {u : List ℕ} (d : Done t s f n size k at u) (below : k < n) where
   place : at ≡ rowsEnd u k
-  place = w .done .place ∙ sym (like-end (w .done .like) k)
+  place = d .place ∙ sym (like-end (d .like) k)
 
   width : size ≡ rowLength u
-  width = w .wide ∙ sym (like-length (w .done .like))
+  width = d .wide ∙ sym (like-length (d .like))
 
   room-left : Roomy u n
-  room-left = omega (arith, like-end (w .done .like) n, w .done .like .long)
+  room-left = omega (arith, like-end (d .like) n, d .like .long)
 
   pub turn-fits : at + size ≤ length u
-  turn-fits = lent-fits u n k at size room-left (w .below) place width
+  turn-fits = lent-fits u n k at size room-left below place width
 
   pub turn-long : length (take ((at + size) - at) (drop at u)) ≡ rowLength t
-  turn-long = part-length at size u turn-fits ∙ w .wide
+  turn-long = part-length at size u turn-fits ∙ d .wide
 
   -- one row more, changed where it is in s
   pub rows-turn : (new : List ℕ) (b : Bool) → b ≡ s (k + 1) → length new ≡ length (take ((at + size) - at) (drop at u))
       → new ≡ cond b (f (k + 1) (take ((at + size) - at) (drop at u))) (take ((at + size) - at) (drop at u))
-      → Done t s f (k + 1) (at + size) (take at u ++ (new ++ drop ((at + size) - at) (drop at u)))
+      → Done t s f n size (k + 1) (at + size) (take at u ++ (new ++ drop ((at + size) - at) (drop at u)))
   unfolding rowsEnd
   rows-turn new b asked kept made = record {
-    place = omega (arith, w .wide, w .done .place, ap (λ (m : ℕ). m * rowLength t) (add-one k), suc-mul k (rowLength t));
-    like = like-trans (w .done .like) (back-like u n k at size room-left (w .below) place width new long);
-    rows = row-back u n k at size room-left (w .below) place width new long
-        ∙ one-more u n k room-left (w .below) (f (suc k)) new b (s (suc k)) (rw (add-one k) at asked) (rw (lent, add-one k) at made) ∙ counted;
+    room = d .room;
+    wide = d .wide;
+    place = omega (arith, d .wide, d .place, ap (λ (m : ℕ). m * rowLength t) (add-one k), suc-mul k (rowLength t));
+    like = like-trans (d .like) (back-like u n k at size room-left below place width new long);
+    rows = row-back u n k at size room-left below place width new long
+        ∙ one-more u n k room-left below (f (suc k)) new b (s (suc k)) (rw (add-one k) at asked) (rw (lent, add-one k) at made) ∙ counted;
   }
     where
       lent : take ((at + size) - at) (drop at u) ≡ rowBytes u (suc k)
-      lent = lent-is u n k at size room-left (w .below) place width
+      lent = lent-is u n k at size room-left below place width
 
       long : length new ≡ rowLength u
       long = kept ∙ part-length at size u turn-fits ∙ width
 
       counted : cond (s (suc k)) (withRow u (suc k) (f (suc k))) u ≡ withRows t s f (k + 1)
-      counted = rw (add-one k) (more u (w .done .rows))
+      counted = rw (add-one k) (more u (d .rows))
         where
           more : (x : List ℕ) → x ≡ withRows t s f k → cond (s (suc k)) (withRow x (suc k) (f (suc k))) x ≡ withRows t s f (suc k)
           more x e = rw e (rows-more t s f k)

@@ -5,7 +5,7 @@ use native.Mathlib.Omega.{arith}
 use borrow.Author.Needs.{needs}
 use lib.ListN.{length, take}
 use lib.Dec.{eqb}
-use Rattle.lists.proofs.SeatLaws.{Seat, seat-next, seat-few, standing-next, none-standing}
+use Rattle.lists.proofs.SeatLaws.{seat-next, seat-few, standing-next, none-standing}
 use Rattle.protocol.specs.Lists.{keep, seats, atSeat}
 use Rattle.rows.proofs.SetLaws.{has-empty}
 use Rattle.rows.specs.Sets.{has}
@@ -24,23 +24,14 @@ loop-holds : tie.Need-loop-holds Inv-loop μ-loop
 unfolding seats keep
 loop-holds c = (omega arith, refl, has-empty ∙ none-standing (has (c .args .positions .bits)))
 
-element-copy-out-wide : tie.Need-element-copy-out-wide Inv-loop μ-loop
-element-copy-out-wide c = search needs
-
-wide-requires : tie.Need-wide-requires Inv-loop μ-loop
-wide-requires c κs = search needs
+next-row-requires : tie.Need-next-row-requires Inv-loop μ-loop
+next-row-requires c κs =
+    let l = c .before .loop in
+    let s = c .before .before in
+    (s .pre .0, omega arith, omega (arith, seat-few (s .args .order .now) (s .args .list .bits) (l .j) (s .pre .0) (omega arith)))
 
 has-requires : tie.Need-has-requires Inv-loop μ-loop
 has-requires c κs = search needs
-
-step-requires : tie.Need-step-requires Inv-loop μ-loop
-step-requires c κs =
-    let l = c .before .before .before .before .loop in
-    let a = c .before .before .before .before .before .args in
-    omega (arith, seat-few (a .order .now) (a .list .bits) (l .j) (c .before .before .before .before .before .pre .0) (omega arith))
-
-has-requires-2 : tie.Need-has-requires-2 Inv-loop μ-loop
-has-requires-2 c κs = search needs
 
 both-requires : tie.Need-both-requires Inv-loop μ-loop
 both-requires c κs = search needs
@@ -56,20 +47,14 @@ loop-less c = search needs
 
 loop-again : tie.Need-loop-again Inv-loop μ-loop
 loop-again c =
-    let l = c .before .before .before .before .before .before .before .before .loop in
-    let s = c .before .before .before .before .before .before .before .before .before in
+    let l = c .before .before .before .before .before .loop in
+    let s = c .before .before .before .before .before .before in
     let a = s .args in
-    let inside : l .j < 64 = omega arith in
-    let w : Seat (a .order .now) (a .list .bits) (l .j) (l .seat) (c .before .before .before .before .before .wide .result) (c .before .before .before .step .result) (c .before .before .before .before .has .result) =
-    record {
-      before = l .inv .1;
-      passed = c .before .before .before .before .before .wide .ensures;
-      listed = c .before .before .before .before .has .ensures;
-      counted = c .before .before .before .step .ensures;
-    } in (
+    let w = c .before .before .before .next-row .ensures in
+    let inside : l .j < 64 = omega arith in (
       omega arith,
-      seat-next (a .order .now) (a .list .bits) (l .j) (s .pre .0) inside w,
-      c .gain .ensures ∙ standing-next (a .order .now) (a .list .bits) (l .j) (s .pre .0) inside w (has (a .positions .bits)) (has (l .rows .bits)) _ _ (omega arith) (l .inv .2) (c .before .before .has2 .ensures) (c .before .both .ensures),
+      seat-next (a .order .now) (a .list .bits) (l .j) (s .pre .0) inside (l .inv .1) w,
+      c .gain .ensures ∙ standing-next (a .order .now) (a .list .bits) (l .j) (s .pre .0) inside (l .inv .1) w (has (a .positions .bits)) (has (l .rows .bits)) _ _ (omega arith) (l .inv .2) (c .before .before .has .ensures) (c .before .both .ensures),
     )
 
 returns : tie.Need-returns Inv-loop μ-loop
@@ -82,11 +67,8 @@ standing-spec =
     Inv-loop
     μ-loop
     loop-holds
-    element-copy-out-wide
-    wide-requires
+    next-row-requires
     has-requires
-    step-requires
-    has-requires-2
     both-requires
     gain-requires
     add-j
