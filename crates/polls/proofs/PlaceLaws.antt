@@ -52,13 +52,13 @@ gathered-next q f k b h ef eb = gain-where f (k + 1) b (omega arith) ∙ fun-ext
         yes-and false = refl
     go i (no l) (no d) = rw (lt-leb i k (omega arith), lt-leb i (k + 1) (omega arith), ne-eqb i (k + 1) d) (and-false (q (k + 1)))
 
-pub gathered-all : (q : ℕ → Bool) → ((i : ℕ) → 64 < i → q i ≡ false) → upTo q 64 ≡ q
+pub gathered-all : (q : ℕ → Bool) (n : ℕ) → ((i : ℕ) → n < i → q i ≡ false) → upTo q n ≡ q
 unfolding upTo
-gathered-all q out = fun-ext (λ i. go i (decLe i 64))
+gathered-all q n out = fun-ext (λ i. go i (decLe i n))
   where
-    go : (i : ℕ) → Dec (i ≤ 64) → (leb i 64 && q i) ≡ q i
-    go i (yes l) = rw (le-leb i 64 l)
-    go i (no l) = rw (lt-leb i 64 (omega arith)) (sym (out i (omega arith)))
+    go : (i : ℕ) → Dec (i ≤ n) → (leb i n && q i) ≡ q i
+    go i (yes l) = rw (le-leb i n l)
+    go i (no l) = rw (lt-leb i n (omega arith)) (sym (out i (omega arith)))
 
 -- ---- an array filled place by place: f up to row k, 0 from there on
 pub record Placed (f : ℕ → ℕ) (k : ℕ) (xs : List ℕ) : Type 0 where
@@ -118,12 +118,7 @@ out-of r n i h l = go (has r i) refl
     go false e = e
 
 pub gathered-used : (r n : ℕ) (p : ℕ → Bool) → r < 2 ^ n → upTo (λ i. has r i && p i) n ≡ (λ (i : ℕ). has r i && p i)
-unfolding upTo
-gathered-used r n p h = fun-ext (λ i. go i (decLe i n))
-  where
-    go : (i : ℕ) → Dec (i ≤ n) → (leb i n && (has r i && p i)) ≡ (has r i && p i)
-    go i (yes l) = rw (le-leb i n l)
-    go i (no l) = rw (lt-leb i n (omega arith), out-of r n i h (omega arith))
+gathered-used r n p h = gathered-all (λ i. has r i && p i) n (λ i l. ap (λ (b : Bool). b && p i) (out-of r n i h l))
 
 pub placed-masked : (r n : ℕ) (f : ℕ → ℕ) → r < 2 ^ n → (xs : List ℕ) → Placed (λ i. cond (has r i) (f i) 0) n xs → placed xs ≡ (λ (i : ℕ). cond (has r i) (f i) 0)
 unfolding has

@@ -94,9 +94,10 @@ fn larger(m: u32, v: u32, counts: bool) -> u32
 pub fn highest(values: &[u32; 64], s: RowSet) -> u32
     ensures { λ r. ⌜ r ≡ most 64 (has (s .bits)) (placed (now (values .entry))) ⌝ }
 {
+    let end = s.highest();
     let mut m = 0;
     let mut k = 0;
-    while k < 64 {
+    while k < end {
         m = larger(m, values[k], s.has(k + 1));
         k += 1;
     }
@@ -107,9 +108,10 @@ pub fn highest(values: &[u32; 64], s: RowSet) -> u32
 pub fn having(values: &[u32; 64], s: RowSet, v: u32) -> RowSet
     ensures { λ r. ⌜ has (r .bits) ≡ (λ (i : ℕ). has (s .bits) i && eqb (placed (now (values .entry)) i) v) ⌝ }
 {
+    let end = s.highest();
     let mut set = RowSet::EMPTY;
     let mut k = 0;
-    while k < 64 {
+    while k < end {
         set = set.gain(k + 1, both(s.has(k + 1), values[k] == v));
         k += 1;
     }
@@ -120,9 +122,10 @@ pub fn having(values: &[u32; 64], s: RowSet, v: u32) -> RowSet
 pub fn above(values: &[u32; 64], s: RowSet, v: u32) -> bool
     ensures { λ r. ⌜ r ≡ some 64 (λ i. has (s .bits) i && ltb v (placed (now (values .entry)) i)) ⌝ }
 {
+    let end = s.highest();
     let mut found = false;
     let mut k = 0;
-    while k < 64 {
+    while k < end {
         found = any(found, both(s.has(k + 1), v < values[k]));
         k += 1;
     }

@@ -2,7 +2,7 @@
 use mathlib.Core.Path.{_≡_, refl, sym, _∙_, ap}
 use mathlib.Core.Bool.{Bool, true, false, not, cond, _&&_, _||_, xor}
 use Prim.Native.Nat.{ℕ, zero, suc, _+_, _-_, _*_, _/_, _%_, _^_, _≤_, _<_, min, max}
-use native.Mathlib.Nat.{mod-lt, mod-eq-of-lt, one-mul, le-of-suc-le-suc, div-one, div-eq-of-lt, div-self, div-div-eq-div-mul, mul-comm, mul-div-cancel, mul-mod-left, pow-suc, lt-of-lt-of-le}
+use native.Mathlib.Nat.{mod-lt, mod-eq-of-lt, one-mul, le-of-suc-le-suc, div-one, div-eq-of-lt, div-eq-of-lt-le, div-self, div-div-eq-div-mul, mul-comm, mul-div-cancel, mul-mod-left, pow-suc, lt-of-lt-of-le}
 use native.Mathlib.Decide.{decLt}
 use native.Mathlib.Omega.{arith}
 use lib.Dec.{eqb, ltb}
@@ -105,6 +105,13 @@ on-power i k = go (decLt i k) (decLt k i)
         rw (z, eq-eqb k i (sym e))
 
 -- from n on a number below 2 ^ n has no digits
+-- the highest digit of a number is 1
+pub on-top : (s j : ℕ) → 2 ^ j ≤ s → s < 2 ^ suc j → on s j ≡ true
+on-top s j l h =
+    let a : 1 * 2 ^ j ≤ s = omega arith in
+    let b : s < (1 + 1) * 2 ^ j = omega (arith, pow-suc 2 j) in
+    rw (div-eq-of-lt-le {k = 1} (2 ^ j) {m = s} a b)
+
 pub on-high : (n s k : ℕ) → s < 2 ^ n → n ≤ k → on s k ≡ false
 on-high n s k h l = rw (div-eq-of-lt (lt-of-lt-of-le h (pow-mono l)))
 

@@ -3,20 +3,20 @@ use mathlib.Core.Path.{_≡_, refl, sym, _∙_, ap, ap₂, fun-ext}
 use mathlib.Core.Bool.{Bool, true, false, not, cond, _&&_, _||_, and-true, and-false, or-false}
 use mathlib.Core.Logic.{_⊎_, inl, inr}
 use Prim.Native.Nat.{ℕ, zero, suc, _+_, _-_, _*_, _/_, _%_, _^_, _≤_, _<_}
-use native.Mathlib.Nat.{mod-lt, pos-of-ne-zero}
+use native.Mathlib.Nat.{mod-lt, pos-of-ne-zero, eq-zero-or-pos}
 use native.Mathlib.Numerals.{add-one}
 use native.Mathlib.Decide.{decLe, decLt}
 use native.Mathlib.Omega.{arith}
 use lib.Dec.{eqb, leb, ltb, eqb·suc-suc, eqb·zero-suc}
 use lib.Arith.{lt-one}
 use lib.Bits.{bitAnd, bitOr, bitXor, and-le-r}
-use lib.Count.{ones, ones-step, trailingZeros, trailing-le, trailing-of-zero}
+use lib.Count.{ones, ones-step, trailingZeros, trailing-le, trailing-of-zero, leadingZeros, leading-of-zero, leading-top}
 use borrow.Author.Tests.{eq-eqb, eqb-true, le-leb, lt-leb, lt-ltb, leb-true, not-true}
-use Rattle.rows.specs.Upto.{Within, every, some, count, lowest}
+use Rattle.rows.specs.Upto.{Within, every, some, count, lowest, most}
 use Rattle.rows.specs.Sets.{has, isRow, noRow, firstRows, gaining, losing, cutTo, leftOf}
 use Rattle.rows.proofs.Bools.{and-l, and-r, and-i, same-test, clash}
-use Rattle.rows.proofs.UptoLaws.{every-at, every-of, some-of, some-none, count-first, count-ext, lowest-is, lowest-none}
-use Rattle.rows.proofs.DigitLaws.{on, on-or, on-and, on-less, on-power, on-high, on-ones, on-half, on-zero, on-ext, half-lt, digit-is, trailing-on, trailing-below}
+use Rattle.rows.proofs.UptoLaws.{every-at, every-of, some-of, some-none, count-first, count-ext, lowest-is, lowest-none, most-le, most-under}
+use Rattle.rows.proofs.DigitLaws.{on, on-or, on-and, on-less, on-power, on-top, on-high, on-ones, on-half, on-zero, on-ext, half-lt, digit-is, trailing-on, trailing-below}
 
 -- ---- one law between rows from 1 and digits from 0
 pub has-suc : (s k : ℕ) → has s (suc k) ≡ on s k
@@ -230,3 +230,28 @@ empty-is s h = same-test _ _ to from
         out : (i : ℕ) (b : Bool) → has s i ≡ b → has s i ≡ false
         out i false q = q
         out i true q = absurd (clash (sym (not-true _ e) ∙ some-of 64 (has s) i (has-within 64 s i h q) q))
+
+-- ---- the highest member
+pub highest-bit : (s : ℕ) → s < 2 ^ 64 → 64 - leadingZeros 64 s ≡ most 64 (has s) (λ i. i)
+highest-bit s h = go (eq-zero-or-pos s)
+  where
+    go : (s ≡ 0) ⊎ (0 < s) → 64 - leadingZeros 64 s ≡ most 64 (has s) (λ i. i)
+    go (inl z) =
+        let none : most 64 (has s) (λ i. i) ≤ 0 = most-under 64 (has s) (λ i. i) 0 (λ i w e. absurd (clash (sym (ap (λ (x : ℕ). has x i) z ∙ empty-at i) ∙ e))) in
+        omega (arith, ap (leadingZeros 64) z ∙ leading-of-zero 64)
+    go (inr p) =
+        let t = leading-top 64 s p h in
+        let top : suc (t .0) ≤ most 64 (has s) (λ i. i) = most-le 64 (has s) (λ i. i) (suc (t .0)) (omega (arith, t .1)) (has-suc s (t .0) ∙ on-top s (t .0) (t .2) (t .3)) in
+        let rest : most 64 (has s) (λ i. i) ≤ suc (t .0) = most-under 64 (has s) (λ i. i) (suc (t .0)) (λ i w e. has-within (suc (t .0)) s i (t .3) e .1) in
+        omega (arith, t .1)
+
+-- rows above it are no members
+pub above-highest : (s i : ℕ) → s < 2 ^ 64 → most 64 (has s) (λ i. i) < i → has s i ≡ false
+above-highest s i h l = go (has s i) refl
+  where
+    go : (b : Bool) → has s i ≡ b → has s i ≡ false
+    go true e = let w = most-le 64 (has s) (λ i. i) i (has-within 64 s i h e) e in absurd (omega arith)
+    go false e = e
+
+pub highest-row : (s : ℕ) → most 64 (has s) (λ i. i) ≤ 64
+highest-row s = most-under 64 (has s) (λ i. i) 64 (λ i w e. w .1)

@@ -1,6 +1,6 @@
 -- Laws of the questions about 1 to n.
 use mathlib.Core.Path.{_≡_, refl, sym, _∙_, ap, ap₂}
-use mathlib.Core.Bool.{Bool, true, false, not, cond, _&&_, _||_}
+use mathlib.Core.Bool.{Bool, true, false, not, cond, _&&_, _||_, or-false}
 use mathlib.Core.Logic.{_⊎_, inl, inr}
 use Prim.Native.Nat.{ℕ, zero, suc, _+_, _≤_, _<_, max}
 use native.Mathlib.Decide.{ℕ-discrete, decLe}
@@ -210,3 +210,23 @@ most-ext (suc n) p q f g e d =
     go : (x : Bool) → q (suc n) ≡ x → cond x (f (suc n)) 0 ≡ cond x (g (suc n)) 0
     go true h = d (suc n) (omega arith) h
     go false h = refl
+
+-- ---- tests that nothing passes above m: they need be put to 1 to m only
+module _ (m : ℕ) (p : ℕ → Bool) (none : (i : ℕ) → m < i → p i ≡ false) where
+  pub most-to : (n : ℕ) (f : ℕ → ℕ) → m ≤ n → most n p f ≡ most m p f
+  unfolding most
+  most-to zero f h = let z : m ≡ 0 = omega arith in rw z
+  most-to (suc n) f h = go (decLe m n) (most-to n f)
+    where
+      go : Dec (m ≤ n) → (m ≤ n → most n p f ≡ most m p f) → max (most n p f) (cond (p (suc n)) (f (suc n)) 0) ≡ most m p f
+      go (yes l) ih = rw (none (suc n) (omega arith)) (omega (arith, ih l))
+      go (no l) ih = let e : m ≡ suc n = omega arith in rw e
+
+  pub some-to : (n : ℕ) → m ≤ n → some n p ≡ some m p
+  unfolding some
+  some-to zero h = let z : m ≡ 0 = omega arith in rw z
+  some-to (suc n) h = go (decLe m n) (some-to n)
+    where
+      go : Dec (m ≤ n) → (m ≤ n → some n p ≡ some m p) → (some n p || p (suc n)) ≡ some m p
+      go (yes l) ih = rw (none (suc n) (omega arith)) (or-false (some n p) ∙ ih l)
+      go (no l) ih = let e : m ≡ suc n = omega arith in rw e

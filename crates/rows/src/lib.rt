@@ -1,7 +1,7 @@
 // A set of rows: bit i - 1 for row i, rows 1 to 64. Positions and columns of a grid count the same way.
 ghost use mathlib.Core.Path.{_≡_};
 ghost use mathlib.Core.Bool.{cond, not};
-ghost use Rattle.rows.specs.Upto.{every, some, count, lowest};
+ghost use Rattle.rows.specs.Upto.{every, some, count, lowest, most};
 ghost use Rattle.rows.specs.Sets.{has, firstRows, gaining, losing, cutTo, leftOf};
 
 pub struct RowSet {
@@ -91,6 +91,13 @@ impl RowSet {
             return 0;
         }
         u64::trailing_zeros(self.bits) as usize + 1
+    }
+
+    // Its highest member; 0 where it has none.
+    pub fn highest(self) -> usize
+        ensures { λ r. ⌜ r ≡ most 64 (has (self .bits)) (λ i. i) ⌝ }
+    {
+        64 - u64::leading_zeros(self.bits) as usize
     }
 
     // The set with row i where `wanted` says so: a loop that gathers a set needs no branch.

@@ -1,5 +1,5 @@
 use mathlib.Core.Bool.{Bool, _&&_, _||_}
-use mathlib.Core.Path.{_≡_, refl, sym, ap₂, _∙_}
+use mathlib.Core.Path.{_≡_, refl, sym, ap, ap₂, _∙_}
 use Prim.Native.Nat.{ℕ, _+_, _-_, _≤_}
 use native.Mathlib.Omega.{arith}
 use borrow.Author.Needs.{needs}
@@ -8,15 +8,24 @@ use lib.Dec.{ltb}
 use Rattle.polls.proofs.PlaceLaws.{placed-at, some-next}
 use Rattle.polls.specs.Shows.{placed}
 use Rattle.rows.specs.Sets.{has}
-use Rattle.rows.specs.Upto.{some}
+use Rattle.rows.proofs.SetLaws.{above-highest, highest-row}
+use Rattle.rows.proofs.UptoLaws.{some-to}
+use Rattle.rows.specs.Upto.{some, most}
 use Rattle.polls.proofs.above.Statement.{statement}
 use Rattle.polls.proofs.above.Tie as tie
 
 abbrev Inv-loop : tie.InvT-loop
-Inv-loop values s v found₀ k₀ found k = (k ≤ 64) × (found ≡ some k (λ i. has (s .bits) i && ltb v (placed values i)))
+Inv-loop values s v end found₀ k₀ found k = (k ≤ end) × (found ≡ some k (λ i. has (s .bits) i && ltb v (placed values i)))
 
 abbrev μ-loop : tie.MeasureT-loop
-μ-loop values s v found₀ k₀ found k = 64 - k
+μ-loop values s v end found₀ k₀ found k = end - k
+
+-- there is no row above 64
+end-row : (c : tie.After-highest Inv-loop μ-loop) → c .highest .result ≤ 64
+end-row c = omega (arith, c .highest .ensures, highest-row (c .before .args .s .bits))
+
+highest-requires : tie.Need-highest-requires Inv-loop μ-loop
+highest-requires c κs = search needs
 
 loop-holds : tie.Need-loop-holds Inv-loop μ-loop
 unfolding some
@@ -29,10 +38,10 @@ has-requires : tie.Need-has-requires Inv-loop μ-loop
 has-requires c κs = search needs
 
 mul-both : tie.Need-mul-both Inv-loop μ-loop
-mul-both c = search needs
+mul-both c = omega (arith, end-row (c .before .before .before))
 
 element-copy-out-both : tie.Need-element-copy-out-both Inv-loop μ-loop
-element-copy-out-both c = search needs
+element-copy-out-both c = omega (arith, end-row (c .before .before .before))
 
 both-requires : tie.Need-both-requires Inv-loop μ-loop
 both-requires c κs = search needs
@@ -49,15 +58,23 @@ loop-less c = search needs
 loop-again : tie.Need-loop-again Inv-loop μ-loop
 loop-again c =
     let l = c .before .before .before .before .before .loop in
-    let a = c .before .before .before .before .before .before .args in
-    let row : getD (a .values .now) (l .k) 0 ≡ placed (a .values .now) (l .k + 1) = sym (placed-at (a .values .now) (l .k) (omega arith)) in (
+    let s = c .before .before .before .before .before .before in
+    let a = s .before .args in
+    let row : getD (a .values .now) (l .k) 0 ≡ placed (a .values .now) (l .k + 1) = sym (placed-at (a .values .now) (l .k) (omega (arith, end-row s))) in (
       omega arith,
       c .any .ensures ∙ ap₂ _||_ (l .inv .1) (c .before .both .ensures ∙ ap₂ (λ (x : Bool) (y : ℕ). x && ltb (a .v) y) (c .before .before .before .has .ensures) row)
           ∙ sym (some-next (λ i. has (a .s .bits) i && ltb (a .v) (placed (a .values .now) i)) (l .k)),
     )
 
 returns : tie.Need-returns Inv-loop μ-loop
-returns c = let l = c .before .loop in let e : l .k ≡ 64 = omega arith in rw e at (l .inv .1)
+returns c =
+    let l = c .before .loop in
+    let s = c .before .before in
+    let a = s .before .args in
+    let e : l .k ≡ most 64 (has (a .s .bits)) (λ i. i) = omega (arith, s .highest .ensures) in
+    let q : ℕ → Bool = λ i. has (a .s .bits) i && ltb (a .v) (placed (a .values .now) i) in
+    l .inv .1 ∙ ap (λ (n : ℕ). some n q) e
+    ∙ sym (some-to (most 64 (has (a .s .bits)) (λ i. i)) q (λ i h. ap (λ (b : Bool). b && ltb (a .v) (placed (a .values .now) i)) (above-highest (a .s .bits) i (omega arith) h)) 64 (highest-row (a .s .bits)))
 
 pub above-spec : {M : Type 1} → statement M
 above-spec =
@@ -65,6 +82,7 @@ above-spec =
     (tie.spec
     Inv-loop
     μ-loop
+    highest-requires
     loop-holds
     add-has
     has-requires
