@@ -1,0 +1,57 @@
+//! The wrapper keeps its promises: nothing panics, refusals have the right number, tables keep their length.
+
+use dyngrid::{Refusal, Rows, Table};
+
+fn four() -> Table {
+    Table::found(4, 4, &[1, 2, 3, 4]).expect("a plain founding")
+}
+
+#[test]
+fn refusals_are_numbered_1_to_12() {
+    let numbers: Vec<u32> = Refusal::ALL.iter().map(|refusal| refusal.number()).collect();
+    assert_eq!(numbers, (1..=12).collect::<Vec<_>>());
+    assert!([0, 13, u32::MAX].into_iter().all(|number| Refusal::from_number(number).is_none()));
+}
+
+#[test]
+fn a_table_of_wrong_length_cannot_be_made() {
+    let bytes = four().into_bytes();
+    for length in [0, 1, 15, 16, 17, bytes.len() - 1] {
+        assert_eq!(Table::from_bytes(bytes[..length].to_vec()), Err(Refusal::Malformed));
+    }
+    let long = [bytes.clone(), vec![0]].concat();
+    assert_eq!(Table::from_bytes(long), Err(Refusal::Malformed));
+    assert_eq!(Table::from_bytes(bytes).map(Table::into_bytes), Ok(four().into_bytes()));
+}
+
+#[test]
+fn foundings_are_refused_by_number() {
+    assert_eq!(Table::found(4, 4, &[]), Err(Refusal::BadNames));
+    assert_eq!(Table::found(4, 4, &[2, 1]), Err(Refusal::BadNames));
+    assert_eq!(Table::found(1, 4, &[1, 2]), Err(Refusal::BadSize));
+    assert_eq!(Table::found(usize::MAX, usize::MAX, &[1]), Err(Refusal::BadSize));
+    assert_eq!(Table::found(4, 4097, &[1]), Err(Refusal::BadSize));
+}
+
+#[test]
+fn refused_calls_alter_nothing() {
+    let mut table = four();
+    let all = Rows::first(4);
+    let mut buffer = [7; 2];
+    assert_eq!(table.read(0, all, 0, &mut buffer), Err(Refusal::NoSuchRow));
+    assert_eq!(table.read(1, Rows::default(), 0, &mut buffer), Err(Refusal::NotAnswering));
+    assert_eq!(table.read(1, all, u64::MAX, &mut buffer), Err(Refusal::OutOfRange));
+    assert_eq!(table.read(1, Rows::first(1), 0, &mut buffer), Err(Refusal::NoQuorum));
+    assert_eq!(table.write(1, all, 0, &[]), Err(Refusal::OutOfRange));
+    assert_eq!(table.send(1, 2, all), Err(Refusal::ReceiverNotBehind));
+    assert_eq!(buffer, [7; 2]);
+    assert_eq!(table, four());
+}
+
+#[test]
+fn sets_of_rows() {
+    assert_eq!(Rows::of(&[1, 2, 4]).map(Rows::bits), Ok(0b1011));
+    assert_eq!(Rows::of(&[0]), Err(Refusal::NoSuchRow));
+    assert_eq!(Rows::of(&[65]), Err(Refusal::NoSuchRow));
+    assert_eq!([0, 1, 64, 99].map(|count| Rows::first(count).bits()), [0, 1, u64::MAX, u64::MAX]);
+}
