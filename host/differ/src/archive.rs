@@ -51,7 +51,8 @@ impl Archive {
     }
 
     fn enter(&mut self, table_len: usize, list_len: usize, call: &Call) -> u64 {
-        let (table, list) = (self.table.pointer(), self.list.pointer());
+        let table = lend(&mut self.table, table_len, self.edge);
+        let list = lend(&mut self.list, list_len, self.edge);
         // SAFETY: table and list are two slices of these lengths in two mappings.
         unsafe {
             match *call {
@@ -70,6 +71,15 @@ impl Archive {
                 }
             }
         }
+    }
+}
+
+/// Where a slice lies; an empty one in half of the cases nowhere.
+fn lend(guard: &mut Guard, length: usize, edge: Edge) -> *mut u8 {
+    if length == 0 && edge == Edge::Start {
+        std::ptr::null_mut()
+    } else {
+        guard.pointer()
     }
 }
 

@@ -217,7 +217,7 @@ impl Engine {
 }
 
 fn found(bytes: &mut [u8], capacity: u64, file_len: u64, names: &[u8]) -> Answer {
-    ask(11, names.len() % 2 == 0)?;
+    ask(11, names.len().is_multiple_of(2))?;
     let names: Vec<u16> = names.chunks(2).map(|name| u16::from_le_bytes([name[0], name[1]])).collect();
     let rising = names.windows(2).all(|pair| pair[0] < pair[1]);
     ask(11, (1..=MAX_ROWS).contains(&names.len()) && rising && names[0] > 0)?;
