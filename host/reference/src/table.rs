@@ -141,7 +141,7 @@ fn number(bytes: &[u8]) -> u32 {
 }
 
 fn all_zero(bytes: &[u8]) -> bool {
-    bytes.iter().all(|&byte| byte == 0)
+    bytes.iter().fold(0, |bits, byte| bits | byte) == 0
 }
 
 /// The rows in chain order, if the chain visits each used row once and its names rise strictly.
