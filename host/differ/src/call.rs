@@ -117,3 +117,10 @@ pub fn bytes_shown(bytes: &[u8]) -> String {
     }
     shown
 }
+
+pub fn result_shown(result: u64) -> String {
+    match result >> 32 {
+        0 => format!("done {}", result as u32),
+        refusal => format!("refused by {refusal}, value {}", result as u32),
+    }
+}

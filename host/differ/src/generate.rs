@@ -30,7 +30,7 @@ impl Plan {
     }
 
     /// A history after one founding on bytes that hold anything.
-    fn founded(random: &mut Random) -> Plan {
+    pub fn founded(random: &mut Random) -> Plan {
         let size = Size::pick(random);
         let length = Table::length(size.capacity, size.file_len);
         let start = if random.chance(1, 2) { vec![0; length] } else { random.bytes(length) };
@@ -308,8 +308,11 @@ fn bad_set(random: &mut Random, table: &Table) -> u64 {
     random.pick(&[0, 1, all, all | above, (1 << 32) + 1, 1 << 63, u64::MAX, any, all | 1 << 63])
 }
 
-/// Every wrong length of a list: none, one less, one more, the file's and beyond.
+/// Gives a list a length that does not fit: none, one less, one more, any, the file's and beyond.
 fn resize(random: &mut Random, list: &mut Vec<u8>, file_len: usize) {
-    let length = list.len();
-    list.resize(random.pick(&[0, length - 1, length + 1, file_len, file_len + 1, MAX_FILE, MAX_FILE + 1]), 0);
+    let (length, any) = (list.len(), random.between(0, file_len + 2));
+    list.resize(
+        random.pick(&[0, length - 1, length + 1, any, file_len, file_len + 1, MAX_FILE, MAX_FILE + 1]),
+        0,
+    );
 }

@@ -6,6 +6,7 @@ mod call;
 mod damage;
 mod generate;
 mod guard;
+mod ledger;
 mod random;
 mod report;
 mod shrink;

@@ -3,6 +3,7 @@
 
 use crate::{rows, Layout, Quorum};
 
+#[derive(Clone)]
 pub struct Book {
     names: Vec<u16>,
     file: Vec<u8>,
