@@ -6,6 +6,8 @@ mod call;
 mod damage;
 mod generate;
 mod guard;
+#[cfg(test)]
+mod histories;
 mod ledger;
 mod random;
 mod report;

@@ -42,11 +42,22 @@ pub fn replay(archive: &mut Archive, reference: Engine, case: &Case) -> Option<F
 impl<'a> Trial<'a> {
     pub fn new(archive: &'a mut Archive, reference: Engine, case: &Case) -> Trial<'a> {
         archive.edge = case.edge;
-        Trial { archive, reference, table: case.table.clone(), ledger: Ledger::default() }
+        Trial::resume(archive, reference, case.table.clone(), Ledger::default())
+    }
+
+    /// Goes on where a history stopped.
+    pub fn resume(archive: &'a mut Archive, reference: Engine, table: Vec<u8>, ledger: Ledger) -> Trial<'a> {
+        Trial { archive, reference, table, ledger }
     }
 
     pub fn table(&self) -> &[u8] {
         &self.table
+    }
+
+    /// What a history leaves behind.
+    #[cfg(test)]
+    pub fn into_state(self) -> (Vec<u8>, Ledger) {
+        (self.table, self.ledger)
     }
 
     /// Makes one call; gives its result, or what is wrong with it.

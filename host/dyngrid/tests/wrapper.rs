@@ -55,3 +55,27 @@ fn sets_of_rows() {
     assert_eq!(Rows::of(&[65]), Err(Refusal::NoSuchRow));
     assert_eq!([0, 1, 64, 99].map(|count| Rows::first(count).bits()), [0, 1, u64::MAX, u64::MAX]);
 }
+
+#[test]
+fn a_million_writes_and_no_more() {
+    let mut table = Table::found(1, 1, &[1]).expect("a plain founding");
+    let all = Rows::first(1);
+    for version in 1..=1_000_000 {
+        assert_eq!(table.write(1, all, 0, &[version as u8]), Ok(version));
+    }
+    assert_eq!(table.write(1, all, 0, &[0]), Err(Refusal::AtLimit));
+    let mut last = [0];
+    assert_eq!(table.read(1, all, 0, &mut last), Ok(1_000_000));
+    assert_eq!(last, [1_000_000_u32 as u8]);
+}
+
+#[test]
+fn a_million_epochs_and_no_more() {
+    let mut table = Table::found(3, 1, &[1, 2, 3]).expect("a plain founding");
+    let (two, three) = (Rows::first(2), Rows::first(3));
+    for epoch in 1..=1_000_000 {
+        assert_eq!(table.check(1, if epoch % 2 == 1 { two } else { three }), Ok(epoch));
+    }
+    assert_eq!(table.check(1, two), Err(Refusal::AtLimit));
+    assert_eq!(table.check(1, three), Ok(1_000_000));
+}
