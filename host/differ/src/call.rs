@@ -44,6 +44,17 @@ impl Call {
         }
     }
 
+    /// Lets only these rows answer.
+    pub fn cut_down(&mut self, rows: u64) {
+        match self {
+            Call::Found { .. } => {}
+            Call::Read { answering, .. }
+            | Call::Write { answering, .. }
+            | Call::Send { answering, .. }
+            | Call::Check { answering, .. } => *answering &= rows,
+        }
+    }
+
     /// Puts the call to the reference.
     pub fn refer(&self, engine: Engine, table: &mut [u8]) -> Answer {
         let mut lent = Vec::new();

@@ -2,7 +2,7 @@
 
 use crate::call::Call;
 use crate::trial::{Case, Failure};
-use reference::rows;
+use reference::{rows, Table, MAX_FILE};
 
 /// Tries shorter cases as long as `fails` finds one that still fails.
 pub fn shrink(
@@ -14,6 +14,7 @@ pub fn shrink(
     best.0.calls.truncate(failure.call + 1);
     loop {
         let calls_left = best.0.calls.len();
+        simplify_table(&mut best, fails);
         drop_calls(&mut best, fails);
         simplify_calls(&mut best, fails);
         if best.0.calls.len() == calls_left {
@@ -32,6 +33,32 @@ fn keep(
     shorter.calls.truncate(failure.call + 1);
     *best = (shorter, failure);
     true
+}
+
+/// Starts from zero bytes and founds few machines, if that fails too.
+fn simplify_table(best: &mut (Case, Failure), fails: &mut dyn FnMut(&Case) -> Option<Failure>) {
+    let mut zero = best.0.clone();
+    zero.table.fill(0);
+    keep(best, zero, fails);
+    let fewer =
+        (1..64).map_while(|count| on_fewer_machines(&best.0, count)).find(|case| fails(case).is_some());
+    if let Some(fewer) = fewer {
+        keep(best, fewer, fails);
+    }
+}
+
+/// The case with its founding cut down to the first names; none if it has no more of them.
+fn on_fewer_machines(case: &Case, count: usize) -> Option<Case> {
+    let mut fewer = case.clone();
+    let Some(Call::Found { capacity, file_len, names }) = fewer.calls.first_mut() else { return None };
+    if 2 * count >= names.len() || *file_len > MAX_FILE as u64 {
+        return None;
+    }
+    names.truncate(2 * count);
+    *capacity = count as u64;
+    fewer.table = vec![0; Table::length(count, *file_len as usize)];
+    fewer.calls.iter_mut().for_each(|call| call.cut_down(rows::first(count)));
+    Some(fewer)
 }
 
 /// Leaves out stretches of calls, long ones first.

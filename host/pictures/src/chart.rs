@@ -12,8 +12,7 @@ const BOTTOM: f64 = 60.0;
 const MOST_MACHINES: f64 = 64.0;
 const MOST_CALLED: f64 = 35.0;
 
-const STYLE: &str = "\
-  <style>
+const STYLE: &str = "  <style>
     text { font: 14px system-ui, sans-serif; fill: #1f2328 }
     .title { font-size: 17px; font-weight: 600 }
     .panel { fill: #ffffff }
@@ -89,6 +88,14 @@ fn series(svg: &mut String, class: &str, sizes: &[Sizes], called: fn(&Sizes) -> 
 
 fn legend(svg: &mut String) {
     let entries = [("majority", "majority, as a vote needs"), ("write", "write, at most"), ("read", "read")];
+    line(
+        svg,
+        &format!(
+            "<rect class=\"panel\" x=\"{:.1}\" y=\"{:.1}\" width=\"232\" height=\"76\"/>",
+            LEFT + 16.0,
+            TOP + 6.0
+        ),
+    );
     for (index, (class, words)) in entries.into_iter().enumerate() {
         let at = TOP + 20.0 + 24.0 * index as f64;
         line(svg, &format!("<path class=\"line {class}\" d=\"M{:.1} {at:.1}h36\"/>", LEFT + 24.0));
