@@ -12,8 +12,9 @@ pub struct Plan {
     calls: usize,
     /// Made first.
     opening: Option<Call>,
-    only_foundings: bool,
-    /// The table as last seen well formed: calls are fitted to it.
+    /// Every call is a founding of about this size.
+    foundings: Option<Size>,
+    /// The table as last seen well formed: other calls are fitted to it.
     known: Option<Table>,
     /// Rows whose machines are up.
     up: u64,
@@ -40,7 +41,7 @@ impl Plan {
             start,
             calls: random.between(10, 100),
             opening: Some(opening),
-            only_foundings: false,
+            foundings: None,
             known: None,
             up,
         }
@@ -52,21 +53,14 @@ impl Plan {
         let start = tables::well_formed(random, size);
         let known = Table::decode(&start);
         let up = random.subset(rows::first(size.used), 4, 5);
-        Plan { start, calls: random.between(1, 9), opening: None, only_foundings: false, known, up }
+        Plan { start, calls: random.between(1, 9), opening: None, foundings: None, known, up }
     }
 
     /// A few calls on a table with one rule broken.
     fn damaged(random: &mut Random) -> Plan {
         let (table, start) = damage::damaged(random);
         let up = table.all_used();
-        Plan {
-            start,
-            calls: random.between(2, 6),
-            opening: None,
-            only_foundings: false,
-            known: Some(table),
-            up,
-        }
+        Plan { start, calls: random.between(2, 6), opening: None, foundings: None, known: Some(table), up }
     }
 
     /// Foundings, most with something wrong.
@@ -94,7 +88,7 @@ impl Plan {
             start,
             calls: random.between(2, 6),
             opening: Some(opening),
-            only_foundings: true,
+            foundings: Some(size),
             known: None,
             up: 0,
         }
@@ -113,21 +107,21 @@ impl Plan {
         if let Some(opening) = self.opening.take() {
             return opening;
         }
-        if !self.only_foundings {
-            self.known = Table::decode(bytes).or(self.known.take());
+        if let Some(size) = self.foundings {
+            return bad_founding(random, size);
         }
-        let Some(table) = &self.known else { return bad_founding(random, bytes.len()) };
+        self.known = Table::decode(bytes).or(self.known.take());
+        let table = self.known.as_ref().expect("founded by now, or known from the start");
         if random.chance(1, 8) {
             self.up ^= rows::only(random.between(1, table.used.len()));
         }
         // A founding in mid-history may leave fewer rows; someone is always up.
         self.up = Some(self.up & table.all_used()).filter(|&up| up != 0).unwrap_or(1);
-        let call = fitting(random, table, self.up);
-        if random.chance(1, 7) {
-            spoil(random, call, table)
-        } else {
-            call
+        let mut call = fitting(random, table, self.up);
+        while random.chance(1, 5) {
+            spoil(random, &mut call, table);
         }
+        call
     }
 }
 
@@ -140,45 +134,45 @@ fn founding(random: &mut Random, size: Size) -> Call {
     }
 }
 
-/// A founding of a table of this length, with one argument at or beyond its limits.
-fn bad_founding(random: &mut Random, length: usize) -> Call {
-    let count = random.pick(&[1, 2, 3, 5, 63, 64]);
-    let mut names = tables::names(random, count);
-    let mut capacity = random.pick(&[count, MAX_ROWS]) as u64;
-    let stride = length.saturating_sub(16) / capacity as usize;
-    let mut file_len = stride.saturating_sub(32) as u64;
-    match random.between(0, 8) {
-        0 => names.clear(),
-        1 => names[0] = 0,
-        2 => names.push(names[count - 1]),
-        3 => names.reverse(),
-        4 => names = tables::names(random, MAX_ROWS + 1),
-        5 => capacity = count as u64 - 1,
-        6 => capacity = edge(random, MAX_ROWS as u64),
-        7 => file_len = edge(random, MAX_FILE as u64),
-        _ => {}
+/// A founding with arguments at or beyond their limits.
+fn bad_founding(random: &mut Random, size: Size) -> Call {
+    let mut names = tables::names(random, size.used);
+    let mut capacity = size.capacity as u64;
+    let mut file_len = size.file_len as u64;
+    let mut half_a_name = None;
+    for _ in 0..random.between(1, 2) {
+        match random.between(0, 9) {
+            0 => names.clear(),
+            1 => names.insert(0, 0),
+            2 => names.extend(names.last().copied()),
+            3 => names.reverse(),
+            4 => names = tables::names(random, MAX_ROWS + 1),
+            5 => names = tables::names(random, (size.capacity + 1).min(MAX_ROWS)),
+            6 => capacity = edge(random, MAX_ROWS as u64, capacity),
+            7 => file_len = edge(random, MAX_FILE as u64, file_len),
+            8 => half_a_name = Some(random.byte()),
+            _ => {}
+        }
     }
     let mut names = tables::names_in_bytes(&names);
-    if random.chance(1, 10) {
-        names.push(random.byte());
-    }
+    names.extend(half_a_name);
     Call::Found { capacity, file_len, names }
 }
 
-/// A value of an argument whose highest sensible value is `limit`.
-fn edge(random: &mut Random, limit: u64) -> u64 {
-    let inside = random.between(0, limit as usize) as u64;
+/// Another value for an argument whose highest sensible value is `limit`; some agree with `now` in their low bits.
+fn edge(random: &mut Random, limit: u64, now: u64) -> u64 {
     random.pick(&[
         0,
         1,
         limit.saturating_sub(1),
         limit,
         limit + 1,
-        256 + inside,
-        (1 << 32) + inside,
-        (1 << 63) + inside,
+        now.wrapping_add(1),
+        now.wrapping_add(256),
+        now.wrapping_add(1 << 32),
+        now.wrapping_add(1 << 63),
         1 << 63,
-        u64::MAX - inside,
+        now.wrapping_neg(),
         u64::MAX,
     ])
 }
@@ -261,45 +255,43 @@ fn send(random: &mut Random, table: &Table, up: u64) -> Call {
     Call::Send { from: from as u64, to: to as u64, answering }
 }
 
-/// The call with one argument at or beyond its limits.
-fn spoil(random: &mut Random, call: Call, table: &Table) -> Call {
-    let (used, file_len) = (table.used.len() as u64, table.file_len as u64);
-    let mut call = call;
-    match &mut call {
+/// Gives one argument of the call a value at or beyond its limits.
+fn spoil(random: &mut Random, call: &mut Call, table: &Table) {
+    let (used, longest) = (table.used.len() as u64, table.file_len as u64);
+    match call {
         Call::Found { capacity, file_len, names } => match random.between(0, 2) {
-            0 => *capacity = edge(random, MAX_ROWS as u64),
-            1 => *file_len = edge(random, MAX_FILE as u64),
+            0 => *capacity = edge(random, MAX_ROWS as u64, *capacity),
+            1 => *file_len = edge(random, MAX_FILE as u64, *file_len),
             _ => names.push(random.byte()),
         },
         Call::Read { coordinator, answering, offset, length, buffer } => match random.between(0, 5) {
-            0 => *coordinator = edge(random, used),
+            0 => *coordinator = edge(random, used, *coordinator),
             1 => *answering = bad_set(random, table),
-            2 => *offset = edge(random, file_len),
-            3 => *length = edge(random, file_len),
+            2 => *offset = edge(random, longest, *offset),
+            3 => *length = edge(random, longest, *length),
             4 => {
-                *length = edge(random, file_len);
+                *length = edge(random, longest, *length);
                 buffer.resize((*length).min(MAX_FILE as u64 + 2) as usize, 0);
             }
             _ => resize(random, buffer, table.file_len),
         },
         Call::Write { coordinator, answering, offset, patch } => match random.between(0, 3) {
-            0 => *coordinator = edge(random, used),
+            0 => *coordinator = edge(random, used, *coordinator),
             1 => *answering = bad_set(random, table),
-            2 => *offset = edge(random, file_len),
+            2 => *offset = edge(random, longest, *offset),
             _ => resize(random, patch, table.file_len),
         },
         Call::Send { from, to, answering } => match random.between(0, 3) {
-            0 => *from = edge(random, used),
-            1 => *to = edge(random, used),
+            0 => *from = edge(random, used, *from),
+            1 => *to = edge(random, used, *to),
             2 => *answering = bad_set(random, table),
             _ => *to = *from,
         },
         Call::Check { coordinator, answering } => match random.between(0, 1) {
-            0 => *coordinator = edge(random, used),
+            0 => *coordinator = edge(random, used, *coordinator),
             _ => *answering = bad_set(random, table),
         },
     }
-    call
 }
 
 fn bad_set(random: &mut Random, table: &Table) -> u64 {
@@ -312,7 +304,16 @@ fn bad_set(random: &mut Random, table: &Table) -> u64 {
 fn resize(random: &mut Random, list: &mut Vec<u8>, file_len: usize) {
     let (length, any) = (list.len(), random.between(0, file_len + 2));
     list.resize(
-        random.pick(&[0, length - 1, length + 1, any, file_len, file_len + 1, MAX_FILE, MAX_FILE + 1]),
+        random.pick(&[
+            0,
+            length.saturating_sub(1),
+            length + 1,
+            any,
+            file_len,
+            file_len + 1,
+            MAX_FILE,
+            MAX_FILE + 1,
+        ]),
         0,
     );
 }

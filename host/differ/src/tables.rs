@@ -76,15 +76,14 @@ fn used_rows(random: &mut Random, chain: &[usize]) -> Vec<Row> {
     let count = chain.len();
     let names = names(random, count);
     let epochs = epochs(random, count);
-    // Versions at the limit are as likely as small ones are rare in practice: both ends matter.
-    let lowest_version = random.pick(&[0, 0, 0, 0, LIMIT - 3]);
+    let lowest_version = random.pick(&[0, 0, 0, 0, LIMIT - 3, LIMIT - 1]);
     let stale_chance = random.pick(&[0, 0, 1, 5]);
     let spread = random.pick(&[1, 2, 4]);
     let mut rows = Vec::new();
     for row in 1..=count {
         let place = chain.iter().position(|&member| member == row).expect("every row is in the chain");
         let (epoch, list) = epochs[row - 1];
-        let version = lowest_version + random.between(0, spread - 1) as u32;
+        let version = (lowest_version + random.between(0, spread - 1) as u32).min(LIMIT);
         let stale = version < LIMIT && random.chance(stale_chance, 10);
         let desired = if stale { (version + random.between(1, 3) as u32).min(LIMIT) } else { 0 };
         let next = chain.get(place + 1).copied().unwrap_or(0);
@@ -95,8 +94,8 @@ fn used_rows(random: &mut Random, chain: &[usize]) -> Vec<Row> {
 
 /// For each row its epoch number and the list of that epoch.
 fn epochs(random: &mut Random, count: usize) -> Vec<(u32, u64)> {
-    let lowest = random.pick(&[0, 0, 0, LIMIT - 3]);
     let kinds = random.pick(&[1, 1, 2, 4]);
+    let lowest = random.pick(&[0, 0, 0, LIMIT - kinds as u32, LIMIT + 1 - kinds as u32]);
     let outside = random.pick(&[0, 5, 9, 10]);
     let epoch_of: Vec<u32> = (0..count).map(|_| lowest + random.between(0, kinds - 1) as u32).collect();
     let list_of: Vec<u64> = (0..kinds as u32)

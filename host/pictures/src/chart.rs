@@ -91,7 +91,7 @@ fn legend(svg: &mut String) {
     line(
         svg,
         &format!(
-            "<rect class=\"panel\" x=\"{:.1}\" y=\"{:.1}\" width=\"232\" height=\"76\"/>",
+            "<rect class=\"panel\" x=\"{:.1}\" y=\"{:.1}\" width=\"244\" height=\"76\"/>",
             LEFT + 16.0,
             TOP + 6.0
         ),
