@@ -67,21 +67,8 @@ impl Plan {
     fn foundings(random: &mut Random) -> Plan {
         let size = Size::pick(random);
         let length = Table::length(size.capacity, size.file_len);
-        let stride = length / size.capacity;
-        let length = random.pick(&[
-            length,
-            length,
-            length,
-            length,
-            length - 1,
-            length + 1,
-            length + stride,
-            0,
-            1,
-            15,
-            16,
-            17,
-        ]);
+        let wrong = random.pick(&[0, 1, 15, 16, 17, length - 1, length + 1, length + 32 + size.file_len]);
+        let length = if random.chance(1, 3) { wrong } else { length };
         let opening = founding(random, size);
         let start = random.bytes(length);
         Plan {

@@ -34,6 +34,21 @@ impl Table {
         }
     }
 
+    /// The rows there are.
+    pub fn capacity(&self) -> usize {
+        usize::from(self.bytes[1])
+    }
+
+    /// The rows in use, one for each machine.
+    pub fn used(&self) -> usize {
+        usize::from(self.bytes[2])
+    }
+
+    /// The length of the file.
+    pub fn file_len(&self) -> usize {
+        usize::from(u16::from_le_bytes([self.bytes[4], self.bytes[5]]))
+    }
+
     pub fn as_bytes(&self) -> &[u8] {
         &self.bytes
     }

@@ -25,6 +25,12 @@ fn a_table_of_wrong_length_cannot_be_made() {
 }
 
 #[test]
+fn a_table_knows_its_size() {
+    let table = Table::found(9, 300, &[5, 6]).expect("a plain founding");
+    assert_eq!((table.capacity(), table.used(), table.file_len()), (9, 2, 300));
+}
+
+#[test]
 fn foundings_are_refused_by_number() {
     assert_eq!(Table::found(4, 4, &[]), Err(Refusal::BadNames));
     assert_eq!(Table::found(4, 4, &[2, 1]), Err(Refusal::BadNames));

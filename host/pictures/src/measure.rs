@@ -57,7 +57,7 @@ fn write(table: &mut Table, coordinator: u64, answering: Rows) -> Result<u32, Re
 
 /// In how many rows a stale mark makes the attempt fail: those that it calls.
 fn called(founded: &Table, coordinator: usize, attempt: Attempt) -> Result<usize, Refusal> {
-    let machines = machines(founded);
+    let machines = founded.used();
     let mut called = 0;
     for row in 1..=machines {
         let mut table = with_stale_row(founded, row)?;
@@ -72,7 +72,7 @@ fn called(founded: &Table, coordinator: usize, attempt: Attempt) -> Result<usize
 
 /// How many rows have a new version after a write that all answer.
 fn rows_written(founded: &Table, coordinator: usize) -> Result<usize, Refusal> {
-    let machines = machines(founded);
+    let machines = founded.used();
     let mut table = founded.clone();
     write(&mut table, coordinator as u64, Rows::first(machines as u32))?;
     Ok((1..=machines).filter(|&row| table.as_bytes()[row_at(row) + 4] == 1).count())
@@ -84,10 +84,6 @@ fn with_stale_row(founded: &Table, row: usize) -> Result<Table, Refusal> {
     bytes[row_at(row) + 3] = 1;
     bytes[row_at(row) + 8] = 1;
     Table::from_bytes(bytes)
-}
-
-fn machines(table: &Table) -> usize {
-    usize::from(table.as_bytes()[2])
 }
 
 fn row_at(row: usize) -> usize {
