@@ -153,7 +153,7 @@ fn shown(timings: &[Timing]) -> String {
     text
 }
 
-fn document(timings: &[Timing]) -> String {
+fn document(timings: &[Timing], load: &str) -> String {
     let slower: Vec<&Timing> = timings.iter().filter(|timing| timing.library > timing.reference).collect();
     let verdict = match slower.len() {
         0 => "No call of the library is slower than the reference.".to_string(),
@@ -166,7 +166,7 @@ fn document(timings: &[Timing]) -> String {
          machines answer. Before each send the receiver is made stale again, which is in the times of both.\n\n\
          {}\n\
          {verdict} Ratios below 1 mean that the library is faster.\n\n\
-         - machine: {}\n- compiler of the reference: {}\n- to measure again: `make bench`\n",
+         - machine: {}, load {load} when the run began\n- compiler of the reference: {}\n- to measure again: `make bench`\n",
         shown(timings),
         processor(),
         compiler(),
@@ -180,12 +180,19 @@ fn processor() -> String {
     model.unwrap_or("unknown").to_string()
 }
 
+/// Processes that want to run, over the last minute.
+fn load() -> String {
+    let average = std::fs::read_to_string("/proc/loadavg").unwrap_or_default();
+    average.split(' ').next().filter(|load| !load.is_empty()).unwrap_or("unknown").to_string()
+}
+
 fn compiler() -> String {
     let output = Command::new("rustc").arg("--version").output();
     output.map_or("unknown".into(), |output| String::from_utf8_lossy(&output.stdout).trim().to_string())
 }
 
 fn main() -> ExitCode {
+    let load = load();
     let mut timings = Vec::new();
     for setup in &SETUPS {
         eprintln!("bench: {}", setup.title);
@@ -193,7 +200,7 @@ fn main() -> ExitCode {
     }
     println!("{}", shown(&timings));
     if let Some(file) = std::env::args().nth(1) {
-        if let Err(problem) = std::fs::write(&file, document(&timings)) {
+        if let Err(problem) = std::fs::write(&file, document(&timings, &load)) {
             eprintln!("bench: cannot write {file}: {problem}");
             return ExitCode::FAILURE;
         }

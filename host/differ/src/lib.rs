@@ -18,7 +18,6 @@ mod trial;
 pub use archive::report_faults;
 pub use call::{bytes_shown, Call};
 pub use report::Counts;
-pub use shrink::shrink;
 pub use trial::{Case, Failure};
 
 use archive::Archive;
@@ -26,6 +25,7 @@ use generate::Plan;
 use guard::Edge;
 use random::Random;
 use reference::{Blunder, Engine};
+use shrink::Shrinker;
 use trial::Trial;
 
 /// A run of cases; each has its own random numbers, so that one can be repeated alone.
@@ -37,7 +37,7 @@ pub struct Run {
 }
 
 /// A case that failed, and its number.
-pub struct Found {
+pub struct Failed {
     pub number: u64,
     pub case: Case,
     pub failure: Failure,
@@ -49,7 +49,7 @@ impl Run {
     }
 
     /// Makes the calls of one case; stops at the first difference.
-    pub fn case(&mut self, number: u64) -> Option<Found> {
+    pub fn case(&mut self, number: u64) -> Option<Failed> {
         archive::now_in(self.seed, number);
         let mut random = Random::new(self.seed, number);
         let edge = if random.chance(1, 2) { Edge::Start } else { Edge::End };
@@ -63,7 +63,7 @@ impl Run {
                 Ok(result) => self.counts.add(&call, result),
                 Err(what) => {
                     let failure = Failure { call: case.calls.len() - 1, what };
-                    return Some(Found { number, case, failure });
+                    return Some(Failed { number, case, failure });
                 }
             }
         }
@@ -71,11 +71,11 @@ impl Run {
     }
 
     /// Runs cases until `calls` calls were made or one fails; `tell` hears of each case.
-    pub fn cases(&mut self, calls: u64, mut tell: impl FnMut(&Counts)) -> Option<Found> {
+    pub fn cases(&mut self, calls: u64, mut tell: impl FnMut(&Counts)) -> Option<Failed> {
         let mut number = 0;
         while self.counts.total() < calls {
-            if let Some(found) = self.case(number) {
-                return Some(found);
+            if let Some(failed) = self.case(number) {
+                return Some(failed);
             }
             tell(&self.counts);
             number += 1;
@@ -84,8 +84,8 @@ impl Run {
     }
 
     /// The case cut down to few and short calls that still fail.
-    pub fn shrink(&mut self, found: &Found) -> (Case, Failure) {
+    pub fn shrink(&mut self, failed: &Failed) -> (Case, Failure) {
         let mut fails = |case: &Case| trial::replay(&mut self.archive, self.reference, case);
-        shrink(&found.case, &found.failure, &mut fails)
+        Shrinker::shrink(&failed.case, &failed.failure, &mut fails)
     }
 }

@@ -1,6 +1,6 @@
 //! Compares the archive with the reference and with the plain book.
 
-use differ::{report_faults, Found, Run};
+use differ::{report_faults, Failed, Run};
 use reference::Blunder;
 use std::process::ExitCode;
 use std::time::{Instant, SystemTime, UNIX_EPOCH};
@@ -85,14 +85,14 @@ fn compare(seed: u64, options: &Options) -> bool {
     println!("differ: seed {seed}");
     let started = Instant::now();
     let mut run = Run::new(seed, options.blunder);
-    let found = match options.case {
+    let failed = match options.case {
         Some(case) => run.case(case),
         None => run.cases(options.calls.unwrap_or(DEFAULT_CALLS), progress(started)),
     };
     let calls = run.counts.total();
     println!("{}", run.counts);
-    if let Some(found) = found {
-        show(&mut run, &found, options.blunder);
+    if let Some(failed) = failed {
+        show(&mut run, &failed, options.blunder);
         return false;
     }
     let missing = run.counts.missing();
@@ -120,16 +120,16 @@ fn progress(started: Instant) -> impl FnMut(&differ::Counts) {
 }
 
 /// Prints a failing case, cut down, and how to repeat it.
-fn show(run: &mut Run, found: &Found, blunder: Option<Blunder>) {
-    let (case, failure) = run.shrink(found);
-    println!("differ: {}", found.failure.what);
+fn show(run: &mut Run, failed: &Failed, blunder: Option<Blunder>) {
+    let (case, failure) = run.shrink(failed);
+    println!("differ: {}", failed.failure.what);
     println!("cut down to {} calls: {}", case.calls.len(), failure.what);
     println!("  table: {}", differ::bytes_shown(&case.table));
     for call in &case.calls {
         println!("  {call}");
     }
     let with_blunder = blunder.map_or(String::new(), |blunder| format!(" --blunder {}", blunder.name()));
-    println!("repeat: differ --seed {} --case {}{with_blunder}", run.seed, found.number);
+    println!("repeat: differ --seed {} --case {}{with_blunder}", run.seed, failed.number);
 }
 
 /// Each blunder must be found; true if all are.
@@ -139,9 +139,9 @@ fn self_test(seed: u64) -> bool {
     for blunder in Blunder::ALL {
         let mut run = Run::new(seed, Some(blunder));
         match run.cases(SELF_TEST_CALLS, |_| {}) {
-            Some(found) => {
+            Some(failed) => {
                 let calls = run.counts.total() + 1;
-                let (case, failure) = run.shrink(&found);
+                let (case, failure) = run.shrink(&failed);
                 let cut = case.calls.len();
                 println!(
                     "{:20} found after {calls:>5} calls, cut down to {cut}: {}",

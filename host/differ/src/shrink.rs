@@ -4,46 +4,85 @@ use crate::call::Call;
 use crate::trial::{Case, Failure};
 use reference::{rows, Table, MAX_FILE};
 
-/// Tries shorter cases as long as `fails` finds one that still fails.
-pub fn shrink(
-    case: &Case,
-    failure: &Failure,
-    fails: &mut dyn FnMut(&Case) -> Option<Failure>,
-) -> (Case, Failure) {
-    let mut best = (case.clone(), failure.clone());
-    best.0.calls.truncate(failure.call + 1);
-    loop {
-        let calls_left = best.0.calls.len();
-        simplify_table(&mut best, fails);
-        drop_calls(&mut best, fails);
-        simplify_calls(&mut best, fails);
-        if best.0.calls.len() == calls_left {
-            return best;
+/// Tries shorter cases as long as one of them fails.
+pub struct Shrinker<'a> {
+    best: Case,
+    failure: Failure,
+    fails: &'a mut dyn FnMut(&Case) -> Option<Failure>,
+}
+
+impl<'a> Shrinker<'a> {
+    /// Cuts the case down; `fails` runs a case and says how it fails, if it does.
+    pub fn shrink(
+        case: &Case,
+        failure: &Failure,
+        fails: &'a mut dyn FnMut(&Case) -> Option<Failure>,
+    ) -> (Case, Failure) {
+        let mut shrinker = Shrinker { best: case.clone(), failure: failure.clone(), fails };
+        shrinker.best.calls.truncate(failure.call + 1);
+        loop {
+            let calls = shrinker.best.calls.len();
+            shrinker.simplify_table();
+            shrinker.drop_calls();
+            shrinker.simplify_calls();
+            if shrinker.best.calls.len() == calls {
+                return (shrinker.best, shrinker.failure);
+            }
         }
     }
-}
 
-/// Takes `shorter` over if it still fails.
-fn keep(
-    best: &mut (Case, Failure),
-    mut shorter: Case,
-    fails: &mut dyn FnMut(&Case) -> Option<Failure>,
-) -> bool {
-    let Some(failure) = fails(&shorter) else { return false };
-    shorter.calls.truncate(failure.call + 1);
-    *best = (shorter, failure);
-    true
-}
+    /// Takes the case over if it fails.
+    fn keep(&mut self, case: Case) -> bool {
+        let Some(failure) = (self.fails)(&case) else { return false };
+        self.best = case;
+        self.best.calls.truncate(failure.call + 1);
+        self.failure = failure;
+        true
+    }
 
-/// Starts from zero bytes and founds few machines, if that fails too.
-fn simplify_table(best: &mut (Case, Failure), fails: &mut dyn FnMut(&Case) -> Option<Failure>) {
-    let mut zero = best.0.clone();
-    zero.table.fill(0);
-    keep(best, zero, fails);
-    let fewer =
-        (1..64).map_while(|count| on_fewer_machines(&best.0, count)).find(|case| fails(case).is_some());
-    if let Some(fewer) = fewer {
-        keep(best, fewer, fails);
+    /// Starts from zero bytes, and founds few machines.
+    fn simplify_table(&mut self) {
+        let zero = vec![0; self.best.table.len()];
+        self.keep(Case { table: zero, ..self.best.clone() });
+        let mut count = 1;
+        while let Some(fewer) = on_fewer_machines(&self.best, count) {
+            if self.keep(fewer) {
+                return;
+            }
+            count += 1;
+        }
+    }
+
+    /// Leaves out stretches of calls, long ones first.
+    fn drop_calls(&mut self) {
+        let mut stretch = self.best.calls.len() / 2;
+        while stretch > 0 {
+            let mut start = 0;
+            while start + stretch <= self.best.calls.len() {
+                let mut shorter = self.best.clone();
+                shorter.calls.drain(start..start + stretch);
+                if !self.keep(shorter) {
+                    start += stretch;
+                }
+            }
+            stretch /= 2;
+        }
+    }
+
+    /// Gives each call plainer arguments.
+    fn simplify_calls(&mut self) {
+        for index in 0..self.best.calls.len() {
+            let mut tried = 0;
+            while let Some(call) =
+                self.best.calls.get(index).and_then(|call| plainer(call).into_iter().nth(tried))
+            {
+                let mut simpler = self.best.clone();
+                simpler.calls[index] = call;
+                if !self.keep(simpler) {
+                    tried += 1;
+                }
+            }
+        }
     }
 }
 
@@ -59,38 +98,6 @@ fn on_fewer_machines(case: &Case, count: usize) -> Option<Case> {
     fewer.table = vec![0; Table::length(count, *file_len as usize)];
     fewer.calls.iter_mut().for_each(|call| call.cut_down(rows::first(count)));
     Some(fewer)
-}
-
-/// Leaves out stretches of calls, long ones first.
-fn drop_calls(best: &mut (Case, Failure), fails: &mut dyn FnMut(&Case) -> Option<Failure>) {
-    let mut stretch = best.0.calls.len() / 2;
-    while stretch > 0 {
-        let mut start = 0;
-        while start + stretch <= best.0.calls.len() {
-            let mut shorter = best.0.clone();
-            shorter.calls.drain(start..start + stretch);
-            if !keep(best, shorter, fails) {
-                start += stretch;
-            }
-        }
-        stretch /= 2;
-    }
-}
-
-/// Gives each call plainer arguments.
-fn simplify_calls(best: &mut (Case, Failure), fails: &mut dyn FnMut(&Case) -> Option<Failure>) {
-    for index in 0..best.0.calls.len() {
-        let mut tried = 0;
-        while let Some(plainer) =
-            best.0.calls.get(index).and_then(|call| plainer(call).into_iter().nth(tried))
-        {
-            let mut shorter = best.0.clone();
-            shorter.calls[index] = plainer;
-            if !keep(best, shorter, fails) {
-                tried += 1;
-            }
-        }
-    }
 }
 
 /// Plainer calls, each one step away.

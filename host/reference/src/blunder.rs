@@ -1,4 +1,7 @@
-/// One mistake to make on purpose: each turns the engine into a wrong one.
+//! Mistakes to make on purpose: each turns the engine into a wrong one that the tests must find.
+
+use crate::{rows, Layout, Quorum};
+
 #[derive(Clone, Copy, Debug, PartialEq, Eq)]
 pub enum Blunder {
     /// Rows outside the list count towards a quorum.
@@ -56,4 +59,36 @@ impl Blunder {
     pub fn from_name(name: &str) -> Option<Blunder> {
         Blunder::ALL.into_iter().find(|blunder| blunder.name() == name)
     }
+}
+
+/// Counts each row outside the list in the place of the next member.
+pub fn holds_with_outsiders(layout: &Layout, chain: &[usize], quorum: Quorum, set: u64) -> bool {
+    let grid = layout.grid;
+    let mut answers = vec![0; grid.columns];
+    let mut position = 0;
+    for row in chain {
+        if rows::has(set, *row) {
+            answers[position % grid.columns] += 1;
+        }
+        position += usize::from(layout.members.contains(row));
+    }
+    let whole_column = || (1..).zip(&answers).any(|(column, &count)| count >= grid.height(column));
+    answers.iter().all(|&count| count > 0) && (quorum == Quorum::Read || whole_column())
+}
+
+/// Wants as many rows of a short column as of a long one, so that only a long one can be whole.
+pub fn holds_long_column(layout: &Layout, quorum: Quorum, set: u64) -> bool {
+    let grid = layout.grid;
+    let answers_in = |column| {
+        let places = (1..).zip(&layout.members).filter(|&(position, _)| grid.column_of(position) == column);
+        places.filter(|&(_, &row)| rows::has(set, row)).count()
+    };
+    let long_column = || (1..=grid.columns).any(|column| answers_in(column) == grid.rows);
+    layout.holds(quorum, set) && (quorum == Quorum::Read || long_column())
+}
+
+/// Wants all three of three for a write.
+pub fn holds_all_of_three(layout: &Layout, quorum: Quorum, set: u64) -> bool {
+    let all = || layout.members.iter().all(|&row| rows::has(set, row));
+    layout.holds(quorum, set) && (quorum == Quorum::Read || layout.members.len() != 3 || all())
 }

@@ -1,6 +1,7 @@
 //! The calls. Each puts its questions in order and is refused by the first no.
 
-use crate::{rows, Blunder, Layout, Quorum, Row, Table, LIMIT, MAX_FILE, MAX_ROWS};
+use crate::blunder::{self, Blunder};
+use crate::{rows, Layout, Quorum, Row, Table, LIMIT, MAX_FILE, MAX_ROWS, ROW_HEADER};
 
 /// Answers the calls on a table's bytes; with a blunder, wrongly.
 #[derive(Clone, Copy, Debug, Default)]
@@ -84,7 +85,7 @@ impl Engine {
         buffer: &mut [u8],
     ) -> Answer {
         let table = Table::decode(bytes).ok_or(1u32)?;
-        ask(2, is_used(&table, coordinator) && all_used(&table, answering))?;
+        ask(2, is_used(&table, coordinator) && only_used(&table, answering))?;
         ask(3, answers(answering, coordinator))?;
         ask(4, range_fits(&table, offset, length))?;
         ask(5, buffer.len() as u64 == length)?;
@@ -108,7 +109,7 @@ impl Engine {
         patch: &[u8],
     ) -> Answer {
         let mut table = Table::decode(bytes).ok_or(1u32)?;
-        ask(2, is_used(&table, coordinator) && all_used(&table, answering))?;
+        ask(2, is_used(&table, coordinator) && only_used(&table, answering))?;
         ask(3, answers(answering, coordinator))?;
         ask(4, range_fits(&table, offset, patch.len() as u64))?;
         let poll = self.settle(&table, coordinator as usize, answering, Quorum::Write)?;
@@ -135,7 +136,7 @@ impl Engine {
 
     fn try_check(&self, bytes: &mut [u8], coordinator: u64, answering: u64) -> Answer {
         let mut table = Table::decode(bytes).ok_or(1u32)?;
-        ask(2, is_used(&table, coordinator) && all_used(&table, answering))?;
+        ask(2, is_used(&table, coordinator) && only_used(&table, answering))?;
         ask(3, answers(answering, coordinator))?;
         let poll = self.poll(&table, answering);
         ask(6, self.holds(&table, &poll, Quorum::Write))?;
@@ -200,13 +201,11 @@ impl Engine {
     fn holds(&self, table: &Table, poll: &Poll, quorum: Quorum) -> bool {
         let layout = Layout::of(poll.list, &table.chain);
         match self.blunder {
-            Some(Blunder::OutsidersCount) => holds_with_outsiders(&layout, table, poll.set, quorum),
-            Some(Blunder::ShortColumnWhole) => {
-                layout.holds(quorum, poll.set) && holds_long_column(&layout, poll.set, quorum)
+            Some(Blunder::OutsidersCount) => {
+                blunder::holds_with_outsiders(&layout, &table.chain, quorum, poll.set)
             }
-            Some(Blunder::AllOfThree) if layout.members.len() == 3 && quorum == Quorum::Write => {
-                poll.list & !poll.set == 0
-            }
+            Some(Blunder::ShortColumnWhole) => blunder::holds_long_column(&layout, quorum, poll.set),
+            Some(Blunder::AllOfThree) => blunder::holds_all_of_three(&layout, quorum, poll.set),
             _ => layout.holds(quorum, poll.set),
         }
     }
@@ -253,7 +252,7 @@ fn found(bytes: &mut [u8], capacity: u64, file_len: u64, names: &[u8]) -> Answer
 
 fn send(bytes: &mut [u8], from: u64, to: u64, answering: u64) -> Answer {
     let mut table = Table::decode(bytes).ok_or(1u32)?;
-    ask(2, is_used(&table, from) && is_used(&table, to) && all_used(&table, answering) && from != to)?;
+    ask(2, is_used(&table, from) && is_used(&table, to) && only_used(&table, answering) && from != to)?;
     ask(3, answers(answering, from) && answers(answering, to))?;
     let (from, to) = (from as usize, to as usize);
     let (sender, receiver) = (*table.row(from), *table.row(to));
@@ -261,8 +260,8 @@ fn send(bytes: &mut [u8], from: u64, to: u64, answering: u64) -> Answer {
     ask(10, receiver.stale && receiver.desired <= sender.version)?;
     table.used[to - 1] = Row { version: sender.version, stale: false, desired: 0, ..receiver };
     table.encode_row(bytes, to);
-    let source = table.row_at(from) + crate::ROW_HEADER..table.row_at(from + 1);
-    bytes.copy_within(source, table.row_at(to) + crate::ROW_HEADER);
+    let source = table.row_at(from) + ROW_HEADER..table.row_at(from + 1);
+    bytes.copy_within(source, table.row_at(to) + ROW_HEADER);
     Ok(sender.version)
 }
 
@@ -275,7 +274,7 @@ fn is_used(table: &Table, row: u64) -> bool {
     (1..=table.used.len() as u64).contains(&row)
 }
 
-fn all_used(table: &Table, set: u64) -> bool {
+fn only_used(table: &Table, set: u64) -> bool {
     set & !table.all_used() == 0
 }
 
@@ -286,31 +285,4 @@ fn answers(answering: u64, row: u64) -> bool {
 
 fn range_fits(table: &Table, offset: u64, length: u64) -> bool {
     length >= 1 && u128::from(offset) + u128::from(length) <= table.file_len as u128
-}
-
-/// The blunder of counting rows outside the list: each stands in the place of the next member.
-fn holds_with_outsiders(layout: &Layout, table: &Table, set: u64, quorum: Quorum) -> bool {
-    let grid = layout.grid;
-    let mut answers = vec![0; grid.columns];
-    let mut position = 0;
-    for &row in &table.chain {
-        if rows::has(set, row) {
-            answers[position % grid.columns] += 1;
-        }
-        position += usize::from(layout.members.contains(&row));
-    }
-    let whole_column = || (1..).zip(&answers).any(|(column, &count)| count >= grid.height(column));
-    answers.iter().all(|&count| count > 0) && (quorum == Quorum::Read || whole_column())
-}
-
-/// The blunder of wanting all m rows of a column: only a long column can be whole.
-fn holds_long_column(layout: &Layout, set: u64, quorum: Quorum) -> bool {
-    let grid = layout.grid;
-    let answers = |column| {
-        (1..)
-            .zip(&layout.members)
-            .filter(|&(position, &row)| grid.column_of(position) == column && rows::has(set, row))
-            .count()
-    };
-    quorum == Quorum::Read || (1..=grid.columns).any(|column| answers(column) == grid.rows)
 }
