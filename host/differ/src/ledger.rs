@@ -10,6 +10,11 @@ pub struct Ledger {
 }
 
 impl Ledger {
+    /// Was a founding done?
+    pub fn is_open(&self) -> bool {
+        self.book.is_some()
+    }
+
     /// Takes in a call and its answer; an error says how the book differs.
     pub fn hear(&mut self, call: &Call, answer: &Answer) -> Result<(), String> {
         let done = answer.result >> 32 == 0;

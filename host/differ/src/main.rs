@@ -135,26 +135,25 @@ fn show(run: &mut Run, failed: &Failed, blunder: Option<Blunder>) {
 /// Each blunder must be found; true if all are.
 fn self_test(seed: u64) -> bool {
     println!("differ: seed {seed}");
-    let mut missed = 0;
-    for blunder in Blunder::ALL {
-        let mut run = Run::new(seed, Some(blunder));
-        match run.cases(SELF_TEST_CALLS, |_| {}) {
-            Some(failed) => {
-                let calls = run.counts.total() + 1;
-                let (case, failure) = run.shrink(&failed);
-                let cut = case.calls.len();
-                println!(
-                    "{:20} found after {calls:>5} calls, cut down to {cut}: {}",
-                    blunder.name(),
-                    failure.what
-                );
-            }
-            None => {
-                println!("{:20} NOT found in {SELF_TEST_CALLS} calls", blunder.name());
-                missed += 1;
-            }
-        }
+    let found = Blunder::ALL.into_iter().filter(|&blunder| finds(seed, blunder)).count();
+    println!("differ: {found} of {} blunders found", Blunder::ALL.len());
+    found == Blunder::ALL.len()
+}
+
+/// Does a case fail with the blunder, and not without it?
+fn finds(seed: u64, blunder: Blunder) -> bool {
+    let name = blunder.name();
+    let mut run = Run::new(seed, Some(blunder));
+    let Some(failed) = run.cases(SELF_TEST_CALLS, |_| {}) else {
+        println!("{name:20} NOT found in {SELF_TEST_CALLS} calls");
+        return false;
+    };
+    if Run::new(seed, None).case(failed.number).is_some() {
+        println!("{name:20} NOT found: the archive differs without it");
+        return false;
     }
-    println!("differ: {} of {} blunders found", Blunder::ALL.len() - missed, Blunder::ALL.len());
-    missed == 0
+    let calls = run.counts.total() + 1;
+    let (case, failure) = run.shrink(&failed);
+    println!("{name:20} found after {calls:>5} calls, cut down to {}: {}", case.calls.len(), failure.what);
+    true
 }

@@ -70,6 +70,9 @@ impl<'a> Trial<'a> {
         frame(call, &answer, &before, &self.table)?;
         self.ask_twin(call, &answer, &before)?;
         self.ledger.hear(call, &answer)?;
+        if self.ledger.is_open() && Table::decode(&self.table).is_none() {
+            return Err("a founded history leaves a malformed table".into());
+        }
         Ok(answer.result)
     }
 
