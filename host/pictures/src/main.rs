@@ -39,8 +39,8 @@ fn document(sizes: &[Sizes]) -> String {
          How many machines one coordinator calls when all of them answer, against the majority that a vote needs. Where the number depends\n\
          on the coordinator, the range over all coordinators is given.\n\n\
          The figures come from the library, from the outside: in a founded table one row after the other is marked as stale, and a read\n\
-         (write) that is then refused by 7 had called that row. For writes the rows with a new version give the same number. `make\n\
-         pictures` makes this page anew.\n\n\
+         (write) that is then refused by 7 had called that row. For writes the rows with a new version give the same number.\n\
+         `make pictures` makes this page anew.\n\n\
          | machines | read | write | majority |\n|---:|---:|---:|---:|\n",
     );
     for Sizes { machines, read, write } in sizes {
