@@ -1,4 +1,21 @@
-/* The dynamic grid relay, as a C program sees it. Link with libdyngrid.a; nothing else is needed. */
+/* The dynamic grid: copies of one file on up to 64 machines, as a C program calls it.
+ *
+ * Link with libdyngrid.a; it needs nothing but memcpy and memset. Each call is one step over a table that the
+ * caller owns: it keeps no state, takes no memory, and returns for any bytes and any numbers. Who answered,
+ * and who may call at the same time, is the caller's business.
+ *
+ * Conventions
+ *   A list is a pointer and then its length in bytes. Names are two bytes each, low byte first.
+ *   Rows have the numbers 1 upward. In an answering set, bit i - 1 stands for row i (see grid_row).
+ *   A result is the refusal number (0: done) times 2^32, plus the value (see grid_refusal, grid_value).
+ *   A refused call has value 0 and alters no byte of the table, of a buffer or of anything else.
+ *
+ * What a host must not do
+ *   - pass slices of one call that overlap: a table and its buffer, patch or names;
+ *   - make two calls at once on one table, or touch it, or another slice of the call, while a call runs;
+ *   - pass a length above 0 with a null pointer, or above what the pointer leads to. Null with length 0 is an empty list.
+ *   These three the library cannot see; everything else it refuses by number.
+ */
 #ifndef DYNGRID_H
 #define DYNGRID_H
 
@@ -9,14 +26,67 @@
 extern "C" {
 #endif
 
-/* A list is a pointer and then its length in bytes. Names are two bytes each, low byte first. In an answering set, bit i - 1 stands for row i.
-   A result is the refusal number (0: done) times 2^32, plus the value. */
-uint64_t grid_found(uint8_t *table, size_t table_len, uint64_t capacity, uint64_t file_len, const uint8_t *names, size_t names_len);
-uint64_t grid_read(const uint8_t *table, size_t table_len, uint64_t coordinator, uint64_t answering, uint64_t offset, uint64_t length,
-                   uint8_t *buffer, size_t buffer_len);
-uint64_t grid_write(uint8_t *table, size_t table_len, uint64_t coordinator, uint64_t answering, uint64_t offset,
-                    const uint8_t *patch, size_t patch_len);
+/* Why a call was refused. The questions behind the numbers are put in this order; the first no counts. */
+enum grid_refusals {
+    GRID_DONE = 0,                 /* not refused */
+    GRID_MALFORMED = 1,            /* the table is not well formed: use a good copy of it, or found it anew */
+    GRID_NO_SUCH_ROW = 2,          /* a row is not in use, or a send names one row twice */
+    GRID_NOT_ANSWERING = 3,        /* the coordinator, or an end of a send, is not in the answering set */
+    GRID_OUT_OF_RANGE = 4,         /* the range is empty or ends beyond the file */
+    GRID_WRONG_BUFFER = 5,         /* the buffer is not exactly as long as the range */
+    GRID_NO_QUORUM = 6,            /* the rows that answered hold no quorum: try again when more answer */
+    GRID_NOT_CURRENT = 7,          /* no row that answered has the newest version: try again when one answers */
+    GRID_AT_LIMIT = 8,             /* the version, or the epoch, is at 1,000,000: found a new table */
+    GRID_SENDER_STALE = 9,         /* the sending row is stale itself: send from another one */
+    GRID_RECEIVER_NOT_BEHIND = 10, /* the receiving row is not stale, or desires more than the sender has */
+    GRID_BAD_NAMES = 11,           /* names must be 1 to 64, rise strictly, and none be 0 */
+    GRID_BAD_SIZE = 12             /* capacity (1 to 64, no fewer than the names), file (1 to 4,096) and table length must fit */
+};
+
+/* Limits of a table. */
+enum grid_limits { GRID_MAX_ROWS = 64, GRID_MAX_FILE = 4096, GRID_HEADER = 16, GRID_ROW_HEADER = 32 };
+
+/* The refusal number of a result; GRID_DONE if the call was done. */
+static inline uint32_t grid_refusal(uint64_t result)
+{
+    return (uint32_t)(result >> 32);
+}
+
+/* The value of a result; 0 if the call was refused. */
+static inline uint32_t grid_value(uint64_t result)
+{
+    return (uint32_t)result;
+}
+
+/* How many bytes a table of so many rows for a file of so many bytes takes. */
+static inline size_t grid_table_length(size_t capacity, size_t file_len)
+{
+    return GRID_HEADER + capacity * (GRID_ROW_HEADER + file_len);
+}
+
+/* The set of one row from 1 to 64; sets are put together with |. Any other number gives the empty set. */
+static inline uint64_t grid_row(unsigned row)
+{
+    return row >= 1 && row <= GRID_MAX_ROWS ? (uint64_t)1 << (row - 1) : 0;
+}
+
+/* Founds a table: names fill rows 1 upward, the file is all zero. What the table held before is of no account.
+   Value: the rows used. Refusals: 11, 12. */
+uint64_t grid_found(uint8_t *table, size_t table_len, uint64_t capacity, uint64_t file_len,
+                    const uint8_t *names, size_t names_len);
+
+/* Reads length bytes from offset on into the buffer. Value: the version read. Refusals: 1 to 7. */
+uint64_t grid_read(const uint8_t *table, size_t table_len, uint64_t coordinator, uint64_t answering,
+                   uint64_t offset, uint64_t length, uint8_t *buffer, size_t buffer_len);
+
+/* Lays the patch over the file from offset on. Value: the new version. Refusals: 1 to 4, 6 to 8. */
+uint64_t grid_write(uint8_t *table, size_t table_len, uint64_t coordinator, uint64_t answering,
+                    uint64_t offset, const uint8_t *patch, size_t patch_len);
+
+/* Brings the stale row `to` up to the state of the row `from`. Value: the version it then has. Refusals: 1 to 3, 9, 10. */
 uint64_t grid_send(uint8_t *table, size_t table_len, uint64_t from, uint64_t to, uint64_t answering);
+
+/* Epoch check: makes the answering rows the list in force. Value: the epoch number in force. Refusals: 1 to 3, 6 to 8. */
 uint64_t grid_check(uint8_t *table, size_t table_len, uint64_t coordinator, uint64_t answering);
 
 #ifdef __cplusplus

@@ -1,0 +1,78 @@
+//! The two engines under one roof: the library from its archive, and the reference.
+
+use dyngrid::raw;
+use reference::Engine;
+
+/// Calls on a table's bytes, all with the same arguments for both engines.
+pub trait Calls {
+    fn found(&self, table: &mut [u8], capacity: u64, file_len: u64, names: &[u8]) -> u64;
+    fn read(&self, table: &[u8], coordinator: u64, answering: u64, offset: u64, buffer: &mut [u8]) -> u64;
+    fn write(&self, table: &mut [u8], coordinator: u64, answering: u64, offset: u64, patch: &[u8]) -> u64;
+    fn send(&self, table: &mut [u8], from: u64, to: u64, answering: u64) -> u64;
+    fn check(&self, table: &mut [u8], coordinator: u64, answering: u64) -> u64;
+}
+
+pub struct Library;
+
+// SAFETY of the blocks below: each slice is live for the call, and Rust's borrows keep them apart.
+impl Calls for Library {
+    fn found(&self, table: &mut [u8], capacity: u64, file_len: u64, names: &[u8]) -> u64 {
+        unsafe {
+            raw::grid_found(table.as_mut_ptr(), table.len(), capacity, file_len, names.as_ptr(), names.len())
+        }
+    }
+
+    fn read(&self, table: &[u8], coordinator: u64, answering: u64, offset: u64, buffer: &mut [u8]) -> u64 {
+        let length = buffer.len();
+        let lent = buffer.as_mut_ptr();
+        unsafe {
+            raw::grid_read(
+                table.as_ptr(),
+                table.len(),
+                coordinator,
+                answering,
+                offset,
+                length as u64,
+                lent,
+                length,
+            )
+        }
+    }
+
+    fn write(&self, table: &mut [u8], coordinator: u64, answering: u64, offset: u64, patch: &[u8]) -> u64 {
+        let (lent, length) = (patch.as_ptr(), patch.len());
+        unsafe {
+            raw::grid_write(table.as_mut_ptr(), table.len(), coordinator, answering, offset, lent, length)
+        }
+    }
+
+    fn send(&self, table: &mut [u8], from: u64, to: u64, answering: u64) -> u64 {
+        unsafe { raw::grid_send(table.as_mut_ptr(), table.len(), from, to, answering) }
+    }
+
+    fn check(&self, table: &mut [u8], coordinator: u64, answering: u64) -> u64 {
+        unsafe { raw::grid_check(table.as_mut_ptr(), table.len(), coordinator, answering) }
+    }
+}
+
+impl Calls for Engine {
+    fn found(&self, table: &mut [u8], capacity: u64, file_len: u64, names: &[u8]) -> u64 {
+        Engine::found(self, table, capacity, file_len, names)
+    }
+
+    fn read(&self, table: &[u8], coordinator: u64, answering: u64, offset: u64, buffer: &mut [u8]) -> u64 {
+        Engine::read(self, table, coordinator, answering, offset, buffer.len() as u64, buffer)
+    }
+
+    fn write(&self, table: &mut [u8], coordinator: u64, answering: u64, offset: u64, patch: &[u8]) -> u64 {
+        Engine::write(self, table, coordinator, answering, offset, patch)
+    }
+
+    fn send(&self, table: &mut [u8], from: u64, to: u64, answering: u64) -> u64 {
+        Engine::send(self, table, from, to, answering)
+    }
+
+    fn check(&self, table: &mut [u8], coordinator: u64, answering: u64) -> u64 {
+        Engine::check(self, table, coordinator, answering)
+    }
+}

@@ -1,0 +1,120 @@
+//! The archive, called with slices that lie against unmapped pages.
+
+use crate::call::{Answer, Call};
+use crate::guard::{Edge, Guard};
+use dyngrid::raw;
+use std::ffi::c_int;
+use std::sync::atomic::{AtomicPtr, AtomicU64, Ordering};
+
+/// A little above the longest table and the longest list that a case can have.
+const LONGEST_TABLE: usize = 300_000;
+const LONGEST_LIST: usize = 12_000;
+
+pub struct Archive {
+    table: Guard,
+    /// The second slice of a call: its names, buffer or patch.
+    list: Guard,
+    pub edge: Edge,
+}
+
+impl Archive {
+    pub fn new() -> Archive {
+        Archive { table: Guard::new(LONGEST_TABLE), list: Guard::new(LONGEST_LIST), edge: Edge::End }
+    }
+
+    /// Makes the call; an error says which lent memory it harmed.
+    pub fn call(&mut self, table: &mut [u8], call: &Call) -> Result<Answer, String> {
+        let lent: &[u8] = match call {
+            Call::Found { names, .. } => names,
+            Call::Read { buffer, .. } => buffer,
+            Call::Write { patch, .. } => patch,
+            Call::Send { .. } | Call::Check { .. } => &[],
+        };
+        self.table.place(table, self.edge);
+        self.list.place(lent, self.edge);
+        CALL.store(std::ptr::from_ref(call).cast_mut(), Ordering::Relaxed);
+        let result = self.enter(table.len(), lent.len(), call);
+        CALL.store(std::ptr::null_mut(), Ordering::Relaxed);
+
+        if !self.table.intact() {
+            return Err("the archive wrote beside the table".into());
+        }
+        if !self.list.intact() {
+            return Err("the archive wrote beside a list".into());
+        }
+        let is_read = matches!(call, Call::Read { .. });
+        if !is_read && self.list.slice() != lent {
+            return Err("the archive altered names or patch".into());
+        }
+        table.copy_from_slice(self.table.slice());
+        Ok(Answer { result, buffer: if is_read { self.list.slice().to_vec() } else { Vec::new() } })
+    }
+
+    fn enter(&mut self, table_len: usize, list_len: usize, call: &Call) -> u64 {
+        let table = lend(&mut self.table, table_len, self.edge);
+        let list = lend(&mut self.list, list_len, self.edge);
+        // SAFETY: table and list are two slices of these lengths in two mappings.
+        unsafe {
+            match *call {
+                Call::Found { capacity, file_len, .. } => {
+                    raw::grid_found(table, table_len, capacity, file_len, list, list_len)
+                }
+                Call::Read { coordinator, answering, offset, length, .. } => {
+                    raw::grid_read(table, table_len, coordinator, answering, offset, length, list, list_len)
+                }
+                Call::Write { coordinator, answering, offset, .. } => {
+                    raw::grid_write(table, table_len, coordinator, answering, offset, list, list_len)
+                }
+                Call::Send { from, to, answering } => raw::grid_send(table, table_len, from, to, answering),
+                Call::Check { coordinator, answering } => {
+                    raw::grid_check(table, table_len, coordinator, answering)
+                }
+            }
+        }
+    }
+}
+
+/// Where a slice lies; an empty one in half of the cases nowhere.
+fn lend(guard: &mut Guard, length: usize, edge: Edge) -> *mut u8 {
+    if length == 0 && edge == Edge::Start {
+        std::ptr::null_mut()
+    } else {
+        guard.pointer()
+    }
+}
+
+static SEED: AtomicU64 = AtomicU64::new(0);
+static CASE: AtomicU64 = AtomicU64::new(0);
+static CALL: AtomicPtr<Call> = AtomicPtr::new(std::ptr::null_mut());
+
+/// Notes which case runs, for the report of a fault.
+pub fn now_in(seed: u64, case: u64) {
+    SEED.store(seed, Ordering::Relaxed);
+    CASE.store(case, Ordering::Relaxed);
+}
+
+/// From now on a memory fault inside a call is reported with its seed, case and call, and ends the program.
+pub fn report_faults() {
+    extern "C" {
+        fn signal(number: c_int, handler: extern "C" fn(c_int)) -> usize;
+    }
+    const SIGBUS: c_int = 7;
+    const SIGSEGV: c_int = 11;
+    // SAFETY: the handler ends the process, so that it never returns into the faulting call.
+    unsafe {
+        signal(SIGSEGV, fault);
+        signal(SIGBUS, fault);
+    }
+}
+
+extern "C" fn fault(_: c_int) {
+    let (seed, case) = (SEED.load(Ordering::Relaxed), CASE.load(Ordering::Relaxed));
+    eprintln!("memory fault: a call touched bytes outside its slices");
+    // SAFETY: the pointer is null, or the call that is being made.
+    match unsafe { CALL.load(Ordering::Relaxed).as_ref() } {
+        Some(call) => eprintln!("  {call}"),
+        None => eprintln!("  outside every call"),
+    }
+    eprintln!("repeat: differ --seed {seed} --case {case}");
+    std::process::exit(1);
+}

@@ -1,0 +1,137 @@
+//! One call with its arguments, and how it is shown.
+
+use reference::{rows, Engine};
+use std::fmt;
+
+#[derive(Clone, Debug, PartialEq, Eq)]
+pub enum Call {
+    Found { capacity: u64, file_len: u64, names: Vec<u8> },
+    Read { coordinator: u64, answering: u64, offset: u64, length: u64, buffer: Vec<u8> },
+    Write { coordinator: u64, answering: u64, offset: u64, patch: Vec<u8> },
+    Send { from: u64, to: u64, answering: u64 },
+    Check { coordinator: u64, answering: u64 },
+}
+
+/// What a call gave: its result, and the bytes that its buffer then holds (empty but for a read).
+#[derive(Clone, Debug, PartialEq, Eq)]
+pub struct Answer {
+    pub result: u64,
+    pub buffer: Vec<u8>,
+}
+
+impl Call {
+    pub const KINDS: [&'static str; 5] = ["found", "read", "write", "send", "check"];
+
+    /// Its place in `KINDS`.
+    pub fn kind(&self) -> usize {
+        match self {
+            Call::Found { .. } => 0,
+            Call::Read { .. } => 1,
+            Call::Write { .. } => 2,
+            Call::Send { .. } => 3,
+            Call::Check { .. } => 4,
+        }
+    }
+
+    /// The rows that answered; none for a founding.
+    pub fn answering(&self) -> Option<u64> {
+        match *self {
+            Call::Found { .. } => None,
+            Call::Read { answering, .. }
+            | Call::Write { answering, .. }
+            | Call::Send { answering, .. }
+            | Call::Check { answering, .. } => Some(answering),
+        }
+    }
+
+    /// Lets only these rows answer.
+    pub fn cut_down(&mut self, rows: u64) {
+        match self {
+            Call::Found { .. } => {}
+            Call::Read { answering, .. }
+            | Call::Write { answering, .. }
+            | Call::Send { answering, .. }
+            | Call::Check { answering, .. } => *answering &= rows,
+        }
+    }
+
+    /// Puts the call to the reference.
+    pub fn refer(&self, engine: Engine, table: &mut [u8]) -> Answer {
+        let mut lent = Vec::new();
+        let result = match self {
+            Call::Found { capacity, file_len, names } => engine.found(table, *capacity, *file_len, names),
+            Call::Read { coordinator, answering, offset, length, buffer } => {
+                lent.clone_from(buffer);
+                engine.read(table, *coordinator, *answering, *offset, *length, &mut lent)
+            }
+            Call::Write { coordinator, answering, offset, patch } => {
+                engine.write(table, *coordinator, *answering, *offset, patch)
+            }
+            Call::Send { from, to, answering } => engine.send(table, *from, *to, *answering),
+            Call::Check { coordinator, answering } => engine.check(table, *coordinator, *answering),
+        };
+        Answer { result, buffer: lent }
+    }
+}
+
+impl fmt::Display for Call {
+    fn fmt(&self, f: &mut fmt::Formatter) -> fmt::Result {
+        match self {
+            Call::Found { capacity, file_len, names } => {
+                write!(f, "grid_found(capacity {capacity}, file {file_len}, names {})", names_shown(names))
+            }
+            Call::Read { coordinator, answering, offset, length, buffer } => {
+                write!(f, "grid_read(coordinator {coordinator}, answering {}", set_shown(*answering))?;
+                write!(f, ", offset {offset}, length {length}, buffer of {} bytes)", buffer.len())
+            }
+            Call::Write { coordinator, answering, offset, patch } => {
+                write!(f, "grid_write(coordinator {coordinator}, answering {}", set_shown(*answering))?;
+                write!(f, ", offset {offset}, patch {})", bytes_shown(patch))
+            }
+            Call::Send { from, to, answering } => {
+                write!(f, "grid_send(from {from}, to {to}, answering {})", set_shown(*answering))
+            }
+            Call::Check { coordinator, answering } => {
+                write!(f, "grid_check(coordinator {coordinator}, answering {})", set_shown(*answering))
+            }
+        }
+    }
+}
+
+/// A set of rows by number and by member.
+fn set_shown(set: u64) -> String {
+    let members: Vec<String> = rows::members(set).map(|row| row.to_string()).collect();
+    format!("0x{set:x} {{{}}}", members.join(","))
+}
+
+fn names_shown(names: &[u8]) -> String {
+    let shown: Vec<String> = names
+        .chunks(2)
+        .map(|name| match *name {
+            [low, high] => u16::from_le_bytes([low, high]).to_string(),
+            _ => format!("half a name {:02x}", name[0]),
+        })
+        .collect();
+    format!("{{{}}}", shown.join(","))
+}
+
+/// Bytes in hexadecimal, long runs of one byte as `byte*count`.
+pub fn bytes_shown(bytes: &[u8]) -> String {
+    let mut shown = format!("{} bytes", bytes.len());
+    for run in bytes.chunk_by(|one, next| one == next) {
+        let text = match run.len() {
+            1..=3 => format!("{:02x}", run[0]).repeat(run.len()),
+            count => format!(" {:02x}*{count} ", run[0]),
+        };
+        shown.push_str(if shown.ends_with(" bytes") { ": " } else { "" });
+        shown.push_str(&text);
+    }
+    shown
+}
+
+pub fn result_shown(result: u64) -> String {
+    match result >> 32 {
+        0 => format!("done {}", result as u32),
+        refusal => format!("refused by {refusal}, value {}", result as u32),
+    }
+}

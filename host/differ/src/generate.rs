@@ -1,0 +1,306 @@
+//! Which tables are tried, and which calls are made on them.
+
+use crate::call::Call;
+use crate::damage;
+use crate::random::Random;
+use crate::tables::{self, Size};
+use reference::{rows, Layout, Quorum, Table, MAX_FILE, MAX_ROWS};
+
+/// What a case tries: a table to start from, and how its calls are picked.
+pub struct Plan {
+    start: Vec<u8>,
+    calls: usize,
+    /// Made first.
+    opening: Option<Call>,
+    /// Every call is a founding of about this size.
+    foundings: Option<Size>,
+    /// The table as last seen well formed: other calls are fitted to it.
+    known: Option<Table>,
+    /// Rows whose machines are up.
+    up: u64,
+}
+
+impl Plan {
+    pub fn pick(random: &mut Random) -> Plan {
+        match random.between(0, 99) {
+            0..=11 => Plan::founded(random),
+            12..=59 => Plan::unfounded(random),
+            60..=84 => Plan::damaged(random),
+            _ => Plan::foundings(random),
+        }
+    }
+
+    /// A history after one founding on bytes that hold anything.
+    pub fn founded(random: &mut Random) -> Plan {
+        let size = Size::pick(random);
+        let length = Table::length(size.capacity, size.file_len);
+        let start = if random.chance(1, 2) { vec![0; length] } else { random.bytes(length) };
+        let opening = founding(random, size);
+        let up = random.subset(rows::first(size.used), 4, 5);
+        Plan {
+            start,
+            calls: random.between(10, 100),
+            opening: Some(opening),
+            foundings: None,
+            known: None,
+            up,
+        }
+    }
+
+    /// A few calls on a well-formed table that no founding leads to.
+    fn unfounded(random: &mut Random) -> Plan {
+        let size = Size::pick(random);
+        let start = tables::well_formed(random, size);
+        let known = Table::decode(&start);
+        let up = random.subset(rows::first(size.used), 4, 5);
+        Plan { start, calls: random.between(1, 9), opening: None, foundings: None, known, up }
+    }
+
+    /// A few calls on a table with one rule broken.
+    fn damaged(random: &mut Random) -> Plan {
+        let (table, start) = damage::damaged(random);
+        let up = table.all_used();
+        Plan { start, calls: random.between(2, 6), opening: None, foundings: None, known: Some(table), up }
+    }
+
+    /// Foundings, most with something wrong.
+    fn foundings(random: &mut Random) -> Plan {
+        let size = Size::pick(random);
+        let length = Table::length(size.capacity, size.file_len);
+        let wrong = random.pick(&[0, 1, 15, 16, 17, length - 1, length + 1, length + 32 + size.file_len]);
+        let length = if random.chance(1, 3) { wrong } else { length };
+        let opening = founding(random, size);
+        let start = random.bytes(length);
+        Plan {
+            start,
+            calls: random.between(2, 6),
+            opening: Some(opening),
+            foundings: Some(size),
+            known: None,
+            up: 0,
+        }
+    }
+
+    pub fn table(&self) -> Vec<u8> {
+        self.start.clone()
+    }
+
+    pub fn calls(&self) -> usize {
+        self.calls
+    }
+
+    /// The next call on a table that now holds these bytes.
+    pub fn next(&mut self, random: &mut Random, bytes: &[u8]) -> Call {
+        if let Some(opening) = self.opening.take() {
+            return opening;
+        }
+        if let Some(size) = self.foundings {
+            return bad_founding(random, size);
+        }
+        self.known = Table::decode(bytes).or(self.known.take());
+        let table = self.known.as_ref().expect("founded by now, or known from the start");
+        if random.chance(1, 8) {
+            self.up ^= rows::only(random.between(1, table.used.len()));
+        }
+        // A founding in mid-history may leave fewer rows; someone is always up.
+        self.up = Some(self.up & table.all_used()).filter(|&up| up != 0).unwrap_or(1);
+        let mut call = fitting(random, table, self.up);
+        while random.chance(1, 5) {
+            spoil(random, &mut call, table);
+        }
+        call
+    }
+}
+
+fn founding(random: &mut Random, size: Size) -> Call {
+    let names = tables::names(random, size.used);
+    Call::Found {
+        capacity: size.capacity as u64,
+        file_len: size.file_len as u64,
+        names: tables::names_in_bytes(&names),
+    }
+}
+
+/// A founding with arguments at or beyond their limits.
+fn bad_founding(random: &mut Random, size: Size) -> Call {
+    let mut names = tables::names(random, size.used);
+    let mut capacity = size.capacity as u64;
+    let mut file_len = size.file_len as u64;
+    let mut half_a_name = None;
+    for _ in 0..random.between(1, 2) {
+        match random.between(0, 9) {
+            0 => names.clear(),
+            1 => names.insert(0, 0),
+            2 => names.extend(names.last().copied()),
+            3 => names.reverse(),
+            4 => names = tables::names(random, MAX_ROWS + 1),
+            5 => names = tables::names(random, (size.capacity + 1).min(MAX_ROWS)),
+            6 => capacity = edge(random, MAX_ROWS as u64, capacity),
+            7 => file_len = edge(random, MAX_FILE as u64, file_len),
+            8 => half_a_name = Some(random.byte()),
+            _ => {}
+        }
+    }
+    let mut names = tables::names_in_bytes(&names);
+    names.extend(half_a_name);
+    Call::Found { capacity, file_len, names }
+}
+
+/// Another value for an argument whose highest sensible value is `limit`; some agree with `now` in their low bits.
+fn edge(random: &mut Random, limit: u64, now: u64) -> u64 {
+    random.pick(&[
+        0,
+        1,
+        limit.saturating_sub(1),
+        limit,
+        limit + 1,
+        now.wrapping_add(1),
+        now.wrapping_add(256),
+        now.wrapping_add(1 << 32),
+        now.wrapping_add(1 << 63),
+        1 << 63,
+        now.wrapping_neg(),
+        u64::MAX,
+    ])
+}
+
+/// A call that may well be done.
+fn fitting(random: &mut Random, table: &Table, up: u64) -> Call {
+    let coordinator = random.row(up);
+    match random.between(0, 99) {
+        0..=31 => {
+            let answering = answering(random, table, up, coordinator, Quorum::Read);
+            let (offset, length) = range(random, table);
+            let buffer = random.bytes(length);
+            Call::Read { coordinator: coordinator as u64, answering, offset, length: length as u64, buffer }
+        }
+        32..=65 => {
+            let answering = answering(random, table, up, coordinator, Quorum::Write);
+            let (offset, length) = range(random, table);
+            Call::Write { coordinator: coordinator as u64, answering, offset, patch: random.bytes(length) }
+        }
+        66..=83 => send(random, table, up),
+        84..=98 => {
+            let answering = answering(random, table, up, coordinator, Quorum::Write);
+            Call::Check { coordinator: coordinator as u64, answering }
+        }
+        _ => {
+            let used = random.between(1, table.capacity);
+            founding(random, Size { used, capacity: table.capacity, file_len: table.file_len })
+        }
+    }
+}
+
+/// Who answers the coordinator: by turns all, those up, a quorum and a little less.
+fn answering(random: &mut Random, table: &Table, up: u64, coordinator: usize, quorum: Quorum) -> u64 {
+    let own = table.row(coordinator);
+    let newest = table.used.iter().max_by_key(|row| row.epoch).map_or(0, |row| row.list);
+    let choice = |list, name| Layout::of(list, &table.chain).choice(quorum, name);
+    let set = match random.between(0, 9) {
+        0 => table.all_used(),
+        1..=3 => up,
+        4 => up ^ rows::only(random.between(1, table.used.len())),
+        5 => random.subset(table.all_used(), 1, 2),
+        6 => newest,
+        7 => newest & !rows::only(random.row(newest)),
+        8 => choice(own.list, own.name) | random.subset(up, 1, 4),
+        _ => choice(newest, random.byte().into()) & !rows::only(random.between(1, 64)),
+    };
+    let with_coordinator = if random.chance(29, 30) { set | rows::only(coordinator) } else { set };
+    if random.chance(1, 60) {
+        with_coordinator | rows::only(random.between(table.used.len(), 64))
+    } else {
+        with_coordinator
+    }
+}
+
+fn range(random: &mut Random, table: &Table) -> (u64, usize) {
+    let offset = random.between(0, table.file_len - 1);
+    let rest = table.file_len - offset;
+    let length = if random.chance(3, 4) { random.between(1, rest.min(8)) } else { random.between(1, rest) };
+    (offset as u64, length)
+}
+
+/// A send, mostly from a good row to a stale one.
+fn send(random: &mut Random, table: &Table, up: u64) -> Call {
+    let such = |test: &dyn Fn(usize) -> bool| {
+        rows::members(table.all_used()).filter(|&row| test(row)).fold(0, |set, row| set | rows::only(row))
+    };
+    let stale = such(&|row| table.row(row).stale);
+    let to = if random.chance(4, 5) && stale != 0 { random.row(stale) } else { random.row(table.all_used()) };
+    let newer = such(&|row| !table.row(row).stale && table.row(row).version >= table.row(to).desired);
+    let from =
+        if random.chance(3, 4) && newer != 0 { random.row(newer) } else { random.row(table.all_used()) };
+    let ends = rows::only(from) | rows::only(to);
+    let answering = match random.between(0, 19) {
+        0 => ends & !rows::only(from),
+        1 => ends & !rows::only(to),
+        2 => table.all_used(),
+        3..=6 => up | ends,
+        _ => ends,
+    };
+    Call::Send { from: from as u64, to: to as u64, answering }
+}
+
+/// Gives one argument of the call a value at or beyond its limits.
+fn spoil(random: &mut Random, call: &mut Call, table: &Table) {
+    let (used, longest) = (table.used.len() as u64, table.file_len as u64);
+    match call {
+        Call::Found { capacity, file_len, names } => match random.between(0, 2) {
+            0 => *capacity = edge(random, MAX_ROWS as u64, *capacity),
+            1 => *file_len = edge(random, MAX_FILE as u64, *file_len),
+            _ => names.push(random.byte()),
+        },
+        Call::Read { coordinator, answering, offset, length, buffer } => match random.between(0, 5) {
+            0 => *coordinator = edge(random, used, *coordinator),
+            1 => *answering = bad_set(random, table),
+            2 => *offset = edge(random, longest, *offset),
+            3 => *length = edge(random, longest, *length),
+            4 => {
+                *length = edge(random, longest, *length);
+                buffer.resize((*length).min(MAX_FILE as u64 + 2) as usize, 0);
+            }
+            _ => resize(random, buffer, table.file_len),
+        },
+        Call::Write { coordinator, answering, offset, patch } => match random.between(0, 3) {
+            0 => *coordinator = edge(random, used, *coordinator),
+            1 => *answering = bad_set(random, table),
+            2 => *offset = edge(random, longest, *offset),
+            _ => resize(random, patch, table.file_len),
+        },
+        Call::Send { from, to, answering } => match random.between(0, 3) {
+            0 => *from = edge(random, used, *from),
+            1 => *to = edge(random, used, *to),
+            2 => *answering = bad_set(random, table),
+            _ => *to = *from,
+        },
+        Call::Check { coordinator, answering } => match random.between(0, 1) {
+            0 => *coordinator = edge(random, used, *coordinator),
+            _ => *answering = bad_set(random, table),
+        },
+    }
+}
+
+fn bad_set(random: &mut Random, table: &Table) -> u64 {
+    let above = rows::only((table.used.len() + 1).min(64));
+    let (all, any) = (table.all_used(), random.next());
+    random.pick(&[0, 1, all, all | above, (1 << 32) + 1, 1 << 63, u64::MAX, any, all | 1 << 63])
+}
+
+/// Gives a list a length that does not fit: none, one less, one more, any, the file's and beyond.
+fn resize(random: &mut Random, list: &mut Vec<u8>, file_len: usize) {
+    let (length, any) = (list.len(), random.between(0, file_len + 2));
+    list.resize(
+        random.pick(&[
+            0,
+            length.saturating_sub(1),
+            length + 1,
+            any,
+            file_len,
+            file_len + 1,
+            MAX_FILE,
+            MAX_FILE + 1,
+        ]),
+        0,
+    );
+}

@@ -1,0 +1,207 @@
+//! Histories with known answers, and all short ones on few machines: archive, reference and book agree on each.
+
+use crate::archive::Archive;
+use crate::call::Call;
+use crate::guard::Edge;
+use crate::tables::names_in_bytes;
+use crate::trial::{Case, Trial};
+use reference::{rows, Engine, Table};
+
+fn set(members: &[usize]) -> u64 {
+    members.iter().fold(0, |set, &row| set | rows::only(row))
+}
+
+fn found(names: &[u16], file_len: usize) -> Call {
+    Call::Found { capacity: names.len() as u64, file_len: file_len as u64, names: names_in_bytes(names) }
+}
+
+fn read(coordinator: u64, answering: &[usize]) -> Call {
+    Call::Read { coordinator, answering: set(answering), offset: 0, length: 1, buffer: vec![0] }
+}
+
+fn write(coordinator: u64, answering: &[usize]) -> Call {
+    Call::Write { coordinator, answering: set(answering), offset: 0, patch: vec![b'a'] }
+}
+
+fn send(from: u64, to: u64, answering: &[usize]) -> Call {
+    Call::Send { from, to, answering: set(answering) }
+}
+
+fn check(coordinator: u64, answering: &[usize]) -> Call {
+    Call::Check { coordinator, answering: set(answering) }
+}
+
+fn blank(names: &[u16], file_len: usize) -> Case {
+    Case { table: vec![0; Table::length(names.len(), file_len)], calls: Vec::new(), edge: Edge::End }
+}
+
+/// Founds the names and makes the calls; each must give its refusal number and value.
+fn expect(names: &[u16], calls: &[(Call, u64, u64)]) {
+    let mut archive = Archive::new();
+    let mut trial = Trial::new(&mut archive, Engine::default(), &blank(names, 4));
+    assert_eq!(trial.step(&found(names, 4)), Ok(names.len() as u64));
+    for (call, refusal, value) in calls {
+        assert_eq!(trial.step(call), Ok((refusal << 32) + value), "{call}");
+    }
+}
+
+#[test]
+fn the_walk() {
+    expect(
+        &[1, 2, 3, 4],
+        &[
+            (write(1, &[1, 2, 3]), 0, 1),
+            (read(4, &[3, 4]), 0, 1),
+            (write(2, &[1, 2, 4]), 0, 2),
+            (read(4, &[3, 4]), 7, 0),
+            (send(3, 4, &[3, 4]), 10, 0),
+            (check(1, &[1, 2, 4]), 0, 1),
+            (write(3, &[3]), 6, 0),
+        ],
+    );
+}
+
+#[test]
+fn quorums_of_the_club_room() {
+    let fourteen: Vec<u16> = (1..=14).collect();
+    expect(&fourteen, &[(write(1, &[1, 3, 4, 6, 7, 11]), 0, 1)]);
+    expect(&fourteen, &[(write(1, &[1, 3, 4, 6, 7]), 6, 0), (read(1, &[1, 3, 4, 6, 7]), 0, 0)]);
+    expect(&[1, 2, 3], &[(read(1, &[1, 3]), 6, 0), (write(1, &[1, 2]), 0, 1)]);
+    expect(&[1, 2, 3, 4, 5], &[(read(1, &[1, 2, 4, 5]), 6, 0)]);
+}
+
+#[test]
+fn a_stale_row_keeps_an_old_score_from_being_read() {
+    expect(
+        &[10, 20, 30, 40],
+        &[
+            (write(1, &[1, 2, 3]), 0, 1),
+            (write(1, &[1, 2, 4]), 0, 2),
+            (read(3, &[3, 4]), 7, 0),
+            (send(3, 4, &[3, 4]), 10, 0),
+            (read(3, &[3, 4]), 7, 0),
+            (send(1, 4, &[1, 4]), 0, 2),
+            (read(3, &[3, 4]), 0, 2),
+        ],
+    );
+}
+
+#[test]
+fn a_check_marks_the_rows_behind() {
+    expect(
+        &[10, 20, 30, 40],
+        &[
+            (check(1, &[1, 2, 3]), 0, 1),
+            (write(1, &[1, 2]), 0, 1),
+            (check(2, &[2, 3, 4]), 0, 2),
+            (read(3, &[3, 4]), 7, 0),
+        ],
+    );
+}
+
+#[test]
+fn the_newest_list_counts_and_not_the_coordinators() {
+    expect(
+        &[10, 20, 30],
+        &[(check(1, &[1, 2]), 0, 1), (write(3, &[2, 3]), 6, 0), (write(1, &[1, 2, 3]), 0, 1)],
+    );
+}
+
+#[test]
+fn the_list_in_force_may_answer_and_a_read_still_be_refused() {
+    expect(
+        &[1, 2, 3, 4],
+        &[
+            (write(1, &[1, 2, 3]), 0, 1),
+            (write(1, &[1, 2, 4]), 0, 2),
+            (check(1, &[1, 3, 4]), 0, 1),
+            (write(2, &[2, 3, 4]), 0, 3),
+            (read(1, &[1, 3, 4]), 7, 0),
+        ],
+    );
+}
+
+#[test]
+fn every_length_of_range_buffer_and_patch() {
+    let names = [7, 70, 700, 7000];
+    let file_len = 5;
+    let mut archive = Archive::new();
+    for edge in [Edge::Start, Edge::End] {
+        let case = Case { edge, ..blank(&names, file_len) };
+        let mut trial = Trial::new(&mut archive, Engine::default(), &case);
+        trial.step(&found(&names, file_len)).expect("no difference");
+        let (coordinator, answering) = (1, set(&[1, 2, 3]));
+        for (offset, length) in (0..8).flat_map(|offset| (0..8).map(move |length| (offset, length))) {
+            let patch = vec![0x5a; length as usize];
+            trial.step(&Call::Write { coordinator, answering, offset, patch }).expect("no difference");
+            for buffer_len in 0..8 {
+                let buffer = vec![0xa5; buffer_len];
+                trial
+                    .step(&Call::Read { coordinator, answering, offset, length, buffer })
+                    .expect("no difference");
+            }
+        }
+    }
+}
+
+/// Every history of so many calls on few machines, reads and refused calls aside: those alter nothing.
+struct Explorer {
+    archive: Archive,
+    machines: usize,
+    calls: u64,
+}
+
+impl Explorer {
+    /// Founds the machines, and tries all histories of `depth` calls; gives how many calls were made.
+    fn explore(names: &[u16], depth: u8) -> u64 {
+        let mut explorer = Explorer { archive: Archive::new(), machines: names.len(), calls: 0 };
+        let mut trial = Trial::new(&mut explorer.archive, Engine::default(), &blank(names, 1));
+        trial.step(&found(names, 1)).expect("no difference");
+        let (table, ledger) = trial.into_state();
+        explorer.descend(&table, &ledger, depth);
+        explorer.calls
+    }
+
+    fn descend(&mut self, table: &[u8], ledger: &crate::ledger::Ledger, depth: u8) {
+        for call in self.every_call(depth) {
+            let mut trial =
+                Trial::resume(&mut self.archive, Engine::default(), table.to_vec(), ledger.clone());
+            trial.step(&call).unwrap_or_else(|what| panic!("{call}: {what}"));
+            let (after, ledger) = trial.into_state();
+            self.calls += 1;
+            if depth > 1 && after != table {
+                self.descend(&after, &ledger, depth - 1);
+            }
+        }
+    }
+
+    /// Every read, write, send and check; a write lays down the byte `mark`.
+    fn every_call(&self, mark: u8) -> Vec<Call> {
+        let mut calls = Vec::new();
+        for answering in 1..=rows::first(self.machines) {
+            let first = rows::members(answering).next().unwrap_or(1) as u64;
+            calls.push(Call::Check { coordinator: first, answering });
+            for row in rows::members(answering) {
+                let coordinator = row as u64;
+                calls.push(Call::Read { coordinator, answering, offset: 0, length: 1, buffer: vec![0] });
+                calls.push(Call::Write { coordinator, answering, offset: 0, patch: vec![mark] });
+            }
+        }
+        for from in 1..=self.machines {
+            for to in (1..=self.machines).filter(|&to| to != from) {
+                calls.push(send(from as u64, to as u64, &[from, to]));
+            }
+        }
+        calls
+    }
+}
+
+#[test]
+fn all_short_histories_on_few_machines() {
+    let few: [(&[u16], u8); 4] = [(&[900], 8), (&[5, 6], 8), (&[31, 500, 501], 5), (&[10, 21, 35, 64], 4)];
+    for (names, depth) in few {
+        let calls = Explorer::explore(names, depth);
+        println!("{} machines, {depth} calls deep: {calls} calls", names.len());
+        assert!(calls > 0);
+    }
+}

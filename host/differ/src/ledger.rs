@@ -1,0 +1,124 @@
+//! Keeps the plain book beside a history, and compares the answers with it.
+
+use crate::call::{result_shown, Answer, Call};
+use reference::{rows, Book, Quorum};
+
+/// Closed until a founding is done.
+#[derive(Clone, Default)]
+pub struct Ledger {
+    book: Option<Book>,
+}
+
+impl Ledger {
+    /// Was a founding done?
+    pub fn is_open(&self) -> bool {
+        self.book.is_some()
+    }
+
+    /// Takes in a call and its answer; an error says how the book differs.
+    pub fn hear(&mut self, call: &Call, answer: &Answer) -> Result<(), String> {
+        let done = answer.result >> 32 == 0;
+        if let (Call::Found { file_len, names, .. }, true) = (call, done) {
+            let names: Vec<u16> =
+                names.chunks(2).map(|name| u16::from_le_bytes([name[0], name[1]])).collect();
+            self.book = Some(Book::open(*file_len as usize, &names));
+        }
+        let Some(book) = &mut self.book else { return Ok(()) };
+        match call {
+            Call::Read { coordinator, answering, offset, length, buffer } => {
+                if *length == buffer.len() as u64 && passes(book, *coordinator, *answering, *offset, *length)
+                {
+                    agree(book.refusal(Quorum::Read, *answering), answer.result)?;
+                }
+                if done && answer.result != book.writes() as u64 {
+                    return Err(format!(
+                        "{}, but the book counts {} writes",
+                        result_shown(answer.result),
+                        book.writes()
+                    ));
+                }
+                if done && answer.buffer != book.range(*offset as usize, *length as usize) {
+                    return Err("the book has other bytes in the range read".into());
+                }
+            }
+            Call::Write { coordinator, answering, offset, patch } => {
+                if passes(book, *coordinator, *answering, *offset, patch.len() as u64) {
+                    agree(book.refusal(Quorum::Write, *answering), answer.result)?;
+                }
+                if done {
+                    book.write(*coordinator as usize, *answering, *offset as usize, patch);
+                }
+            }
+            Call::Send { from, to, .. } if done => book.send(*from as usize, *to as usize),
+            Call::Check { answering, .. } if done => book.check(*answering),
+            _ => {}
+        }
+        Ok(())
+    }
+}
+
+/// Does a read or write on the book's table pass questions 1 to 4?
+fn passes(book: &Book, coordinator: u64, answering: u64, offset: u64, length: u64) -> bool {
+    let used = rows::first(book.rows());
+    let coordinator_answers = coordinator <= 64 && rows::has(answering, coordinator as usize);
+    let fits = offset.checked_add(length).is_some_and(|end| end <= book.file_len() as u64);
+    coordinator_answers && answering & !used == 0 && length >= 1 && fits
+}
+
+fn agree(refusal: u32, result: u64) -> Result<(), String> {
+    if u64::from(refusal) == result >> 32 {
+        Ok(())
+    } else {
+        Err(format!("{}, but the book says {refusal}", result_shown(result)))
+    }
+}
+
+#[cfg(test)]
+mod tests {
+    use super::*;
+    use crate::generate::Plan;
+    use crate::random::Random;
+    use reference::{Blunder, Engine};
+
+    /// Makes up to so many calls in founded histories; true if the book finds something wrong.
+    fn book_finds(blunder: Option<Blunder>, calls: usize) -> bool {
+        let engine = Engine { blunder };
+        let mut made = 0;
+        for case in 0.. {
+            let mut random = Random::new(3, case);
+            let mut plan = Plan::founded(&mut random);
+            let mut table = plan.table();
+            let mut ledger = Ledger::default();
+            for _ in 0..plan.calls() {
+                let call = plan.next(&mut random, &table);
+                let answer = call.refer(engine, &mut table);
+                if ledger.hear(&call, &answer).is_err() {
+                    return true;
+                }
+                made += 1;
+            }
+            if made >= calls {
+                return false;
+            }
+        }
+        false
+    }
+
+    #[test]
+    fn the_book_agrees_with_the_reference() {
+        assert!(!book_finds(None, 50_000));
+    }
+
+    /// Good rows of a founded history hold the same bytes, so the book cannot tell which of them was read.
+    #[test]
+    fn the_book_alone_finds_nine_blunders() {
+        for blunder in Blunder::ALL {
+            assert_eq!(
+                book_finds(Some(blunder), 50_000),
+                blunder != Blunder::HighestGood,
+                "{}",
+                blunder.name()
+            );
+        }
+    }
+}

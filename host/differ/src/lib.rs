@@ -1,0 +1,91 @@
+//! The differential test: every call goes to the archive and to the reference, on the same bytes.
+//! Result, whole table and whole buffer must agree, and founded histories must agree with the plain book.
+
+mod archive;
+mod call;
+mod damage;
+mod generate;
+mod guard;
+#[cfg(test)]
+mod histories;
+mod ledger;
+mod random;
+mod report;
+mod shrink;
+mod tables;
+mod trial;
+
+pub use archive::report_faults;
+pub use call::{bytes_shown, Call};
+pub use report::Counts;
+pub use trial::{Case, Failure};
+
+use archive::Archive;
+use generate::Plan;
+use guard::Edge;
+use random::Random;
+use reference::{Blunder, Engine};
+use shrink::Shrinker;
+use trial::Trial;
+
+/// A run of cases; each has its own random numbers, so that one can be repeated alone.
+pub struct Run {
+    pub seed: u64,
+    reference: Engine,
+    archive: Archive,
+    pub counts: Counts,
+}
+
+/// A case that failed, and its number.
+pub struct Failed {
+    pub number: u64,
+    pub case: Case,
+    pub failure: Failure,
+}
+
+impl Run {
+    pub fn new(seed: u64, blunder: Option<Blunder>) -> Run {
+        Run { seed, reference: Engine { blunder }, archive: Archive::new(), counts: Counts::default() }
+    }
+
+    /// Makes the calls of one case; stops at the first difference.
+    pub fn case(&mut self, number: u64) -> Option<Failed> {
+        archive::now_in(self.seed, number);
+        let mut random = Random::new(self.seed, number);
+        let edge = if random.chance(1, 2) { Edge::Start } else { Edge::End };
+        let mut plan = Plan::pick(&mut random);
+        let mut case = Case { table: plan.table(), calls: Vec::new(), edge };
+        let mut trial = Trial::new(&mut self.archive, self.reference, &case);
+        for _ in 0..plan.calls() {
+            let call = plan.next(&mut random, trial.table());
+            case.calls.push(call.clone());
+            match trial.step(&call) {
+                Ok(result) => self.counts.add(&call, result),
+                Err(what) => {
+                    let failure = Failure { call: case.calls.len() - 1, what };
+                    return Some(Failed { number, case, failure });
+                }
+            }
+        }
+        None
+    }
+
+    /// Runs cases until `calls` calls were made or one fails; `tell` hears of each case.
+    pub fn cases(&mut self, calls: u64, mut tell: impl FnMut(&Counts)) -> Option<Failed> {
+        let mut number = 0;
+        while self.counts.total() < calls {
+            if let Some(failed) = self.case(number) {
+                return Some(failed);
+            }
+            tell(&self.counts);
+            number += 1;
+        }
+        None
+    }
+
+    /// The case cut down to few and short calls that still fail.
+    pub fn shrink(&mut self, failed: &Failed) -> (Case, Failure) {
+        let mut fails = |case: &Case| trial::replay(&mut self.archive, self.reference, case);
+        Shrinker::shrink(&failed.case, &failed.failure, &mut fails)
+    }
+}

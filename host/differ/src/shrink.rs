@@ -1,0 +1,153 @@
+//! Cuts a failing case down to few and short calls.
+
+use crate::call::Call;
+use crate::trial::{Case, Failure};
+use reference::{rows, Table, MAX_FILE};
+
+/// Tries shorter cases as long as one of them fails.
+pub struct Shrinker<'a> {
+    best: Case,
+    failure: Failure,
+    fails: &'a mut dyn FnMut(&Case) -> Option<Failure>,
+}
+
+impl<'a> Shrinker<'a> {
+    /// Cuts the case down; `fails` runs a case and says how it fails, if it does.
+    pub fn shrink(
+        case: &Case,
+        failure: &Failure,
+        fails: &'a mut dyn FnMut(&Case) -> Option<Failure>,
+    ) -> (Case, Failure) {
+        let mut shrinker = Shrinker { best: case.clone(), failure: failure.clone(), fails };
+        shrinker.best.calls.truncate(failure.call + 1);
+        loop {
+            let calls = shrinker.best.calls.len();
+            shrinker.simplify_table();
+            shrinker.drop_calls();
+            shrinker.simplify_calls();
+            if shrinker.best.calls.len() == calls {
+                return (shrinker.best, shrinker.failure);
+            }
+        }
+    }
+
+    /// Takes the case over if it fails.
+    fn keep(&mut self, case: Case) -> bool {
+        let Some(failure) = (self.fails)(&case) else { return false };
+        self.best = case;
+        self.best.calls.truncate(failure.call + 1);
+        self.failure = failure;
+        true
+    }
+
+    /// Starts from zero bytes, and founds few machines.
+    fn simplify_table(&mut self) {
+        let zero = vec![0; self.best.table.len()];
+        self.keep(Case { table: zero, ..self.best.clone() });
+        let mut count = 1;
+        while let Some(fewer) = on_fewer_machines(&self.best, count) {
+            if self.keep(fewer) {
+                return;
+            }
+            count += 1;
+        }
+    }
+
+    /// Leaves out stretches of calls, long ones first.
+    fn drop_calls(&mut self) {
+        let mut stretch = self.best.calls.len() / 2;
+        while stretch > 0 {
+            let mut start = 0;
+            while start + stretch <= self.best.calls.len() {
+                let mut shorter = self.best.clone();
+                shorter.calls.drain(start..start + stretch);
+                if !self.keep(shorter) {
+                    start += stretch;
+                }
+            }
+            stretch /= 2;
+        }
+    }
+
+    /// Gives each call plainer arguments.
+    fn simplify_calls(&mut self) {
+        for index in 0..self.best.calls.len() {
+            let mut tried = 0;
+            while let Some(call) =
+                self.best.calls.get(index).and_then(|call| plainer(call).into_iter().nth(tried))
+            {
+                let mut simpler = self.best.clone();
+                simpler.calls[index] = call;
+                if !self.keep(simpler) {
+                    tried += 1;
+                }
+            }
+        }
+    }
+}
+
+/// The case with its founding cut down to the first names; none if it has no more of them.
+fn on_fewer_machines(case: &Case, count: usize) -> Option<Case> {
+    let mut fewer = case.clone();
+    let Some(Call::Found { capacity, file_len, names }) = fewer.calls.first_mut() else { return None };
+    if 2 * count >= names.len() || *file_len > MAX_FILE as u64 {
+        return None;
+    }
+    names.truncate(2 * count);
+    *capacity = count as u64;
+    fewer.table = vec![0; Table::length(count, *file_len as usize)];
+    fewer.calls.iter_mut().for_each(|call| call.cut_down(rows::first(count)));
+    Some(fewer)
+}
+
+/// Plainer calls, each one step away.
+fn plainer(call: &Call) -> Vec<Call> {
+    match call {
+        Call::Found { .. } => Vec::new(),
+        Call::Read { coordinator, answering, offset, length, buffer } => {
+            let with = |answering, offset, length, buffer: &[u8]| Call::Read {
+                coordinator: *coordinator,
+                answering,
+                offset,
+                length,
+                buffer: buffer.to_vec(),
+            };
+            let mut calls: Vec<Call> =
+                fewer(*answering).map(|set| with(set, *offset, *length, buffer)).collect();
+            if *length > 1 && *length == buffer.len() as u64 {
+                calls.push(with(*answering, *offset, *length / 2, &buffer[..buffer.len() / 2]));
+            }
+            if *offset > 0 {
+                calls.push(with(*answering, 0, *length, buffer));
+            }
+            calls
+        }
+        Call::Write { coordinator, answering, offset, patch } => {
+            let with = |answering, offset, patch: &[u8]| Call::Write {
+                coordinator: *coordinator,
+                answering,
+                offset,
+                patch: patch.to_vec(),
+            };
+            let mut calls: Vec<Call> = fewer(*answering).map(|set| with(set, *offset, patch)).collect();
+            if patch.len() > 1 {
+                calls.push(with(*answering, *offset, &patch[..patch.len() / 2]));
+            }
+            if *offset > 0 {
+                calls.push(with(*answering, 0, patch));
+            }
+            calls
+        }
+        Call::Send { from, to, answering } => {
+            fewer(*answering).map(|answering| Call::Send { from: *from, to: *to, answering }).collect()
+        }
+        Call::Check { coordinator, answering } => {
+            fewer(*answering).map(|answering| Call::Check { coordinator: *coordinator, answering }).collect()
+        }
+    }
+}
+
+/// The set without each of its members in turn.
+fn fewer(set: u64) -> impl Iterator<Item = u64> {
+    rows::members(set).map(move |row| set & !rows::only(row))
+}

@@ -1,0 +1,146 @@
+//! Random well-formed tables that no founding leads to, and tables that differ only in rows that did not answer.
+
+use crate::random::Random;
+use reference::{rows, Row, Table, LIMIT};
+
+/// How large a table is.
+#[derive(Clone, Copy, Debug)]
+pub struct Size {
+    pub used: usize,
+    pub capacity: usize,
+    pub file_len: usize,
+}
+
+impl Size {
+    /// Mostly small, at times as large as a table can be.
+    pub fn pick(random: &mut Random) -> Size {
+        let used = match random.between(0, 7) {
+            0..=4 => random.between(1, 7),
+            5..=6 => random.between(1, 16),
+            _ => random.between(1, 64),
+        };
+        let capacity = match random.between(0, 3) {
+            0..=1 => used,
+            2 => random.between(used, (used + 3).min(64)),
+            _ => random.between(used, 64),
+        };
+        let file_len = match random.between(0, 99) {
+            0..=59 => random.between(1, 6),
+            60..=94 => random.between(7, 40),
+            95..=97 => random.between(41, 300),
+            98 => random.between(301, 4095),
+            _ => 4096,
+        };
+        Size { used, capacity, file_len }
+    }
+}
+
+/// So many names, rising and far apart, or now and then side by side.
+pub fn names(random: &mut Random, count: usize) -> Vec<u16> {
+    if random.chance(1, 8) {
+        let start = random.pick(&[1, 100, 65_536 - count]);
+        return (start..start + count).map(|name| name as u16).collect();
+    }
+    let mut names = Vec::new();
+    while names.len() < count {
+        let name = random.between(1, 65_535) as u16;
+        if !names.contains(&name) {
+            names.push(name);
+        }
+    }
+    names.sort_unstable();
+    names
+}
+
+pub fn names_in_bytes(names: &[u16]) -> Vec<u8> {
+    names.iter().flat_map(|name| name.to_le_bytes()).collect()
+}
+
+/// A well-formed table with a shuffled chain, several epochs, marks and lists.
+pub fn well_formed(random: &mut Random, size: Size) -> Vec<u8> {
+    let Size { used, capacity, file_len } = size;
+    let mut chain: Vec<usize> = (1..=used).collect();
+    random.shuffle(&mut chain);
+    let rows = used_rows(random, &chain);
+    let table = Table { capacity, first: chain[0], file_len, used: rows, chain };
+    let mut bytes = vec![0; Table::length(capacity, file_len)];
+    table.encode(&mut bytes);
+    for row in 1..=used {
+        let contents = random.bytes(file_len);
+        table.contents_mut(&mut bytes, row).copy_from_slice(&contents);
+    }
+    bytes
+}
+
+fn used_rows(random: &mut Random, chain: &[usize]) -> Vec<Row> {
+    let count = chain.len();
+    let names = names(random, count);
+    let epochs = epochs(random, count);
+    let lowest_version = random.pick(&[0, 0, 0, 0, LIMIT - 3, LIMIT - 1]);
+    let stale_chance = random.pick(&[0, 0, 1, 5]);
+    let spread = random.pick(&[1, 2, 4]);
+    let mut rows = Vec::new();
+    for row in 1..=count {
+        let place = chain.iter().position(|&member| member == row).expect("every row is in the chain");
+        let (epoch, list) = epochs[row - 1];
+        let version = (lowest_version + random.between(0, spread - 1) as u32).min(LIMIT);
+        let stale = version < LIMIT && random.chance(stale_chance, 10);
+        let desired = if stale { (version + random.between(1, 3) as u32).min(LIMIT) } else { 0 };
+        let next = chain.get(place + 1).copied().unwrap_or(0);
+        rows.push(Row { name: names[place], next, stale, version, desired, epoch, list });
+    }
+    rows
+}
+
+/// For each row its epoch number and the list of that epoch.
+fn epochs(random: &mut Random, count: usize) -> Vec<(u32, u64)> {
+    let kinds = random.pick(&[1, 1, 2, 4]);
+    let lowest = random.pick(&[0, 0, 0, LIMIT - kinds as u32, LIMIT + 1 - kinds as u32]);
+    let outside = random.pick(&[0, 5, 9, 10]);
+    let epoch_of: Vec<u32> = (0..count).map(|_| lowest + random.between(0, kinds - 1) as u32).collect();
+    let list_of: Vec<u64> = (0..kinds as u32)
+        .map(|kind| {
+            let own = (1..).zip(&epoch_of).filter(|(_, &epoch)| epoch == lowest + kind);
+            own.fold(random.subset(rows::first(count), outside, 10), |list, (row, _)| list | rows::only(row))
+        })
+        .collect();
+    epoch_of.iter().map(|&epoch| (epoch, list_of[(epoch - lowest) as usize])).collect()
+}
+
+/// The same table with other bytes in the rows that did not answer; header, names and links stay.
+pub fn twin(random: &mut Random, bytes: &[u8], table: &Table, answering: u64) -> Vec<u8> {
+    let mut other = table.clone();
+    let mut twin = bytes.to_vec();
+    let taken: Vec<u32> =
+        rows::members(answering & table.all_used()).map(|row| table.row(row).epoch).collect();
+    let mut free = (0..=LIMIT).rev().filter(|epoch| !taken.contains(epoch)).step_by(random.between(1, 3));
+    for row in rows::members(table.all_used() & !answering) {
+        let state = &mut other.used[row - 1];
+        state.epoch = free.next().expect("more epochs than rows");
+        state.list = random.subset(table.all_used(), 1, 2) | rows::only(row);
+        state.version = random.pick(&[0, 1, 7, LIMIT - 1]);
+        state.stale = random.chance(1, 2);
+        state.desired = if state.stale { state.version + 1 } else { 0 };
+        other.encode_row(&mut twin, row);
+        let contents = random.bytes(table.file_len);
+        other.contents_mut(&mut twin, row).copy_from_slice(&contents);
+    }
+    twin
+}
+
+#[cfg(test)]
+mod tests {
+    use super::*;
+
+    #[test]
+    fn made_tables_are_well_formed_and_so_are_their_twins() {
+        for case in 0..2_000 {
+            let mut random = Random::new(1, case);
+            let size = Size::pick(&mut random);
+            let bytes = well_formed(&mut random, size);
+            let table = Table::decode(&bytes).expect("well formed");
+            let answering = random.next();
+            assert!(Table::decode(&twin(&mut random, &bytes, &table, answering)).is_some());
+        }
+    }
+}

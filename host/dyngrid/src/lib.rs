@@ -1,0 +1,24 @@
+//! Safe calls to the verified dynamic grid library: replicas of one file on up to 64 machines.
+//!
+//! A [`Table`] holds a row for each machine. The caller says which machines answered ([`Rows`]);
+//! each call is one atomic step over the table, and is done with a value or refused by a [`Refusal`].
+//!
+//! ```
+//! use dyngrid::{Rows, Table};
+//!
+//! let mut table = Table::found(4, 16, &[10, 20, 30, 40])?;
+//! let version = table.write(1, Rows::of(&[1, 2, 3])?, 0, b"1-0")?;
+//! let mut score = [0; 3];
+//! assert_eq!(table.read(4, Rows::of(&[3, 4])?, 0, &mut score)?, version);
+//! assert_eq!(&score, b"1-0");
+//! # Ok::<(), dyngrid::Refusal>(())
+//! ```
+
+pub mod raw;
+mod refusal;
+mod rows;
+mod table;
+
+pub use refusal::Refusal;
+pub use rows::Rows;
+pub use table::Table;

@@ -1,0 +1,64 @@
+/* Four machines share a file of results: found it, write, read, and meet a refusal. */
+#include <stdio.h>
+#include <string.h>
+#include "dyngrid.h"
+
+enum { MACHINES = 4, FILE_BYTES = 16, TABLE_BYTES = GRID_HEADER + MACHINES * (GRID_ROW_HEADER + FILE_BYTES) };
+
+/* What to tell the operator. */
+static const char *meaning(uint32_t refusal)
+{
+    switch (refusal) {
+    case GRID_DONE: return "done";
+    case GRID_MALFORMED: return "the table is malformed: use a good copy of it";
+    case GRID_NO_SUCH_ROW: return "there is no such row: rows count from 1 to the rows used";
+    case GRID_NOT_ANSWERING: return "the coordinator did not answer: it must be in the answering set";
+    case GRID_OUT_OF_RANGE: return "the range is empty or ends beyond the file";
+    case GRID_WRONG_BUFFER: return "the buffer is not as long as the range";
+    case GRID_NO_QUORUM: return "too few machines answered: try again when more do";
+    case GRID_NOT_CURRENT: return "no machine that answered has the newest version: wait for one that has";
+    case GRID_AT_LIMIT: return "a million versions or epochs: found a new table";
+    case GRID_SENDER_STALE: return "the sender is stale itself: send from another machine";
+    case GRID_RECEIVER_NOT_BEHIND: return "the receiver is not stale, or desires more than the sender has";
+    case GRID_BAD_NAMES: return "names must be 1 to 64, rise strictly, and none be 0";
+    case GRID_BAD_SIZE: return "capacity, file length and table length do not fit together";
+    default: return "no such refusal";
+    }
+}
+
+/* Prints one line for a call; returns whether it was done. */
+static int report(const char *call, uint64_t result)
+{
+    uint32_t refusal = grid_refusal(result);
+    if (refusal == GRID_DONE)
+        printf("%s: done, value %u\n", call, (unsigned)grid_value(result));
+    else
+        printf("%s: refused by %u (%s)\n", call, (unsigned)refusal, meaning(refusal));
+    return refusal == GRID_DONE;
+}
+
+int main(void)
+{
+    static uint8_t table[TABLE_BYTES];
+    const uint8_t names[2 * MACHINES] = {10, 0, 20, 0, 30, 0, 40, 0};
+    const char score[] = "1-0";
+    uint8_t got[sizeof score] = {0};
+    const uint64_t three = grid_row(1) | grid_row(2) | grid_row(3);
+    const uint64_t two = grid_row(3) | grid_row(4);
+
+    if (!report("found", grid_found(table, sizeof table, MACHINES, FILE_BYTES, names, sizeof names)))
+        return 1;
+
+    /* Machine 10, row 1, imports a score while row 4 is away. */
+    if (!report("write by row 1", grid_write(table, sizeof table, 1, three, 0, (const uint8_t *)score, sizeof score)))
+        return 1;
+
+    /* Row 4 is back and reads with row 3: one machine of each column of the grid. */
+    if (!report("read by row 4", grid_read(table, sizeof table, 4, two, 0, sizeof got, got, sizeof got)))
+        return 1;
+    printf("score: %s\n", (const char *)got);
+
+    /* Alone it is refused: an old score would look like any other. */
+    report("read by row 4 alone", grid_read(table, sizeof table, 4, grid_row(4), 0, sizeof got, got, sizeof got));
+    return memcmp(got, score, sizeof score) != 0;
+}

@@ -1,0 +1,115 @@
+//! A line chart in SVG, readable on light and dark pages.
+
+use crate::measure::Sizes;
+use std::fmt::Write;
+
+const WIDTH: f64 = 760.0;
+const HEIGHT: f64 = 440.0;
+const LEFT: f64 = 64.0;
+const RIGHT: f64 = 24.0;
+const TOP: f64 = 52.0;
+const BOTTOM: f64 = 60.0;
+const MOST_MACHINES: f64 = 64.0;
+const MOST_CALLED: f64 = 35.0;
+
+const STYLE: &str = "  <style>
+    text { font: 14px system-ui, sans-serif; fill: #1f2328 }
+    .title { font-size: 17px; font-weight: 600 }
+    .panel { fill: #ffffff }
+    .grid { stroke: #d8dee4; stroke-width: 1 }
+    .axis { stroke: #59636e; stroke-width: 1.5 }
+    .line { fill: none; stroke-width: 2.5; stroke-linejoin: round }
+    .majority { stroke: #bc4c00; stroke-dasharray: 7 4 }
+    .write { stroke: #0969da }
+    .read { stroke: #1a7f37; stroke-dasharray: 2 3 }
+    @media (prefers-color-scheme: dark) {
+      text { fill: #e6edf3 }
+      .panel { fill: #0d1117 }
+      .grid { stroke: #30363d }
+      .axis { stroke: #9198a1 }
+      .majority { stroke: #f0883e }
+      .write { stroke: #58a6ff }
+      .read { stroke: #3fb950 }
+    }
+  </style>
+";
+
+pub fn svg(sizes: &[Sizes]) -> String {
+    let mut svg = format!(
+        "<svg xmlns=\"http://www.w3.org/2000/svg\" viewBox=\"0 0 {WIDTH} {HEIGHT}\" role=\"img\" aria-label=\"Machines called\">\n"
+    );
+    svg.push_str(STYLE);
+    line(&mut svg, &format!("<rect class=\"panel\" width=\"{WIDTH}\" height=\"{HEIGHT}\" rx=\"8\"/>"));
+    text(&mut svg, LEFT, 30.0, "title", "start", "Machines called by one coordinator, all answering");
+    axes(&mut svg);
+    series(&mut svg, "majority", sizes, |sizes| sizes.machines / 2 + 1);
+    series(&mut svg, "write", sizes, |sizes| sizes.write.most);
+    series(&mut svg, "read", sizes, |sizes| sizes.read.most);
+    legend(&mut svg);
+    svg.push_str("</svg>\n");
+    svg
+}
+
+fn x(machines: usize) -> f64 {
+    LEFT + (WIDTH - LEFT - RIGHT) * machines as f64 / MOST_MACHINES
+}
+
+fn y(called: usize) -> f64 {
+    HEIGHT - BOTTOM - (HEIGHT - TOP - BOTTOM) * called as f64 / MOST_CALLED
+}
+
+fn axes(svg: &mut String) {
+    let (bottom, top, left, right) = (y(0), y(MOST_CALLED as usize), x(0), x(MOST_MACHINES as usize));
+    for called in (0..=35).step_by(5) {
+        let at = y(called);
+        line(svg, &format!("<path class=\"grid\" d=\"M{left:.1} {at:.1}H{right:.1}\"/>"));
+        text(svg, left - 10.0, at + 5.0, "tick", "end", &called.to_string());
+    }
+    for machines in (0..=64).step_by(8) {
+        text(svg, x(machines), bottom + 22.0, "tick", "middle", &machines.to_string());
+    }
+    line(
+        svg,
+        &format!("<path class=\"axis\" fill=\"none\" d=\"M{left:.1} {top:.1}V{bottom:.1}H{right:.1}\"/>"),
+    );
+    text(svg, (left + right) / 2.0, HEIGHT - 14.0, "label", "middle", "machines in the list");
+    let middle = (top + bottom) / 2.0;
+    line(
+        svg,
+        &format!("<text text-anchor=\"middle\" transform=\"translate(22 {middle:.1}) rotate(-90)\">machines called</text>"),
+    );
+}
+
+fn series(svg: &mut String, class: &str, sizes: &[Sizes], called: fn(&Sizes) -> usize) {
+    let points: Vec<String> =
+        sizes.iter().map(|sizes| format!("{:.1},{:.1}", x(sizes.machines), y(called(sizes)))).collect();
+    line(svg, &format!("<polyline class=\"line {class}\" points=\"{}\"/>", points.join(" ")));
+}
+
+fn legend(svg: &mut String) {
+    let entries = [("majority", "majority, as a vote needs"), ("write", "write, at most"), ("read", "read")];
+    line(
+        svg,
+        &format!(
+            "<rect class=\"panel\" x=\"{:.1}\" y=\"{:.1}\" width=\"244\" height=\"76\"/>",
+            LEFT + 16.0,
+            TOP + 6.0
+        ),
+    );
+    for (index, (class, words)) in entries.into_iter().enumerate() {
+        let at = TOP + 20.0 + 24.0 * index as f64;
+        line(svg, &format!("<path class=\"line {class}\" d=\"M{:.1} {at:.1}h36\"/>", LEFT + 24.0));
+        text(svg, LEFT + 70.0, at + 5.0, "entry", "start", words);
+    }
+}
+
+fn text(svg: &mut String, x: f64, y: f64, class: &str, anchor: &str, words: &str) {
+    line(
+        svg,
+        &format!("<text class=\"{class}\" x=\"{x:.1}\" y=\"{y:.1}\" text-anchor=\"{anchor}\">{words}</text>"),
+    );
+}
+
+fn line(svg: &mut String, element: &str) {
+    writeln!(svg, "  {element}").expect("a string takes all");
+}

@@ -1,0 +1,51 @@
+//! Shows how many machines one coordinator calls for a read and for a write, as the library itself tells it.
+//! Writes QUORUMS.md and quorums.svg into the folder that it is given.
+
+mod chart;
+mod measure;
+
+use dyngrid::Refusal;
+use measure::Sizes;
+use std::fmt::Write;
+use std::path::Path;
+use std::process::ExitCode;
+
+fn main() -> ExitCode {
+    let Some(folder) = std::env::args().nth(1) else {
+        eprintln!("pictures: name the folder to write to, as in `pictures docs`");
+        return ExitCode::from(2);
+    };
+    match draw(Path::new(&folder)) {
+        Ok(()) => ExitCode::SUCCESS,
+        Err(problem) => {
+            eprintln!("pictures: {problem}");
+            ExitCode::FAILURE
+        }
+    }
+}
+
+fn draw(folder: &Path) -> Result<(), Box<dyn std::error::Error>> {
+    let sizes = (1..=64).map(measure::sizes).collect::<Result<Vec<Sizes>, Refusal>>()?;
+    std::fs::write(folder.join("QUORUMS.md"), document(&sizes))?;
+    std::fs::write(folder.join("quorums.svg"), chart::svg(&sizes))?;
+    println!("pictures: wrote QUORUMS.md and quorums.svg to {}", folder.display());
+    Ok(())
+}
+
+fn document(sizes: &[Sizes]) -> String {
+    let mut text = String::from(
+        "# Machines called\n\n\
+         ![Machines called for a read, for a write and for a majority, for 1 to 64 machines](quorums.svg)\n\n\
+         How many machines one coordinator calls when all of them answer, against the majority that a vote needs. Where the number depends\n\
+         on the coordinator, the range over all coordinators is given.\n\n\
+         The figures come from the library, from the outside: in a founded table one row after the other is marked as stale, and a read\n\
+         (write) that is then refused by 7 had called that row. For writes the rows with a new version give the same number.\n\
+         `make pictures` makes this page anew.\n\n\
+         | machines | read | write | majority |\n|---:|---:|---:|---:|\n",
+    );
+    for Sizes { machines, read, write } in sizes {
+        let majority = machines / 2 + 1;
+        writeln!(text, "| {machines} | {read} | {write} | {majority} |").expect("a string takes all");
+    }
+    text
+}

@@ -1,0 +1,97 @@
+//! Finds the sizes of a coordinator's own choice from the outside.
+
+use dyngrid::{Refusal, Rows, Table};
+use std::fmt;
+
+const FILE_LEN: usize = 1;
+const HEADER: usize = 16;
+const ROW: usize = 32 + FILE_LEN;
+
+/// The least and the most over all coordinators.
+#[derive(Clone, Copy)]
+pub struct Range {
+    pub least: usize,
+    pub most: usize,
+}
+
+impl fmt::Display for Range {
+    fn fmt(&self, f: &mut fmt::Formatter) -> fmt::Result {
+        if self.least == self.most {
+            write!(f, "{}", self.most)
+        } else {
+            write!(f, "{} to {}", self.least, self.most)
+        }
+    }
+}
+
+/// How many of so many machines a read and a write call.
+pub struct Sizes {
+    pub machines: usize,
+    pub read: Range,
+    pub write: Range,
+}
+
+pub fn sizes(machines: usize) -> Result<Sizes, Refusal> {
+    let names: Vec<u16> = (1..=machines as u16).collect();
+    let founded = Table::found(machines, FILE_LEN, &names)?;
+    let mut reads = Vec::new();
+    let mut writes = Vec::new();
+    for coordinator in 1..=machines {
+        reads.push(called(&founded, coordinator, read)?);
+        let write_calls = called(&founded, coordinator, write)?;
+        assert_eq!(write_calls, rows_written(&founded, coordinator)?, "two ways to count a write's rows");
+        writes.push(write_calls);
+    }
+    Ok(Sizes { machines, read: range(&reads), write: range(&writes) })
+}
+
+type Attempt = fn(&mut Table, u64, Rows) -> Result<u32, Refusal>;
+
+fn read(table: &mut Table, coordinator: u64, answering: Rows) -> Result<u32, Refusal> {
+    table.read(coordinator, answering, 0, &mut [0])
+}
+
+fn write(table: &mut Table, coordinator: u64, answering: Rows) -> Result<u32, Refusal> {
+    table.write(coordinator, answering, 0, &[1])
+}
+
+/// In how many rows a stale mark makes the attempt fail: those that it calls.
+fn called(founded: &Table, coordinator: usize, attempt: Attempt) -> Result<usize, Refusal> {
+    let machines = founded.used();
+    let mut called = 0;
+    for row in 1..=machines {
+        let mut table = with_stale_row(founded, row)?;
+        match attempt(&mut table, coordinator as u64, Rows::first(machines as u32)) {
+            Ok(_) => {}
+            Err(Refusal::NotCurrent) => called += 1,
+            Err(refusal) => return Err(refusal),
+        }
+    }
+    Ok(called)
+}
+
+/// How many rows have a new version after a write that all answer.
+fn rows_written(founded: &Table, coordinator: usize) -> Result<usize, Refusal> {
+    let machines = founded.used();
+    let mut table = founded.clone();
+    write(&mut table, coordinator as u64, Rows::first(machines as u32))?;
+    Ok((1..=machines).filter(|&row| table.as_bytes()[row_at(row) + 4] == 1).count())
+}
+
+/// The table with one row marked and desiring version 1.
+fn with_stale_row(founded: &Table, row: usize) -> Result<Table, Refusal> {
+    let mut bytes = founded.as_bytes().to_vec();
+    bytes[row_at(row) + 3] = 1;
+    bytes[row_at(row) + 8] = 1;
+    Table::from_bytes(bytes)
+}
+
+fn row_at(row: usize) -> usize {
+    HEADER + (row - 1) * ROW
+}
+
+fn range(sizes: &[usize]) -> Range {
+    let least = sizes.iter().copied().min().unwrap_or(0);
+    let most = sizes.iter().copied().max().unwrap_or(0);
+    Range { least, most }
+}

@@ -1,0 +1,94 @@
+//! Mistakes to make on purpose: each turns the engine into a wrong one that the tests must find.
+
+use crate::{rows, Layout, Quorum};
+
+#[derive(Clone, Copy, Debug, PartialEq, Eq)]
+pub enum Blunder {
+    /// Rows outside the list count towards a quorum.
+    OutsidersCount,
+    /// A short column is whole only with as many rows as a long one.
+    ShortColumnWhole,
+    /// The versions that stale rows desire are not looked at.
+    DesiredIgnored,
+    /// A write marks with the version before it.
+    OldMark,
+    /// A write quorum of three takes all three.
+    AllOfThree,
+    /// A write is done, and the table is left as it was.
+    WriteForgotten,
+    /// The first write is stored; later ones only raise versions.
+    FirstWriteOnly,
+    /// The coordinator's own choice is never tried.
+    NoChoice,
+    /// Fewer answers than a majority are refused by 6 before anyone looks who answered.
+    SixByCount,
+    /// A read copies from the good row of highest index.
+    HighestGood,
+}
+
+impl Blunder {
+    pub const ALL: [Blunder; 10] = [
+        Blunder::OutsidersCount,
+        Blunder::ShortColumnWhole,
+        Blunder::DesiredIgnored,
+        Blunder::OldMark,
+        Blunder::AllOfThree,
+        Blunder::WriteForgotten,
+        Blunder::FirstWriteOnly,
+        Blunder::NoChoice,
+        Blunder::SixByCount,
+        Blunder::HighestGood,
+    ];
+
+    /// Its name on a command line.
+    pub fn name(self) -> &'static str {
+        match self {
+            Blunder::OutsidersCount => "outsiders-count",
+            Blunder::ShortColumnWhole => "short-column-whole",
+            Blunder::DesiredIgnored => "desired-ignored",
+            Blunder::OldMark => "old-mark",
+            Blunder::AllOfThree => "all-of-three",
+            Blunder::WriteForgotten => "write-forgotten",
+            Blunder::FirstWriteOnly => "first-write-only",
+            Blunder::NoChoice => "no-choice",
+            Blunder::SixByCount => "six-by-count",
+            Blunder::HighestGood => "highest-good",
+        }
+    }
+
+    pub fn from_name(name: &str) -> Option<Blunder> {
+        Blunder::ALL.into_iter().find(|blunder| blunder.name() == name)
+    }
+}
+
+/// Counts each row outside the list in the place of the next member.
+pub fn holds_with_outsiders(layout: &Layout, chain: &[usize], quorum: Quorum, set: u64) -> bool {
+    let grid = layout.grid;
+    let mut answers = vec![0; grid.columns];
+    let mut position = 0;
+    for row in chain {
+        if rows::has(set, *row) {
+            answers[position % grid.columns] += 1;
+        }
+        position += usize::from(layout.members.contains(row));
+    }
+    let whole_column = || (1..).zip(&answers).any(|(column, &count)| count >= grid.height(column));
+    answers.iter().all(|&count| count > 0) && (quorum == Quorum::Read || whole_column())
+}
+
+/// Wants as many rows of a short column as of a long one, so that only a long one can be whole.
+pub fn holds_long_column(layout: &Layout, quorum: Quorum, set: u64) -> bool {
+    let grid = layout.grid;
+    let answers_in = |column| {
+        let places = (1..).zip(&layout.members).filter(|&(position, _)| grid.column_of(position) == column);
+        places.filter(|&(_, &row)| rows::has(set, row)).count()
+    };
+    let long_column = || (1..=grid.columns).any(|column| answers_in(column) == grid.rows);
+    layout.holds(quorum, set) && (quorum == Quorum::Read || long_column())
+}
+
+/// Wants all three of three for a write.
+pub fn holds_all_of_three(layout: &Layout, quorum: Quorum, set: u64) -> bool {
+    let all = || layout.members.iter().all(|&row| rows::has(set, row));
+    layout.holds(quorum, set) && (quorum == Quorum::Read || layout.members.len() != 3 || all())
+}

@@ -1,0 +1,108 @@
+//! The plain book: what a list of calls after one done founding must give. It is fed arguments and whether
+//! a call was done; nothing comes from the table.
+
+use crate::{rows, Layout, Quorum};
+
+#[derive(Clone)]
+pub struct Book {
+    names: Vec<u16>,
+    file: Vec<u8>,
+    writes: usize,
+    /// For row i at place i - 1: which of the done writes it has.
+    has: Vec<Vec<bool>>,
+    in_force: u64,
+    /// For row i at place i - 1: its own list.
+    own: Vec<u64>,
+}
+
+impl Book {
+    /// A done founding.
+    pub fn open(file_len: usize, names: &[u16]) -> Book {
+        let all = rows::first(names.len());
+        Book {
+            names: names.to_vec(),
+            file: vec![0; file_len],
+            writes: 0,
+            has: vec![Vec::new(); names.len()],
+            in_force: all,
+            own: vec![all; names.len()],
+        }
+    }
+
+    /// A done write.
+    pub fn write(&mut self, coordinator: usize, answering: u64, offset: usize, patch: &[u8]) {
+        let own = self.layout(self.own[coordinator - 1]);
+        let choice = own.choice(Quorum::Write, self.names[coordinator - 1]) & answering;
+        let by_choice = self.holds(Quorum::Write, choice) && self.any_has_all(choice);
+        let set = if by_choice { choice } else { answering };
+        let takers: Vec<usize> = rows::members(set).filter(|&row| self.has_all(row)).collect();
+        for row in 1..=self.names.len() {
+            self.has[row - 1].push(takers.contains(&row));
+        }
+        self.file[offset..offset + patch.len()].copy_from_slice(patch);
+        self.writes += 1;
+    }
+
+    /// A done send.
+    pub fn send(&mut self, from: usize, to: usize) {
+        for write in 0..self.writes {
+            self.has[to - 1][write] |= self.has[from - 1][write];
+        }
+    }
+
+    /// A done check.
+    pub fn check(&mut self, answering: u64) {
+        self.in_force = answering;
+        for row in rows::members(answering) {
+            self.own[row - 1] = answering;
+        }
+    }
+
+    /// How a read or write that passes questions 1 to 5 is refused: by 6, by 7 or not at all (0).
+    pub fn refusal(&self, quorum: Quorum, answering: u64) -> u32 {
+        if !self.holds(quorum, answering) {
+            6
+        } else if !self.any_has_all(answering) {
+            7
+        } else {
+            0
+        }
+    }
+
+    /// The bytes that a done read gives.
+    pub fn range(&self, offset: usize, length: usize) -> &[u8] {
+        &self.file[offset..offset + length]
+    }
+
+    pub fn file_len(&self) -> usize {
+        self.file.len()
+    }
+
+    /// The rows that were founded.
+    pub fn rows(&self) -> usize {
+        self.names.len()
+    }
+
+    /// How many writes are done: the value of a done read.
+    pub fn writes(&self) -> usize {
+        self.writes
+    }
+
+    fn holds(&self, quorum: Quorum, set: u64) -> bool {
+        self.layout(self.in_force).holds(quorum, set)
+    }
+
+    fn has_all(&self, row: usize) -> bool {
+        self.has[row - 1].iter().all(|&has| has)
+    }
+
+    fn any_has_all(&self, set: u64) -> bool {
+        rows::members(set).any(|row| self.has_all(row))
+    }
+
+    /// Founded rows lie in the order of their names.
+    fn layout(&self, list: u64) -> Layout {
+        let chain: Vec<usize> = (1..=self.names.len()).collect();
+        Layout::of(list, &chain)
+    }
+}

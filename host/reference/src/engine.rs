@@ -1,0 +1,288 @@
+//! The calls. Each puts its questions in order and is refused by the first no.
+
+use crate::blunder::{self, Blunder};
+use crate::{rows, Layout, Quorum, Row, Table, LIMIT, MAX_FILE, MAX_ROWS, ROW_HEADER};
+
+/// Answers the calls on a table's bytes; with a blunder, wrongly.
+#[derive(Clone, Copy, Debug, Default)]
+pub struct Engine {
+    pub blunder: Option<Blunder>,
+}
+
+/// What the rows of a set say together.
+struct Poll {
+    set: u64,
+    /// The highest epoch in the set, and its list.
+    epoch: u32,
+    list: u64,
+    /// The unmarked rows of the highest version among unmarked rows, and that version.
+    good: u64,
+    version: u32,
+    current: bool,
+}
+
+/// The value, or the number of the question whose answer is no.
+type Answer = Result<u32, u32>;
+
+fn ask(question: u32, yes: bool) -> Result<(), u32> {
+    if yes {
+        Ok(())
+    } else {
+        Err(question)
+    }
+}
+
+fn result(answer: Answer) -> u64 {
+    match answer {
+        Ok(value) => u64::from(value),
+        Err(refusal) => u64::from(refusal) << 32,
+    }
+}
+
+impl Engine {
+    pub fn found(&self, bytes: &mut [u8], capacity: u64, file_len: u64, names: &[u8]) -> u64 {
+        result(found(bytes, capacity, file_len, names))
+    }
+
+    pub fn read(
+        &self,
+        bytes: &[u8],
+        coordinator: u64,
+        answering: u64,
+        offset: u64,
+        length: u64,
+        buffer: &mut [u8],
+    ) -> u64 {
+        result(self.try_read(bytes, coordinator, answering, offset, length, buffer))
+    }
+
+    pub fn write(
+        &self,
+        bytes: &mut [u8],
+        coordinator: u64,
+        answering: u64,
+        offset: u64,
+        patch: &[u8],
+    ) -> u64 {
+        result(self.try_write(bytes, coordinator, answering, offset, patch))
+    }
+
+    pub fn send(&self, bytes: &mut [u8], from: u64, to: u64, answering: u64) -> u64 {
+        result(send(bytes, from, to, answering))
+    }
+
+    pub fn check(&self, bytes: &mut [u8], coordinator: u64, answering: u64) -> u64 {
+        result(self.try_check(bytes, coordinator, answering))
+    }
+
+    fn try_read(
+        &self,
+        bytes: &[u8],
+        coordinator: u64,
+        answering: u64,
+        offset: u64,
+        length: u64,
+        buffer: &mut [u8],
+    ) -> Answer {
+        let table = Table::decode(bytes).ok_or(1u32)?;
+        ask(2, is_used(&table, coordinator) && only_used(&table, answering))?;
+        ask(3, answers(answering, coordinator))?;
+        ask(4, range_fits(&table, offset, length))?;
+        ask(5, buffer.len() as u64 == length)?;
+        let poll = self.settle(&table, coordinator as usize, answering, Quorum::Read)?;
+        let source = if self.makes(Blunder::HighestGood) {
+            rows::members(poll.good).last()
+        } else {
+            rows::members(poll.good).next()
+        };
+        let contents = table.contents(bytes, source.ok_or(7u32)?);
+        buffer.copy_from_slice(&contents[offset as usize..][..buffer.len()]);
+        Ok(poll.version)
+    }
+
+    fn try_write(
+        &self,
+        bytes: &mut [u8],
+        coordinator: u64,
+        answering: u64,
+        offset: u64,
+        patch: &[u8],
+    ) -> Answer {
+        let mut table = Table::decode(bytes).ok_or(1u32)?;
+        ask(2, is_used(&table, coordinator) && only_used(&table, answering))?;
+        ask(3, answers(answering, coordinator))?;
+        ask(4, range_fits(&table, offset, patch.len() as u64))?;
+        let poll = self.settle(&table, coordinator as usize, answering, Quorum::Write)?;
+        ask(8, poll.version < LIMIT)?;
+        let version = poll.version + 1;
+        if self.makes(Blunder::WriteForgotten) {
+            return Ok(version);
+        }
+        let stored = !(self.makes(Blunder::FirstWriteOnly) && poll.version > 0);
+        let desired = if self.makes(Blunder::OldMark) { poll.version } else { version };
+        for row in rows::members(poll.set) {
+            if rows::has(poll.good, row) {
+                table.used[row - 1].version = version;
+                if stored {
+                    table.contents_mut(bytes, row)[offset as usize..][..patch.len()].copy_from_slice(patch);
+                }
+            } else {
+                mark(&mut table.used[row - 1], desired);
+            }
+            table.encode_row(bytes, row);
+        }
+        Ok(version)
+    }
+
+    fn try_check(&self, bytes: &mut [u8], coordinator: u64, answering: u64) -> Answer {
+        let mut table = Table::decode(bytes).ok_or(1u32)?;
+        ask(2, is_used(&table, coordinator) && only_used(&table, answering))?;
+        ask(3, answers(answering, coordinator))?;
+        let poll = self.poll(&table, answering);
+        ask(6, self.holds(&table, &poll, Quorum::Write))?;
+        if answering == poll.list {
+            return Ok(poll.epoch);
+        }
+        ask(7, poll.current)?;
+        ask(8, poll.epoch < LIMIT)?;
+        for row in rows::members(answering) {
+            let state = &mut table.used[row - 1];
+            state.epoch = poll.epoch + 1;
+            state.list = answering;
+            if !rows::has(poll.good, row) {
+                mark(state, poll.version);
+            }
+            table.encode_row(bytes, row);
+        }
+        Ok(poll.epoch + 1)
+    }
+
+    /// The set that a read or write works on: the coordinator's own choice as far as it answered, or else all that answered.
+    fn settle(&self, table: &Table, coordinator: usize, answering: u64, quorum: Quorum) -> Result<Poll, u32> {
+        if self.makes(Blunder::SixByCount) {
+            ask(6, answering.count_ones() as usize > table.used.len() / 2)?;
+        }
+        let own = table.row(coordinator);
+        let choice = Layout::of(own.list, &table.chain).choice(quorum, own.name) & answering;
+        if choice != 0 && !self.makes(Blunder::NoChoice) {
+            let poll = self.poll(table, choice);
+            if self.holds(table, &poll, quorum) && poll.current {
+                return Ok(poll);
+            }
+        }
+        let poll = self.poll(table, answering);
+        ask(6, self.holds(table, &poll, quorum))?;
+        ask(7, poll.current)?;
+        Ok(poll)
+    }
+
+    /// Polls the rows of a set that is not empty.
+    fn poll(&self, table: &Table, set: u64) -> Poll {
+        let mut poll = Poll { set, epoch: 0, list: 0, good: 0, version: 0, current: false };
+        let mut desired = 0;
+        for index in rows::members(set) {
+            let row = table.row(index);
+            if row.epoch >= poll.epoch {
+                (poll.epoch, poll.list) = (row.epoch, row.list);
+            }
+            if row.stale {
+                desired = desired.max(row.desired);
+            } else if row.version > poll.version || poll.good == 0 {
+                (poll.version, poll.good) = (row.version, rows::only(index));
+            } else if row.version == poll.version {
+                poll.good |= rows::only(index);
+            }
+        }
+        poll.current = poll.good != 0 && (desired <= poll.version || self.makes(Blunder::DesiredIgnored));
+        poll
+    }
+
+    /// Does the polled set hold a quorum of the list of its highest epoch?
+    fn holds(&self, table: &Table, poll: &Poll, quorum: Quorum) -> bool {
+        let layout = Layout::of(poll.list, &table.chain);
+        match self.blunder {
+            Some(Blunder::OutsidersCount) => {
+                blunder::holds_with_outsiders(&layout, &table.chain, quorum, poll.set)
+            }
+            Some(Blunder::ShortColumnWhole) => blunder::holds_long_column(&layout, quorum, poll.set),
+            Some(Blunder::AllOfThree) => blunder::holds_all_of_three(&layout, quorum, poll.set),
+            _ => layout.holds(quorum, poll.set),
+        }
+    }
+
+    fn makes(&self, blunder: Blunder) -> bool {
+        self.blunder == Some(blunder)
+    }
+}
+
+fn found(bytes: &mut [u8], capacity: u64, file_len: u64, names: &[u8]) -> Answer {
+    ask(11, names.len().is_multiple_of(2))?;
+    let names: Vec<u16> = names.chunks(2).map(|name| u16::from_le_bytes([name[0], name[1]])).collect();
+    let rising = names.windows(2).all(|pair| pair[0] < pair[1]);
+    ask(11, (1..=MAX_ROWS).contains(&names.len()) && rising && names[0] > 0)?;
+    ask(
+        12,
+        (names.len() as u64..=MAX_ROWS as u64).contains(&capacity)
+            && (1..=MAX_FILE as u64).contains(&file_len),
+    )?;
+    let (capacity, file_len) = (capacity as usize, file_len as usize);
+    ask(12, bytes.len() == Table::length(capacity, file_len))?;
+
+    let used = names.len();
+    let row = |(index, &name): (usize, &u16)| Row {
+        name,
+        next: if index < used { index + 1 } else { 0 },
+        stale: false,
+        version: 0,
+        desired: 0,
+        epoch: 0,
+        list: rows::first(used),
+    };
+    let table = Table {
+        capacity,
+        first: 1,
+        file_len,
+        used: (1..).zip(&names).map(row).collect(),
+        chain: (1..=used).collect(),
+    };
+    bytes.fill(0);
+    table.encode(bytes);
+    Ok(used as u32)
+}
+
+fn send(bytes: &mut [u8], from: u64, to: u64, answering: u64) -> Answer {
+    let mut table = Table::decode(bytes).ok_or(1u32)?;
+    ask(2, is_used(&table, from) && is_used(&table, to) && only_used(&table, answering) && from != to)?;
+    ask(3, answers(answering, from) && answers(answering, to))?;
+    let (from, to) = (from as usize, to as usize);
+    let (sender, receiver) = (*table.row(from), *table.row(to));
+    ask(9, !sender.stale)?;
+    ask(10, receiver.stale && receiver.desired <= sender.version)?;
+    table.used[to - 1] = Row { version: sender.version, stale: false, desired: 0, ..receiver };
+    table.encode_row(bytes, to);
+    let source = table.row_at(from) + ROW_HEADER..table.row_at(from + 1);
+    bytes.copy_within(source, table.row_at(to) + ROW_HEADER);
+    Ok(sender.version)
+}
+
+fn mark(row: &mut Row, desired: u32) {
+    row.stale = true;
+    row.desired = desired;
+}
+
+fn is_used(table: &Table, row: u64) -> bool {
+    (1..=table.used.len() as u64).contains(&row)
+}
+
+fn only_used(table: &Table, set: u64) -> bool {
+    set & !table.all_used() == 0
+}
+
+/// Is the row, which is used, in the answering set?
+fn answers(answering: u64, row: u64) -> bool {
+    rows::has(answering, row as usize)
+}
+
+fn range_fits(table: &Table, offset: u64, length: u64) -> bool {
+    length >= 1 && u128::from(offset) + u128::from(length) <= table.file_len as u128
+}
