@@ -2,10 +2,12 @@
 use mathlib.Core.Path.{_≡_, refl, sym, _∙_, ap, ap₂}
 use mathlib.Core.Bool.{Bool, true, false, _&&_, and-true}
 use mathlib.Core.List.{List, [], _∷_, _++_, append-nil}
-use Prim.Native.Nat.{ℕ, zero, suc, _+_, _-_, _*_, _/_, _%_, _^_, _≤_, _<_}
+use Prim.Native.Nat.{ℕ, zero, suc, _+_, _-_, _*_, _/_, _%_, _^_, _≤_, _<_, max}
 use native.Mathlib.Nat.{add-zero, mul-comm}
 use native.Mathlib.Numerals.{add-one}
+use native.Mathlib.Decide.{ℕ-discrete}
 use native.Mathlib.Omega.{arith}
+use borrow.Author.Tests.{eq-eqb, ne-eqb}
 use lib.Dec.{eqb}
 use lib.ListN.{length, getD, take, drop, set, length-take, length-drop}
 use lib.Seq.{drop-drop, take-add, take-all, take-suc, take-suc-set, append-snoc, drop-cons, drop-length}
@@ -75,6 +77,14 @@ and-assoc true b c = refl
 and-assoc false b c = refl
 
 -- ---- all_zero: what was seen so far, and the rest
+pub larger-zero : (m x : ℕ) → eqb (max m x) 0 ≡ (eqb m 0 && eqb x 0)
+larger-zero m x = go (ℕ-discrete m 0) (ℕ-discrete x 0)
+  where
+    go : Dec (m ≡ 0) → Dec (x ≡ 0) → eqb (max m x) 0 ≡ (eqb m 0 && eqb x 0)
+    go (yes a) (yes b) = rw (eq-eqb m 0 a, eq-eqb x 0 b) (eq-eqb (max m x) 0 (omega arith))
+    go (yes a) (no b) = rw (eq-eqb m 0 a, ne-eqb x 0 b) (ne-eqb (max m x) 0 (λ e. b (omega arith)))
+    go (no a) d = rw (ne-eqb m 0 a) (ne-eqb (max m x) 0 (λ e. a (omega arith)))
+
 module _ (s : List ℕ) (i : ℕ) (ok : Bool) (so-far : (ok && allZero (drop i s)) ≡ allZero s) where
   pub zero-turn : (r : Bool) → i < length s → r ≡ (ok && eqb (getD s i 0) 0) → (r && allZero (drop (i + 1) s)) ≡ allZero s
   unfolding allZero

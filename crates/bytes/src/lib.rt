@@ -1,7 +1,7 @@
 // Bytes: numbers in them, low byte first; bytes copied; bytes that are all 0; and tests.
 ghost use mathlib.Core.Path.{_≡_};
 ghost use mathlib.Core.Bool.{cond, _&&_, _||_};
-ghost use Prim.Native.Nat.{_+_, _≤_};
+ghost use Prim.Native.Nat.{_+_, _≤_, max};
 ghost use lib.ListN.{length};
 ghost use Rattle.bytes.specs.Bytes.{number, bytesOf, part, put, allZero};
 
@@ -67,17 +67,24 @@ pub fn copy(to: &mut [u8], from: &[u8])
     }
 }
 
-// Are all bytes 0? (It does not stop at the first that is not: so it takes many at a time.)
+// The larger of two bytes.
+fn larger(a: u8, b: u8) -> u8
+    ensures { λ r. ⌜ r ≡ max a b ⌝ }
+{
+    if a < b { b } else { a }
+}
+
+// Are all bytes 0? The largest is. (It does not stop at the first that is not: so it takes many at a time.)
 pub fn all_zero(s: &[u8]) -> bool
     ensures { λ r. ⌜ r ≡ allZero (now (s .entry)) ⌝ }
 {
-    let mut ok = true;
+    let mut most: u8 = 0;
     let mut i = 0;
     while i < s.len() {
-        ok = both(ok, s[i] == 0);
+        most = larger(most, s[i]);
         i += 1;
     }
-    ok
+    most == 0
 }
 
 // ---- tests without branches in the caller: a loop that gathers one stays straight

@@ -1,28 +1,29 @@
 use mathlib.Core.Bool.{_&&_}
-use mathlib.Core.Path.{_≡_, refl}
-use Prim.Native.Nat.{_-_, _≤_}
+use mathlib.Core.Path.{_≡_, refl, _∙_, ap}
+use Prim.Native.Nat.{ℕ, _-_, _≤_}
 use native.Mathlib.Omega.{arith}
 use borrow.Author.Needs.{needs}
-use lib.ListN.{length, drop}
-use Rattle.bytes.proofs.CodeLaws.{zero-turn, zero-end}
+use lib.Dec.{eqb}
+use lib.ListN.{length, getD, drop}
+use Rattle.bytes.proofs.CodeLaws.{larger-zero, zero-turn, zero-end}
 use Rattle.bytes.specs.Bytes.{allZero}
 use Rattle.bytes.proofs.all_zero.Statement.{statement}
 use Rattle.bytes.proofs.all_zero.Tie as tie
 
 abbrev Inv-loop : tie.InvT-loop
-Inv-loop s ok₀ i₀ ok i = (i ≤ length s) × ((ok && allZero (drop i s)) ≡ allZero s)
+Inv-loop s most₀ i₀ most i = (i ≤ length s) × ((eqb most 0 && allZero (drop i s)) ≡ allZero s)
 
 abbrev μ-loop : tie.MeasureT-loop
-μ-loop s ok₀ i₀ ok i = length s - i
+μ-loop s most₀ i₀ most i = length s - i
 
 loop-holds : tie.Need-loop-holds Inv-loop μ-loop
 loop-holds c = (omega arith, refl)
 
-shared-slice-read-both : tie.Need-shared-slice-read-both Inv-loop μ-loop
-shared-slice-read-both c = search needs
+shared-slice-read-larger : tie.Need-shared-slice-read-larger Inv-loop μ-loop
+shared-slice-read-larger c = search needs
 
-both-requires : tie.Need-both-requires Inv-loop μ-loop
-both-requires c κs = search needs
+larger-requires : tie.Need-larger-requires Inv-loop μ-loop
+larger-requires c κs = search needs
 
 add-i : tie.Need-add-i Inv-loop μ-loop
 add-i c = search needs
@@ -32,10 +33,12 @@ loop-less c = search needs
 
 loop-again : tie.Need-loop-again Inv-loop μ-loop
 loop-again c =
-    let l = c .before .before .before .loop in (omega arith, zero-turn _ (l .i) (l .ok) (l .inv .1) (c .both .result) (omega arith) (c .both .ensures))
+    let l = c .before .before .before .loop in
+    let s = c .before .before .before .before .before .args .s .now in
+    (omega arith, zero-turn s (l .i) (eqb (l .most) 0) (l .inv .1) (eqb (c .larger .result) 0) (omega arith) (ap (λ (x : ℕ). eqb x 0) (c .larger .ensures) ∙ larger-zero (l .most) (getD s (l .i) 0)))
 
 returns : tie.Need-returns Inv-loop μ-loop
-returns c = let l = c .before .loop in zero-end _ (l .i) (l .ok) (l .inv .1) (omega arith)
+returns c = let l = c .before .loop in zero-end _ (l .i) (eqb (l .most) 0) (l .inv .1) (omega arith)
 
 pub all-zero-spec : {M : Type 1} → statement M
 all-zero-spec =
@@ -44,8 +47,8 @@ all-zero-spec =
     Inv-loop
     μ-loop
     loop-holds
-    shared-slice-read-both
-    both-requires
+    shared-slice-read-larger
+    larger-requires
     add-i
     loop-less
     loop-again
