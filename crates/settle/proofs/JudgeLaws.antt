@@ -8,7 +8,7 @@ use Rattle.rows.specs.Upto.{some, most}
 use Rattle.rows.specs.Sets.{has, cutTo, leftOf}
 use Rattle.quorums.specs.declared.quorums.Kind.{Kind}
 use Rattle.table.specs.Chain.{orderOf}
-use Rattle.protocol.specs.Polls.{unmarked, marked, goodVersion, good, current, quorumHeld}
+use Rattle.protocol.specs.Polls.{highestEpoch, inForce, unmarked, marked, goodVersion, good, current, quorumHeld}
 use Rattle.protocol.specs.Calls.{answers}
 use Rattle.polls.specs.declared.Poll.{Poll}
 use Rattle.polls.specs.Shows.{placed}
@@ -47,6 +47,10 @@ module _ (t rows : List ℕ) (count : ℕ) (p : Poll) (r : ℕ) (g : Gathered t 
       (ap₂ (λ (v : ℕ → Bool) (f : ℕ → ℕ). some 64 (λ (i : ℕ). v i && ltb w (f i))) (e ∙ marked-is) (g .poll .desired)
       ∙ ap (λ (x : ℕ). some 64 (λ (i : ℕ). marked (answers t r) s i && ltb x (answers t r .desired i))) h)
 
+  epoch-is : most 64 s (placed (p .epochs)) ≡ highestEpoch (answers t r) s
+  unfolding highestEpoch
+  epoch-is = ap (most 64 s) (g .poll .epochs)
+
   pub judged : (kind : Kind) (v : Verdict) (u m : ℕ → Bool) (lacking passed held : Bool) → u ≡ leftOf s (has (p .stale .bits))
       → m ≡ cutTo s (has (p .stale .bits))
       → v .version ≡ most 64 u (placed (p .versions))
@@ -54,8 +58,10 @@ module _ (t rows : List ℕ) (count : ℕ) (p : Poll) (r : ℕ) (g : Gathered t 
       → passed ≡ some 64 (λ (i : ℕ). m i && ltb (v .version) (placed (p .desired) i))
       → lacking ≡ not (some 64 (has (v .good .bits)))
       → held ≡ quorumHeld kind (orderOf t) (answers t r) s
-      → v .refusal ≡ cond held (cond (not lacking && not passed) 0 7) 6 → Judged kind t r s v
-  judged kind v u m lacking passed held eu em ev eg ep el eh er =
+      → v .refusal ≡ cond held (cond (not lacking && not passed) 0 7) 6
+      → v .epoch ≡ most 64 s (placed (p .epochs))
+      → v .list .bits ≡ inForce (answers t r) s → Judged kind t r s v
+  judged kind v u m lacking passed held eu em ev eg ep el eh er ee ef =
       let version = ev ∙ version-is u eu in
       let best = eg ∙ good-is u (v .version) eu version in
       record {
@@ -63,4 +69,6 @@ module _ (t rows : List ℕ) (count : ℕ) (p : Poll) (r : ℕ) (g : Gathered t 
             (ap₂ (λ (a b : Bool). not a && not b) el ep ∙ current-is m (v .version) (has (v .good .bits)) em version best);
         good = best;
         version = version;
+        epoch = ee ∙ epoch-is;
+        list = ef;
       }

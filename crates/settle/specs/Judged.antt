@@ -9,7 +9,7 @@ use Rattle.quorums.specs.declared.quorums.Kind.{Kind}
 use Rattle.fields.specs.Layout.{usedOf}
 use Rattle.table.specs.Chain.{orderOf}
 use Rattle.table.specs.Contracts.{Sized}
-use Rattle.protocol.specs.Polls.{goodVersion, good, current, quorumHeld}
+use Rattle.protocol.specs.Polls.{highestEpoch, inForce, goodVersion, good, current, quorumHeld}
 use Rattle.protocol.specs.Calls.{answers}
 use Rattle.polls.specs.declared.Poll.{Poll}
 use Rattle.polls.specs.Shows.{Shows}
@@ -24,8 +24,10 @@ pub record Gathered (t rows : List ℕ) (count : ℕ) (p : Poll) (r : ℕ) : Typ
   pub poll : Shows p (answers t r)
   pub used : r < 2 ^ usedOf t
 
--- of a set: the first no among 6 and 7 (0: none), the good rows, their version
+-- of a set: the first no among 6 and 7 (0: none), the good rows, their version, the highest epoch, its list
 pub record Judged (kind : Kind) (t : List ℕ) (r : ℕ) (s : ℕ → Bool) (v : Verdict) : Type 0 where
   pub refusal : v .refusal ≡ cond (quorumHeld kind (orderOf t) (answers t r) s) (cond (current (answers t r) s) 0 7) 6
   pub good : has (v .good .bits) ≡ good (answers t r) s
   pub version : v .version ≡ goodVersion (answers t r) s
+  pub epoch : v .epoch ≡ highestEpoch (answers t r) s
+  pub list : v .list .bits ≡ inForce (answers t r) s

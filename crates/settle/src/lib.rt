@@ -5,20 +5,26 @@ use quorums::Kind;
 use rows::RowSet;
 use table::Order;
 ghost use mathlib.Core.Path.{_≡_};
-ghost use mathlib.Core.Bool.{true, cond};
-ghost use Prim.Native.Nat.{ℕ};
+ghost use mathlib.Core.Bool.{true, cond, _&&_};
+ghost use Prim.Native.Nat.{ℕ, _≤_};
+ghost use lib.ListN.{length, take};
+ghost use Rattle.rows.specs.Upto.{some, most};
 ghost use Rattle.rows.specs.Sets.{has};
 ghost use Rattle.fields.specs.Layout.{nameOf};
-ghost use Rattle.protocol.specs.Polls.{highestEpoch, inForce, current, quorumHeld};
+ghost use Rattle.protocol.specs.Lists.{listQuorum};
+ghost use Rattle.protocol.specs.Polls.{inForce};
 ghost use Rattle.protocol.specs.Calls.{answers, workSet};
 ghost use Rattle.table.specs.Chain.{orderOf};
+ghost use Rattle.polls.specs.Shows.{placed};
 ghost use Rattle.settle.specs.Judged.{Gathered, Judged};
 
-// Of a set: the first no among questions 6 and 7 (0: none), its good rows, their version.
+// Of a set: the first no among questions 6 and 7 (0: none), its good rows, their version, the highest epoch and its list V.
 pub struct Verdict {
     pub refusal: u32,
     pub good: RowSet,
     pub version: u32,
+    pub epoch: u32,
+    pub list: RowSet,
 }
 
 // The set that a call works on, and what is found of it.
@@ -27,20 +33,11 @@ pub struct Settled {
     pub verdict: Verdict,
 }
 
-// The highest epoch in a set.
-pub fn highest_epoch(t: &[u8], o: Order, p: Poll, answering: RowSet, s: RowSet) -> u32
-    requires { ⌜ Gathered (now t) (o .rows) (o .count) p (answering .bits) ⌝ }
-    ensures { λ r. ⌜ r ≡ highestEpoch (answers (now (t .entry)) (answering .bits)) (has (s .bits)) ⌝ }
-{
-    polls::highest(&p.epochs, s)
-}
-
 // V: the list of the highest epoch in a set of rows that answered.
-pub fn list_in_force(t: &[u8], o: Order, p: Poll, answering: RowSet, s: RowSet) -> RowSet
-    requires { ⌜ Gathered (now t) (o .rows) (o .count) p (answering .bits) × ((i : ℕ) → has (s .bits) i ≡ true → has (answering .bits) i ≡ true) ⌝ }
+fn list_in_force(t: &[u8], o: Order, p: Poll, answering: RowSet, s: RowSet, epoch: u32) -> RowSet
+    requires { ⌜ Gathered (now t) (o .rows) (o .count) p (answering .bits) × ((i : ℕ) → has (s .bits) i ≡ true → has (answering .bits) i ≡ true) × (epoch ≡ most 64 (has (s .bits)) (placed (p .epochs))) ⌝ }
     ensures { λ r. ⌜ r .bits ≡ inForce (answers (now (t .entry)) (answering .bits)) (has (s .bits)) ⌝ }
 {
-    let epoch = polls::highest(&p.epochs, s);
     let leader = polls::having(&p.epochs, s, epoch).lowest();
     if leader == 0 {
         return RowSet::EMPTY;
@@ -50,15 +47,14 @@ pub fn list_in_force(t: &[u8], o: Order, p: Poll, answering: RowSet, s: RowSet) 
     }
 }
 
-// Question 6 about a set of rows that answered.
-pub fn quorum_held(kind: Kind, t: &[u8], o: Order, p: Poll, answering: RowSet, s: RowSet) -> bool
-    requires { ⌜ Gathered (now t) (o .rows) (o .count) p (answering .bits) × ((i : ℕ) → has (s .bits) i ≡ true → has (answering .bits) i ≡ true) ⌝ }
-    ensures { λ r. ⌜ r ≡ quorumHeld kind (orderOf (now (t .entry))) (answers (now (t .entry)) (answering .bits)) (has (s .bits)) ⌝ }
+// Question 6: does a set hold a quorum of a list? An empty one does not.
+fn quorum_held(kind: Kind, o: Order, list: RowSet, s: RowSet) -> bool
+    requires { ⌜ (length (o .rows) ≡ 64) × (o .count ≤ 64) ⌝ }
+    ensures { λ r. ⌜ r ≡ (some 64 (has (s .bits)) && listQuorum kind (take (o .count) (o .rows)) (list .bits) (has (s .bits))) ⌝ }
 {
     if s.is_empty() {
         return false;
     }
-    let list = list_in_force(t, o, p, answering, s);
     let count = o.count;
     lists::quorum(kind, &o.rows, count, list, s)
 }
@@ -76,7 +72,7 @@ fn refusal_of(held: bool, current: bool) -> u32
     6
 }
 
-// Questions 6 and 7 about a set of rows that answered, its good rows and their version.
+// Questions 6 and 7 about a set of rows that answered, and what is found on the way.
 pub fn judge(kind: Kind, t: &[u8], o: Order, p: Poll, answering: RowSet, s: RowSet) -> Verdict
     requires { ⌜ Gathered (now t) (o .rows) (o .count) p (answering .bits) × ((i : ℕ) → has (s .bits) i ≡ true → has (answering .bits) i ≡ true) ⌝ }
     ensures { λ r. ⌜ Judged kind (now (t .entry)) (answering .bits) (has (s .bits)) r ⌝ }
@@ -87,11 +83,15 @@ pub fn judge(kind: Kind, t: &[u8], o: Order, p: Poll, answering: RowSet, s: RowS
     let good = polls::having(&p.versions, unmarked, version);
     let passed = polls::above(&p.desired, marked, version);
     let lacking = good.is_empty();
-    let held = quorum_held(kind, t, o, p, answering, s);
+    let epoch = polls::highest(&p.epochs, s);
+    let list = list_in_force(t, o, p, answering, s, epoch);
+    let held = quorum_held(kind, o, list, s);
     Verdict {
         refusal: refusal_of(held, both(!lacking, !passed)),
         good: good,
         version: version,
+        epoch: epoch,
+        list: list,
     }
 }
 

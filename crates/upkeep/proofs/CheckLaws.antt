@@ -45,8 +45,7 @@ module _ (t : List ℕ) (c r : ℕ) where
   unfolding questions byCoordinator
   check-early n e h = refused-is t (check c r) n (asked-more (byCoordinator t c r []) _ (omega (arith, e)) ∙ sym e) h
 
-  module _ (p : firstNo (byCoordinator t c r []) ≡ 0) (v : Verdict) (list epoch : ℕ) (j : Judged Write t r (has r) v)
-      (el : list ≡ inForce (answers t r) (has r)) (ee : epoch ≡ highestEpoch (answers t r) (has r)) where
+  module _ (p : firstNo (byCoordinator t c r []) ≡ 0) (v : Verdict) (j : Judged Write t r (has r) v) where
     abbrev Q : Bool
     Q = quorumHeld Write (orderOf t) (answers t r) (has r)
 
@@ -54,10 +53,10 @@ module _ (t : List ℕ) (c r : ℕ) where
     K = current (answers t r) (has r)
 
     -- what is still asked, s being the answer whether R is the list in force
-    after : (s : Bool) → eqb r list ≡ s → firstNo (questions t (check c r)) ≡ cond Q (cond (s || K) (cond (s || ltb epoch limit) 0 8) 7) 6
+    after : (s : Bool) → eqb r (v .list .bits) ≡ s → firstNo (questions t (check c r)) ≡ cond Q (cond (s || K) (cond (s || ltb (v .epoch) limit) 0 8) 7) 6
     unfolding questions firstNo
     after s e = after-three t c r _ p
-        ∙ ap₂ {C = ℕ} (λ (b : Bool) (n : ℕ). cond Q (cond (b || K) (cond (b || ltb n limit) 0 8) 7) 6) (ap (eqb r) (sym el) ∙ e) (sym ee)
+        ∙ ap₂ {C = ℕ} (λ (b : Bool) (n : ℕ). cond Q (cond (b || K) (cond (b || ltb n limit) 0 8) 7) 6) (ap (eqb r) (sym (j .list)) ∙ e) (sym (j .epoch))
 
     -- refused by 6
     pub check-lacks : v .refusal ≡ 6 → Refused t (check c r) 6
@@ -65,41 +64,41 @@ module _ (t : List ℕ) (c r : ℕ) where
 
     module _ (h : v .refusal ≡ 6 → ⊥) where
       -- R is the list in force
-      pub check-same : list ≡ r → (0 * 2 ^ 32 + epoch ≡ resultOf (outcome t (check c r))) × (t ≡ outcome t (check c r) .table)
+      pub check-same : v .list .bits ≡ r → (0 * 2 ^ 32 + v .epoch ≡ resultOf (outcome t (check c r))) × (t ≡ outcome t (check c r) .table)
       unfolding done resultOf
       check-same s =
-          let same = eq-eqb r list (sym s) in
+          let same = eq-eqb r (v .list .bits) (sym s) in
           let o = when-done t (check c r) (refusal-is t (check c r) ∙ after true same ∙ quorum Q K (v .refusal) 0 (j .refusal) h) in
-          let is : eqb r (inForce (answers t r) (has r)) ≡ true = ap (eqb r) (sym el) ∙ same in (
-            ap (λ (n : ℕ). 0 * 2 ^ 32 + n) ee ∙ sym (ap resultOf o ∙ ap (λ (b : Bool). 0 * 2 ^ 32 + cond b (highestEpoch (answers t r) (has r)) (highestEpoch (answers t r) (has r) + 1)) is),
+          let is : eqb r (inForce (answers t r) (has r)) ≡ true = ap (eqb r) (sym (j .list)) ∙ same in (
+            ap (λ (n : ℕ). 0 * 2 ^ 32 + n) (j .epoch) ∙ sym (ap resultOf o ∙ ap (λ (b : Bool). 0 * 2 ^ 32 + cond b (highestEpoch (answers t r) (has r)) (highestEpoch (answers t r) (has r) + 1)) is),
             sym (ap (λ (x : Outcome). x .table) o ∙ ap (λ (b : Bool). cond b t (withRows t (has r) (checkedRow (good (answers t r) (has r)) (goodVersion (answers t r) (has r)) (highestEpoch (answers t r) (has r) + 1) r) (usedOf t))) is),
           )
 
-      module _ (d : list ≡ r → ⊥) where
-        other : eqb r list ≡ false
-        other = ne-eqb r list (λ e. d (sym e))
+      module _ (d : v .list .bits ≡ r → ⊥) where
+        other : eqb r (v .list .bits) ≡ false
+        other = ne-eqb r (v .list .bits) (λ e. d (sym e))
 
         -- refused by 7
         pub check-old : 1 ≤ v .refusal → Refused t (check c r) (v .refusal)
         check-old g = refused-is t (check c r) (v .refusal) (after false other ∙ quorum Q K (v .refusal) _ (j .refusal) h ∙ not-current Q K (v .refusal) _ (j .refusal) h g) g
 
         module _ (z : v .refusal ≡ 0) where
-          after-seven : firstNo (questions t (check c r)) ≡ cond (ltb epoch limit) 0 8
+          after-seven : firstNo (questions t (check c r)) ≡ cond (ltb (v .epoch) limit) 0 8
           after-seven = after false other ∙ quorum Q K (v .refusal) _ (j .refusal) h ∙ is-current Q K (v .refusal) _ (j .refusal) z
 
           -- refused by 8
-          pub check-full : ltb epoch limit ≡ false → Refused t (check c r) 8
+          pub check-full : ltb (v .epoch) limit ≡ false → Refused t (check c r) 8
           check-full l = refused-is t (check c r) 8 (after-seven ∙ ap (λ (b : Bool). cond b 0 8) l) (omega arith)
 
-          pub check-done : ltb epoch limit ≡ true
-              → (0 * 2 ^ 32 + (epoch + 1) ≡ resultOf (outcome t (check c r)))
-              × (withRows t (has r) (checkedRow (has (v .good .bits)) (v .version) (epoch + 1) r) (usedOf t) ≡ outcome t (check c r) .table)
+          pub check-done : ltb (v .epoch) limit ≡ true
+              → (0 * 2 ^ 32 + (v .epoch + 1) ≡ resultOf (outcome t (check c r)))
+              × (withRows t (has r) (checkedRow (has (v .good .bits)) (v .version) (v .epoch + 1) r) (usedOf t) ≡ outcome t (check c r) .table)
           unfolding done resultOf
           check-done l =
               let o = when-done t (check c r) (refusal-is t (check c r) ∙ after-seven ∙ ap (λ (b : Bool). cond b 0 8) l) in
-              let is : eqb r (inForce (answers t r) (has r)) ≡ false = ap (eqb r) (sym el) ∙ other in (
-                ap (λ (n : ℕ). 0 * 2 ^ 32 + (n + 1)) ee ∙ sym (ap resultOf o ∙ ap (λ (b : Bool). 0 * 2 ^ 32 + cond b (highestEpoch (answers t r) (has r)) (highestEpoch (answers t r) (has r) + 1)) is),
-                ap₂ (λ (g : ℕ → Bool) (n : ℕ). withRows t (has r) (checkedRow g n (epoch + 1) r) (usedOf t)) (j .good) (j .version)
-                    ∙ ap (λ (n : ℕ). withRows t (has r) (checkedRow (good (answers t r) (has r)) (goodVersion (answers t r) (has r)) (n + 1) r) (usedOf t)) ee
+              let is : eqb r (inForce (answers t r) (has r)) ≡ false = ap (eqb r) (sym (j .list)) ∙ other in (
+                ap (λ (n : ℕ). 0 * 2 ^ 32 + (n + 1)) (j .epoch) ∙ sym (ap resultOf o ∙ ap (λ (b : Bool). 0 * 2 ^ 32 + cond b (highestEpoch (answers t r) (has r)) (highestEpoch (answers t r) (has r) + 1)) is),
+                ap₂ (λ (g : ℕ → Bool) (n : ℕ). withRows t (has r) (checkedRow g n (v .epoch + 1) r) (usedOf t)) (j .good) (j .version)
+                    ∙ ap (λ (n : ℕ). withRows t (has r) (checkedRow (good (answers t r) (has r)) (goodVersion (answers t r) (has r)) (n + 1) r) (usedOf t)) (j .epoch)
                     ∙ sym (ap (λ (x : Outcome). x .table) o ∙ ap (λ (b : Bool). cond b t (withRows t (has r) (checkedRow (good (answers t r) (has r)) (goodVersion (answers t r) (has r)) (highestEpoch (answers t r) (has r) + 1) r) (usedOf t))) is),
               )

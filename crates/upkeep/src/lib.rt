@@ -16,8 +16,7 @@ ghost use Rattle.rows.specs.Sets.{has};
 ghost use Rattle.quorums.specs.declared.quorums.Kind.the-variants.{Write};
 ghost use Rattle.fields.specs.Layout.{get, mark, version, desired, usedOf};
 ghost use Rattle.table.specs.WellFormed.{between, onlyRows, wellFormed};
-ghost use Rattle.protocol.specs.Polls.{highestEpoch, inForce};
-ghost use Rattle.protocol.specs.Calls.{firstNo, questions, answers, resultOf, outcome, send, check};
+ghost use Rattle.protocol.specs.Calls.{firstNo, questions, resultOf, outcome, send, check};
 ghost use Rattle.settle.specs.Judged.{Judged};
 
 // Question 2 of a send: are these two used rows, and are those that answered used ones?
@@ -77,25 +76,14 @@ pub fn send(t: &mut [u8], from: usize, to: usize, r: u64) -> u64
     result(0, version)
 }
 
-// Of the rows that answered: questions 6 and 7, the highest epoch and its list.
-struct Findings {
-    verdict: Verdict,
-    epoch: u32,
-    list: RowSet,
-}
-
-// What an epoch check finds, by one poll.
-fn examine(t: &[u8], answering: RowSet) -> Findings
+// What an epoch check finds of the rows that answered, by one poll.
+fn examine(t: &[u8], answering: RowSet) -> Verdict
     requires { ⌜ (wellFormed (now t) ≡ true) × (answering .bits < 2 ^ usedOf (now t)) ⌝ }
-    ensures { λ r. ⌜ Judged Write (now (t .entry)) (answering .bits) (has (answering .bits)) (r .verdict) × (r .epoch ≡ highestEpoch (answers (now (t .entry)) (answering .bits)) (has (answering .bits))) × (r .list .bits ≡ inForce (answers (now (t .entry)) (answering .bits)) (has (answering .bits))) ⌝ }
+    ensures { λ r. ⌜ Judged Write (now (t .entry)) (answering .bits) (has (answering .bits)) r ⌝ }
 {
     let order = table::chain_order(t);
     let poll = polls::gather(t, answering);
-    Findings {
-        verdict: settle::judge(Kind::Write, t, order, poll, answering, answering),
-        epoch: settle::highest_epoch(t, order, poll, answering, answering),
-        list: settle::list_in_force(t, order, poll, answering, answering),
-    }
+    settle::judge(Kind::Write, t, order, poll, answering, answering)
 }
 
 // An epoch check: the rows that answered become the list of a new epoch, unless they are the list in force.
@@ -108,20 +96,20 @@ pub fn check(t: &mut [u8], c: usize, r: u64) -> u64
     if no != 0 {
         return result(no, 0);
     }
-    let f = examine(t, answering);
-    if f.verdict.refusal == 6 {
+    let v = examine(t, answering);
+    if v.refusal == 6 {
         return result(6, 0);
     }
-    if f.list.bits == r {
-        return result(0, f.epoch);
+    if v.list.bits == r {
+        return result(0, v.epoch);
     }
-    if f.verdict.refusal != 0 {
-        return result(f.verdict.refusal, 0);
+    if v.refusal != 0 {
+        return result(v.refusal, 0);
     }
-    if !below_limit(f.epoch) {
+    if !below_limit(v.epoch) {
         return result(8, 0);
     }
-    let epoch = f.epoch + 1;
-    store::check_rows(t, answering, f.verdict.good, f.verdict.version, epoch);
+    let epoch = v.epoch + 1;
+    store::check_rows(t, answering, v.good, v.version, epoch);
     result(0, epoch)
 }

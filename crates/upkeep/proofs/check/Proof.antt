@@ -21,7 +21,7 @@ asked : (c : tie.Else1) → let a = c .before .before .before .before .args in B
 asked c = passed-first _ _ _ [] (passed c) .0
 
 -- 6 is passed
-held : (c : tie.Else2) → c .before .before .examine .result .verdict .refusal ≡ 6 → ⊥
+held : (c : tie.Else2) → c .before .before .examine .result .refusal ≡ 6 → ⊥
 held c e = omega (arith, e)
 
 -- R is another list
@@ -29,7 +29,7 @@ other : (c : tie.Else3) → c .before .before .before .before .examine .result .
 other c e = omega (arith, e)
 
 -- 7 is passed
-current-here : (c : tie.Else4) → c .before .before .before .before .before .before .examine .result .verdict .refusal ≡ 0
+current-here : (c : tie.Else4) → c .before .before .before .before .before .before .examine .result .refusal ≡ 0
 current-here c = omega arith
 
 -- 8 is passed
@@ -63,8 +63,8 @@ same-length-2 c = search needs
 returns-2 : tie.Need-returns-2
 returns-2 c =
     let a = c .before .before .before .before .before .before .before .before .before .args in
-    let f = c .before .before .before .examine in
-    let no = check-lacks (a .t .now) (a .c) (a .r) (passed (c .before .before .before .before .before)) (f .result .verdict) _ _ (f .ensures .0) (f .ensures .2) (f .ensures .1) (omega arith) in
+    let v = c .before .before .before .examine in
+    let no = check-lacks (a .t .now) (a .c) (a .r) (passed (c .before .before .before .before .before)) (v .result) (v .ensures) (omega arith) in
     (c .result2 .ensures ∙ no .result, no .table)
 
 result-requires-3 : tie.Need-result-requires-3
@@ -76,8 +76,8 @@ same-length-3 c = search needs
 returns-3 : tie.Need-returns-3
 returns-3 c =
     let a = c .before .before .before .before .before .before .before .before .before .before .before .args in
-    let f = c .before .before .before .before .before .examine in
-    let yes = check-same (a .t .now) (a .c) (a .r) (passed (c .before .before .before .before .before .before .before)) (f .result .verdict) _ _ (f .ensures .0) (f .ensures .2) (f .ensures .1) (held (c .before .before .before)) (omega arith) in
+    let v = c .before .before .before .before .before .examine in
+    let yes = check-same (a .t .now) (a .c) (a .r) (passed (c .before .before .before .before .before .before .before)) (v .result) (v .ensures) (held (c .before .before .before)) (omega arith) in
     (c .result3 .ensures ∙ yes .0, yes .1)
 
 result-requires-4 : tie.Need-result-requires-4
@@ -89,8 +89,8 @@ same-length-4 c = search needs
 returns-4 : tie.Need-returns-4
 returns-4 c =
     let a = c .before .before .before .before .before .before .before .before .before .before .before .before .before .args in
-    let f = c .before .before .before .before .before .before .before .examine in
-    let no = check-old (a .t .now) (a .c) (a .r) (passed (c .before .before .before .before .before .before .before .before .before)) (f .result .verdict) _ _ (f .ensures .0) (f .ensures .2) (f .ensures .1) (held (c .before .before .before .before .before)) (other (c .before .before .before)) (omega arith) in
+    let v = c .before .before .before .before .before .before .before .examine in
+    let no = check-old (a .t .now) (a .c) (a .r) (passed (c .before .before .before .before .before .before .before .before .before)) (v .result) (v .ensures) (held (c .before .before .before .before .before)) (other (c .before .before .before)) (omega arith) in
     (c .result4 .ensures ∙ no .result, no .table)
 
 below-limit-requires : tie.Need-below-limit-requires
@@ -105,8 +105,8 @@ same-length-5 c = search needs
 returns-5 : tie.Need-returns-5
 returns-5 c =
     let a = c .before .before .before .before .before .before .before .before .before .before .before .before .before .before .before .args in
-    let f = c .before .before .before .before .before .before .before .before .before .examine in
-    let no = check-full (a .t .now) (a .c) (a .r) (passed (c .before .before .before .before .before .before .before .before .before .before .before)) (f .result .verdict) _ _ (f .ensures .0) (f .ensures .2) (f .ensures .1) (held (c .before .before .before .before .before .before .before)) (other (c .before .before .before .before .before)) (current-here (c .before .before .before))
+    let v = c .before .before .before .before .before .before .before .before .before .examine in
+    let no = check-full (a .t .now) (a .c) (a .r) (passed (c .before .before .before .before .before .before .before .before .before .before .before)) (v .result) (v .ensures) (held (c .before .before .before .before .before .before .before)) (other (c .before .before .before .before .before)) (current-here (c .before .before .before))
     (sym (c .before .before .below-limit .ensures) ∙ not-true _ (c .before .if5 .taken)) in
     (c .result5 .ensures ∙ no .result, no .table)
 
@@ -126,8 +126,8 @@ same-length-6 c = search needs
 returns-6 : tie.Need-returns-6
 returns-6 c =
     let a = c .before .before .before .before .before .before .before .before .before .before .before .before .before .before .before .before .before .before .before .before .args in
-    let f = c .before .before .before .before .before .before .before .before .before .before .before .before .before .before .examine in
-    let yes = check-done (a .t .now) (a .c) (a .r) (passed (c .before .before .before .before .before .before .before .before .before .before .before .before .before .before .before .before)) (f .result .verdict) _ _ (f .ensures .0) (f .ensures .2) (f .ensures .1) (held (c .before .before .before .before .before .before .before .before .before .before .before .before)) (other (c .before .before .before .before .before .before .before .before .before .before)) (current-here (c .before .before .before .before .before .before .before .before)) (room (c .before .before .before .before .before .before)) in
+    let v = c .before .before .before .before .before .before .before .before .before .before .before .before .before .before .examine in
+    let yes = check-done (a .t .now) (a .c) (a .r) (passed (c .before .before .before .before .before .before .before .before .before .before .before .before .before .before .before .before)) (v .result) (v .ensures) (held (c .before .before .before .before .before .before .before .before .before .before .before .before)) (other (c .before .before .before .before .before .before .before .before .before .before)) (current-here (c .before .before .before .before .before .before .before .before)) (room (c .before .before .before .before .before .before)) in
     (c .result6 .ensures ∙ yes .0, c .before .before .before .check-rows .ensures ∙ yes .1)
 
 pub check-spec : {M : Type 1} → statement M

@@ -22,12 +22,6 @@ gather-requires c κs = let s = c .before .before in (sized (s .pre .0), s .pre 
 judge-requires : tie.Need-judge-requires
 judge-requires c κs = (gathered c, λ i h. h)
 
-highest-epoch-requires : tie.Need-highest-epoch-requires
-highest-epoch-requires c κs = gathered (c .before)
-
-list-in-force-requires : tie.Need-list-in-force-requires
-list-in-force-requires c κs = (gathered (c .before .before), λ i h. h)
-
 returns : tie.Need-returns
 returns c = search needs
 
@@ -38,6 +32,4 @@ examine-spec =
     chain-order-requires
     gather-requires
     judge-requires
-    highest-epoch-requires
-    list-in-force-requires
     returns)
