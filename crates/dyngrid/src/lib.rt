@@ -22,7 +22,7 @@ pub extern "C" fn grid_read(
 {
     let reader = coordinator as usize;
     let from = offset as usize;
-    access::read(table, reader, answering, from, length as usize, buffer)
+    reads::read(table, reader, answering, from, length as usize, buffer)
 }
 
 #[no_mangle]
@@ -37,19 +37,19 @@ pub extern "C" fn grid_write(
 {
     let writer = coordinator as usize;
     let to = offset as usize;
-    access::write(table, writer, answering, to, patch)
+    writes::write(table, writer, answering, to, patch)
 }
 
 #[no_mangle]
 pub extern "C" fn grid_send(table: &mut [u8], from: u64, to: u64, answering: u64) -> u64
     ensures { λ r. ⌜ (r ≡ resultOf (outcome (now (table .entry)) (send from to answering))) × (now (table .exit) ≡ outcome (now (table .entry)) (send from to answering) .table) ⌝ }
 {
-    upkeep::send(table, from as usize, to as usize, answering)
+    sends::send(table, from as usize, to as usize, answering)
 }
 
 #[no_mangle]
 pub extern "C" fn grid_check(table: &mut [u8], coordinator: u64, answering: u64) -> u64
     ensures { λ r. ⌜ (r ≡ resultOf (outcome (now (table .entry)) (check coordinator answering))) × (now (table .exit) ≡ outcome (now (table .entry)) (check coordinator answering) .table) ⌝ }
 {
-    upkeep::check(table, coordinator as usize, answering)
+    checks::check(table, coordinator as usize, answering)
 }

@@ -6,11 +6,12 @@ use rows::RowSet;
 use table::Order;
 ghost use mathlib.Core.Path.{_≡_};
 ghost use mathlib.Core.Bool.{true, cond, _&&_};
-ghost use Prim.Native.Nat.{ℕ, _≤_};
+ghost use Prim.Native.Nat.{ℕ, _^_, _≤_, _<_};
 ghost use lib.ListN.{length, take};
 ghost use Rattle.rows.specs.Upto.{some, most};
 ghost use Rattle.rows.specs.Sets.{has};
-ghost use Rattle.fields.specs.Layout.{nameOf};
+ghost use Rattle.fields.specs.Layout.{usedOf};
+ghost use Rattle.table.specs.WellFormed.{wellFormed};
 ghost use Rattle.protocol.specs.Lists.{listQuorum};
 ghost use Rattle.protocol.specs.Polls.{inForce};
 ghost use Rattle.protocol.specs.Calls.{answers, workSet};
@@ -96,7 +97,7 @@ pub fn judge(kind: Kind, t: &[u8], o: Order, p: Poll, answering: RowSet, s: RowS
 }
 
 // P, the coordinator's own choice cut down to the rows that answered, if questions 6 and 7 are yes for it; otherwise all of them.
-pub fn settle(kind: Kind, t: &[u8], o: Order, p: Poll, answering: RowSet, c: usize) -> Settled
+fn decide(kind: Kind, t: &[u8], o: Order, p: Poll, answering: RowSet, c: usize) -> Settled
     requires { ⌜ Gathered (now t) (o .rows) (o .count) p (answering .bits) × (has (answering .bits) c ≡ true) ⌝ }
     ensures { λ r. ⌜ (has (r .rows .bits) ≡ workSet kind (now (t .entry)) c (answering .bits)) × Judged kind (now (t .entry)) (answering .bits) (has (r .rows .bits)) (r .verdict) ⌝ }
 {
@@ -117,4 +118,14 @@ pub fn settle(kind: Kind, t: &[u8], o: Order, p: Poll, answering: RowSet, c: usi
         rows: answering,
         verdict: judge(kind, t, o, p, answering, answering),
     }
+}
+
+// The set that a read or a write works on, found by one poll.
+pub fn settle(kind: Kind, t: &[u8], c: usize, answering: RowSet) -> Settled
+    requires { ⌜ (wellFormed (now t) ≡ true) × (answering .bits < 2 ^ usedOf (now t)) × (has (answering .bits) c ≡ true) ⌝ }
+    ensures { λ r. ⌜ (has (r .rows .bits) ≡ workSet kind (now (t .entry)) c (answering .bits)) × Judged kind (now (t .entry)) (answering .bits) (has (r .rows .bits)) (r .verdict) ⌝ }
+{
+    let order = table::chain_order(t);
+    let poll = polls::gather(t, answering);
+    decide(kind, t, order, poll, answering, c)
 }

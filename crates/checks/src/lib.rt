@@ -1,0 +1,54 @@
+// An epoch check: its questions in order, then what is done.
+use questions::below_limit;
+use questions::coordinator_asked;
+use questions::result;
+use quorums::Kind;
+use rows::RowSet;
+use settle::Verdict;
+ghost use mathlib.Core.Path.{_≡_};
+ghost use mathlib.Core.Bool.{true};
+ghost use Prim.Native.Nat.{_^_, _<_};
+ghost use Rattle.rows.specs.Sets.{has};
+ghost use Rattle.quorums.specs.declared.quorums.Kind.the-variants.{Write};
+ghost use Rattle.fields.specs.Layout.{usedOf};
+ghost use Rattle.table.specs.WellFormed.{wellFormed};
+ghost use Rattle.protocol.specs.Calls.{resultOf, outcome, check};
+ghost use Rattle.settle.specs.Judged.{Judged};
+
+// What an epoch check finds of the rows that answered, by one poll.
+fn examine(t: &[u8], answering: RowSet) -> Verdict
+    requires { ⌜ (wellFormed (now t) ≡ true) × (answering .bits < 2 ^ usedOf (now t)) ⌝ }
+    ensures { λ r. ⌜ Judged Write (now (t .entry)) (answering .bits) (has (answering .bits)) r ⌝ }
+{
+    let order = table::chain_order(t);
+    let poll = polls::gather(t, answering);
+    settle::judge(Kind::Write, t, order, poll, answering, answering)
+}
+
+// An epoch check: the rows that answered become the list of a new epoch, unless they are the list in force.
+// Value: the epoch number in force.
+pub fn check(t: &mut [u8], c: usize, r: u64) -> u64
+    ensures { λ x. ⌜ (x ≡ resultOf (outcome (now (t .entry)) (check c r))) × (now (t .exit) ≡ outcome (now (t .entry)) (check c r) .table) ⌝ }
+{
+    let answering = RowSet { bits: r };
+    let no = coordinator_asked(t, c, answering);
+    if no != 0 {
+        return result(no, 0);
+    }
+    let v = examine(t, answering);
+    if v.refusal == 6 {
+        return result(6, 0);
+    }
+    if v.list.bits == r {
+        return result(0, v.epoch);
+    }
+    if v.refusal != 0 {
+        return result(v.refusal, 0);
+    }
+    if !below_limit(v.epoch) {
+        return result(8, 0);
+    }
+    let epoch = v.epoch + 1;
+    store::check_rows(t, answering, v.good, v.version, epoch);
+    result(0, epoch)
+}

@@ -1,0 +1,28 @@
+// A read: its questions in order, then what is done.
+use questions::range_asked;
+use questions::result;
+use quorums::Kind;
+use rows::RowSet;
+ghost use mathlib.Core.Path.{_≡_};
+ghost use Rattle.protocol.specs.Calls.{resultOf, outcome, read};
+
+// A read: the range is copied to the buffer. Value: the version.
+pub fn read(t: &[u8], c: usize, r: u64, offset: usize, count: usize, buffer: &mut [u8]) -> u64
+    ensures { λ x. ⌜ (x ≡ resultOf (outcome (now (t .entry)) (read c r offset count (now (buffer .entry))))) × (now (t .entry) ≡ outcome (now (t .entry)) (read c r offset count (now (buffer .entry))) .table) × (now (buffer .exit) ≡ outcome (now (t .entry)) (read c r offset count (now (buffer .entry))) .buffer) ⌝ }
+{
+    let answering = RowSet { bits: r };
+    let no = range_asked(t, c, answering, offset, count);
+    if no != 0 {
+        return result(no, 0);
+    }
+    if buffer.len() != count {
+        return result(5, 0);
+    }
+    let s = settle::settle(Kind::Read, t, c, answering);
+    if s.verdict.refusal != 0 {
+        return result(s.verdict.refusal, 0);
+    }
+    let source = s.verdict.good.lowest();
+    fields::copy_out(table::row_of(t, source), offset, buffer);
+    result(0, s.verdict.version)
+}

@@ -1,0 +1,68 @@
+use borrow.Author.Needs.{needs}
+use mathlib.Core.Path.{_≡_, sym, _∙_, ap}
+use native.Mathlib.Omega.{arith}
+use Rattle.fields.specs.Layout.{get, version}
+use Rattle.table.proofs.WellFormedLaws.{sized}
+use Rattle.protocol.specs.Calls.{send, firstNo, questions}
+use Rattle.protocol.proofs.QuestionLaws.{SendYes, send-yes}
+use Rattle.questions.proofs.QuestionLaws.{refused-is}
+use Rattle.sends.proofs.SendLaws.{send-done}
+use Rattle.sends.proofs.send.Statement.{statement}
+use Rattle.sends.proofs.send.Tie as tie
+
+passed : (c : tie.Else1) → let a = c .before .before .before .before .args in firstNo (questions (a .t .now) (send (a .from) (a .to) (a .r))) ≡ 0
+passed c = sym (c .before .send-asked .ensures) ∙ (let none : c .before .send-asked .result ≡ 0 = omega arith in none)
+
+yes : (c : tie.Else1) → let a = c .before .before .before .before .args in SendYes (a .t .now) (a .from) (a .to) (a .r)
+yes c = send-yes _ _ _ _ (passed c)
+
+send-asked-requires : tie.Need-send-asked-requires
+send-asked-requires c κs = search needs
+
+result-requires : tie.Need-result-requires
+result-requires c κs = search needs
+
+same-length : tie.Need-same-length
+same-length c = search needs
+
+returns : tie.Need-returns
+returns c =
+    let a = c .before .before .before .before .before .args in
+    let no = refused-is (a .t .now) (send (a .from) (a .to) (a .r)) _ (sym (c .before .before .send-asked .ensures)) (omega arith) in
+    (c .result .ensures ∙ no .result, no .table)
+
+row-of-requires : tie.Need-row-of-requires
+row-of-requires c κs = let y = yes (c .before) in (sized (y .formed), y .from-used)
+
+version-requires : tie.Need-version-requires
+version-requires c κs = search needs
+
+refresh-requires : tie.Need-refresh-requires
+refresh-requires c κs = let y = yes (c .before .before .before .before) in (sized (y .formed), y .from-used, y .to-used, y .apart)
+
+result-requires-2 : tie.Need-result-requires-2
+result-requires-2 c κs = search needs
+
+same-length-2 : tie.Need-same-length-2
+same-length-2 c = search needs
+
+returns-2 : tie.Need-returns-2
+returns-2 c =
+    let a = c .before .before .before .before .before .before .before .before .before .before .before .before .args in
+    let done = send-done (a .t .now) (a .from) (a .to) (a .r) _ (passed (c .before .before .before .before .before .before .before .before)) (c .before .before .before .before .before .version .ensures ∙ ap (get version) (c .before .before .before .before .before .before .row-of .ensures .0)) in
+    (c .result2 .ensures ∙ done .0, c .before .before .before .refresh .ensures ∙ done .1)
+
+pub send-spec : {M : Type 1} → statement M
+send-spec =
+    tie.close
+    (tie.spec
+    send-asked-requires
+    result-requires
+    same-length
+    returns
+    row-of-requires
+    version-requires
+    refresh-requires
+    result-requires-2
+    same-length-2
+    returns-2)

@@ -1,0 +1,97 @@
+use borrow.Author.Needs.{needs}
+use mathlib.Core.Path.{_≡_, refl, sym, _∙_, ap, ap₂}
+use mathlib.Core.Bool.{true, false, not, cond, _&&_}
+use Prim.Native.Nat.{ℕ}
+use native.Mathlib.Omega.{arith}
+use lib.Dec.{eqb, leb}
+use mathlib.Core.List.{List}
+use Rattle.rows.specs.Upto.{Within}
+use Rattle.rows.specs.Sets.{has}
+use Rattle.fields.specs.Layout.{get, mark, version, desired, usedOf, staleOf, versionOf, desiredOf, rowBytes}
+use Rattle.table.specs.WellFormed.{between, onlyRows, wellFormed}
+use Rattle.table.proofs.WellFormedLaws.{sized, long, few-rows}
+use Rattle.sends.proofs.SendLaws.{named, send-answers}
+use Rattle.sends.proofs.send_asked.Statement.{statement}
+use Rattle.sends.proofs.send_asked.Tie as tie
+
+formed : (c : tie.Then1) → wellFormed (c .before .before .before .args .t .now) ≡ true
+formed c = sym (c .before .well-formed .ensures) ∙ c .if1 .taken
+
+question-2 : (c : tie.After-rows-named) → let a = c .before .before .before .before .before .args in let n = usedOf (a .t .now) in
+    (between 1 (a .from) n && between 1 (a .to) n && onlyRows n (a .answering .bits) && not (eqb (a .from) (a .to))) ≡ c .rows-named .result
+question-2 c =
+    let a = c .before .before .before .before .before .args in
+    sym (c .rows-named .ensures ∙ ap (λ (n : ℕ). between 1 (a .from) n && between 1 (a .to) n && onlyRows n (a .answering .bits) && not (eqb (a .from) (a .to))) (c .before .used .ensures))
+
+question-3 : (c : tie.After-both) → let a = c .before .before .before .before .before .before .before .before .before .args in (has (a .answering .bits) (a .from) && has (a .answering .bits) (a .to)) ≡ c .both .result
+question-3 c = sym (c .both .ensures ∙ ap₂ _&&_ (c .before .before .has .ensures) (c .before .has2 .ensures))
+
+two : (c : tie.Then2) → let a = c .before .before .before .before .before .before .args in Within (usedOf (a .t .now)) (a .from) × Within (usedOf (a .t .now)) (a .to)
+two c = let a = c .before .before .before .before .before .before .args in named (usedOf (a .t .now)) (a .from) (a .to) (a .answering .bits) (question-2 (c .before) ∙ c .if2 .taken)
+
+well-formed-requires : tie.Need-well-formed-requires
+well-formed-requires c κs = search needs
+
+used-requires : tie.Need-used-requires
+used-requires c κs = long (sized (formed c))
+
+rows-named-requires : tie.Need-rows-named-requires
+rows-named-requires c κs = omega (arith, c .used .ensures, few-rows (sized (formed (c .before))))
+
+has-requires : tie.Need-has-requires
+has-requires c κs = search needs
+
+has-requires-2 : tie.Need-has-requires-2
+has-requires-2 c κs = search needs
+
+both-requires : tie.Need-both-requires
+both-requires c κs = search needs
+
+row-of-requires : tie.Need-row-of-requires
+row-of-requires c κs = (sized (formed (c .before .before .before .before .before .before .before)), two (c .before .before .before .before) .0)
+
+row-of-requires-2 : tie.Need-row-of-requires-2
+row-of-requires-2 c κs = (sized (formed (c .before .before .before .before .before .before .before .before)), two (c .before .before .before .before .before) .1)
+
+rows-asked-requires : tie.Need-rows-asked-requires
+rows-asked-requires c κs = search needs
+
+returns : tie.Need-returns
+unfolding staleOf versionOf desiredOf
+returns c =
+    let a = c .before .before .before .before .before .before .before .before .before .before .before .before .before .args in
+    let e = c .rows-asked .ensures ∙ ap₂ (λ (x y : List ℕ). cond (not (eqb (get mark x) 1)) (cond (eqb (get mark y) 1 && leb (get desired y) (get version x)) 0 10) 9) (c .before .before .row-of .ensures .0) (c .before .row-of2 .ensures .0) in
+    send-answers (a .t .now) (a .from) (a .to) (a .answering .bits) true true true _ (formed (c .before .before .before .before .before .before .before .before .before .before)) (question-2 (c .before .before .before .before .before .before .before .before) ∙ c .before .before .before .before .before .before .before .if2 .taken) (question-3 (c .before .before .before .before) ∙ c .before .before .before .if3 .taken) e
+
+returns-2 : tie.Need-returns-2
+returns-2 c =
+    let a = c .before .before .before .before .before .before .before .before .before .before .args in
+    send-answers (a .t .now) (a .from) (a .to) (a .answering .bits) true true false _ (formed (c .before .before .before .before .before .before .before)) (question-2 (c .before .before .before .before .before) ∙ c .before .before .before .before .if2 .taken) (question-3 (c .before) ∙ c .if3 .left) refl
+
+returns-3 : tie.Need-returns-3
+returns-3 c =
+    let a = c .before .before .before .before .before .before .args in
+    send-answers (a .t .now) (a .from) (a .to) (a .answering .bits) true false _ _ (formed (c .before .before .before)) (question-2 (c .before) ∙ c .if2 .left) refl refl
+
+returns-4 : tie.Need-returns-4
+returns-4 c =
+    let a = c .before .before .before .args in
+    send-answers (a .t .now) (a .from) (a .to) (a .answering .bits) false _ _ _ (sym (c .before .well-formed .ensures) ∙ c .if1 .left) refl refl refl
+
+pub send-asked-spec : {M : Type 1} → statement M
+send-asked-spec =
+    tie.close
+    (tie.spec
+    well-formed-requires
+    used-requires
+    rows-named-requires
+    has-requires
+    has-requires-2
+    both-requires
+    row-of-requires
+    row-of-requires-2
+    rows-asked-requires
+    returns
+    returns-2
+    returns-3
+    returns-4)

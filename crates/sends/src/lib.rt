@@ -1,0 +1,70 @@
+// A send: its questions in order, then what is done.
+use bytes::both;
+use questions::result;
+use rows::RowSet;
+use values::between;
+ghost use mathlib.Core.Path.{_≡_};
+ghost use mathlib.Core.Bool.{not, cond, _&&_};
+ghost use Prim.Native.Nat.{_≤_};
+ghost use lib.Dec.{eqb, leb};
+ghost use lib.ListN.{length};
+ghost use Rattle.fields.specs.Layout.{get, mark, version, desired};
+ghost use Rattle.table.specs.WellFormed.{between, onlyRows};
+ghost use Rattle.protocol.specs.Calls.{firstNo, questions, resultOf, outcome, send};
+
+// Question 2 of a send: are these two used rows, and are those that answered used ones?
+fn rows_named(used: usize, from: usize, to: usize, answering: RowSet) -> bool
+    requires { ⌜ used ≤ 64 ⌝ }
+    ensures { λ r. ⌜ r ≡ (between 1 from used && between 1 to used && onlyRows used (answering .bits) && not (eqb from to)) ⌝ }
+{
+    let named = both(between(1, from, used), between(1, to, used));
+    let known = both(named, values::only_rows(used, answering.bits));
+    both(known, from != to)
+}
+
+// Questions 9 and 10 of the rows of a send: the first no, 0 where there is none.
+fn rows_asked(source: &[u8], target: &[u8]) -> u32
+    requires { ⌜ (32 ≤ length (now source)) × (32 ≤ length (now target)) ⌝ }
+    ensures { λ r. ⌜ r ≡ cond (not (eqb (get mark (now (source .entry))) 1)) (cond (eqb (get mark (now (target .entry))) 1 && leb (get desired (now (target .entry))) (get version (now (source .entry)))) 0 10) 9 ⌝ }
+{
+    if fields::is_stale(source) {
+        return 9;
+    }
+    if both(
+        fields::is_stale(target),
+        fields::desired(target) <= fields::version(source),
+    ) {
+        return 0;
+    }
+    10
+}
+
+// All that a send is asked: the first no, 0 where there is none.
+fn send_asked(t: &[u8], from: usize, to: usize, answering: RowSet) -> u32
+    ensures { λ r. ⌜ r ≡ firstNo (questions (now (t .entry)) (send from to (answering .bits))) ⌝ }
+{
+    if wellformed::well_formed(t) {
+        if rows_named(fields::used(t), from, to, answering) {
+            if both(answering.has(from), answering.has(to)) {
+                return rows_asked(table::row_of(t, from), table::row_of(t, to));
+            }
+            return 3;
+        }
+        return 2;
+    }
+    1
+}
+
+// A send: row `to` takes the contents and the version of row `from`. Value: that version.
+pub fn send(t: &mut [u8], from: usize, to: usize, r: u64) -> u64
+    ensures { λ x. ⌜ (x ≡ resultOf (outcome (now (t .entry)) (send from to r))) × (now (t .exit) ≡ outcome (now (t .entry)) (send from to r) .table) ⌝ }
+{
+    let answering = RowSet { bits: r };
+    let no = send_asked(t, from, to, answering);
+    if no != 0 {
+        return result(no, 0);
+    }
+    let version = fields::version(table::row_of(t, from));
+    renew::refresh(t, from, to);
+    result(0, version)
+}

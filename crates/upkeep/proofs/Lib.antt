@@ -1,2 +1,0 @@
-pub mod SendLaws
-pub mod CheckLaws

@@ -1,0 +1,128 @@
+use mathlib.Core.Bool.{true}
+use mathlib.Core.Path.{_≡_, sym, _∙_}
+use Prim.Native.Nat.{ℕ}
+use native.Mathlib.Omega.{arith}
+use borrow.Author.Needs.{needs}
+use borrow.Author.Tests.{ltb-true, not-true, not-false}
+use lib.Dec.{ltb}
+use lib.ListN.{length}
+use Rattle.table.proofs.WellFormedLaws.{sized}
+use Rattle.table.specs.WellFormed.{limit}
+use Rattle.protocol.specs.Calls.{firstNo}
+use Rattle.protocol.proofs.QuestionLaws.{ByCoordinator}
+use Rattle.questions.specs.Stages.{toRange}
+use Rattle.questions.proofs.QuestionLaws.{range-passed}
+use Rattle.writes.proofs.WriteLaws.{write-early, write-no, write-full, patch-in, write-done}
+use Rattle.writes.proofs.write.Statement.{statement}
+use Rattle.writes.proofs.write.Tie as tie
+
+-- questions 1 to 4 are passed
+passed : (c : tie.Else1) → let a = c .before .before .before .before .before .args in firstNo (toRange (a .t .now) (a .c) (a .r) (a .offset) (length (a .patch .now))) ≡ 0
+passed c = sym (c .before .range-asked .ensures) ∙ (let none : c .before .range-asked .result ≡ 0 = omega arith in none)
+
+-- and 1 to 3 among them
+asked : (c : tie.Else1) → let a = c .before .before .before .before .before .args in ByCoordinator (a .t .now) (a .c) (a .r)
+asked c = let a = c .before .before .before .before .before .args in range-passed (a .t .now) (a .c) (a .r) (a .offset) (length (a .patch .now)) (passed c) .0
+
+-- 6 and 7 are passed
+settled-here : (c : tie.Else2) → c .before .before .settle .result .verdict .refusal ≡ 0
+settled-here c = omega arith
+
+-- 8 is passed
+room : (c : tie.Else3) → ltb (c .before .before .before .before .settle .result .verdict .version) limit ≡ true
+room c = sym (c .before .below-limit .ensures) ∙ not-false _ (c .if3 .left)
+
+range-asked-requires : tie.Need-range-asked-requires
+range-asked-requires c κs = search needs
+
+result-requires : tie.Need-result-requires
+result-requires c κs = search needs
+
+same-length : tie.Need-same-length
+same-length c = search needs
+
+returns : tie.Need-returns
+returns c =
+    let a = c .before .before .before .before .before .before .args in
+    let no = write-early (a .t .now) (a .c) (a .r) (a .offset) (a .patch .now) _ (c .before .before .range-asked .ensures) (omega arith) in
+    (c .result .ensures ∙ no .result, no .table)
+
+settle-requires : tie.Need-settle-requires
+settle-requires c κs = let y = asked (c .before) in (y .formed, y .rows, y .answered)
+
+result-requires-2 : tie.Need-result-requires-2
+result-requires-2 c κs = search needs
+
+same-length-2 : tie.Need-same-length-2
+same-length-2 c = search needs
+
+returns-2 : tie.Need-returns-2
+returns-2 c =
+    let a = c .before .before .before .before .before .before .before .before .before .before .args in
+    let s = c .before .before .before .settle in
+    let no = write-no (a .t .now) (a .c) (a .r) (a .offset) (a .patch .now) (passed (c .before .before .before .before .before)) _ (s .result .verdict) (s .ensures .0) (s .ensures .1) (omega arith) in
+    (c .result2 .ensures ∙ no .result, no .table)
+
+below-limit-requires : tie.Need-below-limit-requires
+below-limit-requires c κs = search needs
+
+result-requires-3 : tie.Need-result-requires-3
+result-requires-3 c κs = search needs
+
+same-length-3 : tie.Need-same-length-3
+same-length-3 c = search needs
+
+returns-3 : tie.Need-returns-3
+returns-3 c =
+    let a = c .before .before .before .before .before .before .before .before .before .before .before .before .args in
+    let s = c .before .before .before .before .before .settle in
+    let no = write-full (a .t .now) (a .c) (a .r) (a .offset) (a .patch .now) (passed (c .before .before .before .before .before .before .before)) _ (s .result .verdict) (s .ensures .0) (s .ensures .1) (settled-here (c .before .before .before))
+    (sym (c .before .before .below-limit .ensures) ∙ not-true _ (c .before .if3 .taken)) in
+    (c .result3 .ensures ∙ no .result, no .table)
+
+add-version : tie.Need-add-version
+unfolding limit
+add-version c = let v = c .before .before .before .before .before .settle .result .verdict .version in record { fits = omega (arith, ltb-true v limit (room (c .before))) }
+
+write-rows-requires : tie.Need-write-rows-requires
+write-rows-requires c κs =
+    let a = c .before .before .before .before .before .before .before .before .before .before .before .before .before .args in
+    let s = c .before .before .before .before .before .before .settle in (
+      sized (asked (c .before .before .before .before .before .before .before .before) .formed),
+      patch-in (a .t .now) (a .c) (a .r) (a .offset) (a .patch .now) (passed (c .before .before .before .before .before .before .before .before)) _ (s .result .verdict) (s .ensures .0) (s .ensures .1) (settled-here (c .before .before .before .before)) (room (c .before .before)),
+    )
+
+result-requires-4 : tie.Need-result-requires-4
+result-requires-4 c κs = search needs
+
+same-length-4 : tie.Need-same-length-4
+same-length-4 c = search needs
+
+returns-4 : tie.Need-returns-4
+returns-4 c =
+    let a = c .before .before .before .before .before .before .before .before .before .before .before .before .before .before .before .before .before .args in
+    let s = c .before .before .before .before .before .before .before .before .before .before .settle in
+    let yes = write-done (a .t .now) (a .c) (a .r) (a .offset) (a .patch .now) (passed (c .before .before .before .before .before .before .before .before .before .before .before .before)) _ (s .result .verdict) (s .ensures .0) (s .ensures .1) (settled-here (c .before .before .before .before .before .before .before .before)) (room (c .before .before .before .before .before .before)) in
+    (c .result4 .ensures ∙ yes .0, c .before .before .before .write-rows .ensures ∙ yes .1)
+
+pub write-spec : {M : Type 1} → statement M
+write-spec =
+    tie.close
+    (tie.spec
+    range-asked-requires
+    result-requires
+    same-length
+    returns
+    settle-requires
+    result-requires-2
+    same-length-2
+    returns-2
+    below-limit-requires
+    result-requires-3
+    same-length-3
+    returns-3
+    add-version
+    write-rows-requires
+    result-requires-4
+    same-length-4
+    returns-4)

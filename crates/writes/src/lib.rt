@@ -1,0 +1,29 @@
+// A write: its questions in order, then what is done.
+use questions::below_limit;
+use questions::range_asked;
+use questions::result;
+use quorums::Kind;
+use rows::RowSet;
+ghost use mathlib.Core.Path.{_≡_};
+ghost use Rattle.protocol.specs.Calls.{resultOf, outcome, write};
+
+// A write: the patch goes to the good rows worked on, the others are marked. Value: the new version.
+pub fn write(t: &mut [u8], c: usize, r: u64, offset: usize, patch: &[u8]) -> u64
+    ensures { λ x. ⌜ (x ≡ resultOf (outcome (now (t .entry)) (write c r offset (now (patch .entry))))) × (now (t .exit) ≡ outcome (now (t .entry)) (write c r offset (now (patch .entry))) .table) ⌝ }
+{
+    let answering = RowSet { bits: r };
+    let no = range_asked(t, c, answering, offset, patch.len());
+    if no != 0 {
+        return result(no, 0);
+    }
+    let s = settle::settle(Kind::Write, t, c, answering);
+    if s.verdict.refusal != 0 {
+        return result(s.verdict.refusal, 0);
+    }
+    if !below_limit(s.verdict.version) {
+        return result(8, 0);
+    }
+    let version = s.verdict.version + 1;
+    store::write_rows(t, s.rows, s.verdict.good, version, offset, patch);
+    result(0, version)
+}
