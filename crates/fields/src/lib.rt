@@ -201,9 +201,9 @@ pub fn patch(row: &mut [u8], offset: usize, bytes: &[u8])
     requires { ⌜ 32 + offset + length (now bytes) ≤ length (now row) ⌝ }
     ensures { λ r. ⌜ now (row .exit) ≡ storeContents offset (now (bytes .entry)) (now (row .entry)) ⌝ }
 {
-    let from = HEAD + offset;
-    let end = from + bytes.len();
-    bytes::copy(&mut row[from..end], bytes);
+    let at = HEAD + offset;
+    let end = at + bytes.len();
+    bytes::copy(&mut row[at..end], bytes);
 }
 
 // Bytes of the contents copied out, from an offset on.

@@ -7,8 +7,8 @@ use Rattle.bytes.proofs.CodeLaws.{part-back}
 use Rattle.fields.proofs.patch.Statement.{statement}
 use Rattle.fields.proofs.patch.Tie as tie
 
-add-from : tie.Need-add-from
-add-from c = search needs
+add-at : tie.Need-add-at
+add-at c = search needs
 
 add-end : tie.Need-add-end
 add-end c = search needs
@@ -38,7 +38,7 @@ pub patch-spec : {M : Type 1} → statement M
 patch-spec =
     tie.close
     (tie.spec
-    add-from
+    add-at
     add-end
     sub-copy
     part-copy-start
