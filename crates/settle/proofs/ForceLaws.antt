@@ -15,16 +15,13 @@ use Rattle.protocol.specs.Calls.{answers}
 use Rattle.polls.specs.declared.Poll as code
 use Rattle.polls.specs.Shows.{placed}
 use Rattle.settle.specs.Judged.{Gathered}
+use Rattle.settle.proofs.JudgeLaws.{epoch-is}
 
 pub not-swap : (a b : Bool) → a ≡ not b → b ≡ not a
 not-swap a true e = rw e refl
 not-swap a false e = rw e refl
 
 module _ (t rows : List ℕ) (count : ℕ) (p : code.Poll) (r s : ℕ) (g : Gathered t rows count p r) where
-  pub epoch-is : most 64 (has s) (placed (p .epochs)) ≡ highestEpoch (answers t r) (has s)
-  unfolding highestEpoch
-  epoch-is = ap (most 64 (has s)) (g .poll .epochs)
-
   -- the lowest row that has the highest epoch, 0 where none has
   unfoldable pub leader : ℕ
   leader = lowest 64 (λ (i : ℕ). has s i && eqb (answers t r .epoch i) (highestEpoch (answers t r) (has s)))
@@ -33,7 +30,7 @@ module _ (t rows : List ℕ) (count : ℕ) (p : code.Poll) (r s : ℕ) (g : Gath
       → set ≡ (λ (i : ℕ). has s i && eqb (placed (p .epochs) i) epoch) → lowest 64 set ≡ leader
   unfolding leader
   leader-is epoch set e h = ap (lowest 64) h
-      ∙ ap₂ (λ (f : ℕ → ℕ) (m : ℕ). lowest 64 (λ (i : ℕ). has s i && eqb (f i) m)) (g .poll .epochs) (e ∙ epoch-is)
+      ∙ ap₂ (λ (f : ℕ → ℕ) (m : ℕ). lowest 64 (λ (i : ℕ). has s i && eqb (f i) m)) (g .poll .epochs) (e ∙ epoch-is t rows count p r g (has s))
 
   -- a leader is a used row that answered
   pub leader-in : ((i : ℕ) → has s i ≡ true → has r i ≡ true) → 1 ≤ leader → has r leader ≡ true

@@ -47,7 +47,7 @@ module _ (t rows : List ℕ) (count : ℕ) (p : Poll) (r : ℕ) (g : Gathered t 
       (ap₂ (λ (v : ℕ → Bool) (f : ℕ → ℕ). some 64 (λ (i : ℕ). v i && ltb w (f i))) (e ∙ marked-is) (g .poll .desired)
       ∙ ap (λ (x : ℕ). some 64 (λ (i : ℕ). marked (answers t r) s i && ltb x (answers t r .desired i))) h)
 
-  epoch-is : most 64 s (placed (p .epochs)) ≡ highestEpoch (answers t r) s
+  pub epoch-is : most 64 s (placed (p .epochs)) ≡ highestEpoch (answers t r) s
   unfolding highestEpoch
   epoch-is = ap (most 64 s) (g .poll .epochs)
 
