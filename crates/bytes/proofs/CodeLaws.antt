@@ -11,6 +11,7 @@ use borrow.Author.Tests.{eq-eqb, ne-eqb}
 use lib.Dec.{eqb}
 use lib.ListN.{length, getD, take, drop, set, length-take, length-drop}
 use lib.Seq.{drop-drop, take-add, take-all, take-suc, take-suc-set, append-snoc, drop-cons, drop-length}
+use Rattle.bools.proofs.BoolLaws.{and-assoc}
 use Rattle.bytes.specs.Bytes.{number, bytesOf, part, put, allZero}
 use Rattle.bytes.proofs.ByteLaws.{number-append, length-part}
 
@@ -70,11 +71,6 @@ part-is xs a n b m e d = let k : (a + n) - a ≡ m = omega arith in rw (k, e)
 
 pub tail-is : (xs : List ℕ) (a b : ℕ) → a ≡ b → take (length xs - a) (drop a xs) ≡ drop b xs
 tail-is xs a b e = take-all (length xs - a) (drop a xs) (omega (arith, length-drop a xs)) ∙ ap (λ (k : ℕ). drop k xs) e
-
--- ---- tests gathered by `both`
-pub and-assoc : (a b c : Bool) → ((a && b) && c) ≡ (a && (b && c))
-and-assoc true b c = refl
-and-assoc false b c = refl
 
 -- ---- all_zero: what was seen so far, and the rest
 pub larger-zero : (m x : ℕ) → eqb (max m x) 0 ≡ (eqb m 0 && eqb x 0)

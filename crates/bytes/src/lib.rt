@@ -1,6 +1,5 @@
-// Bytes: numbers in them, low byte first; bytes copied; bytes that are all 0; and tests.
+// Bytes: numbers in them, low byte first; bytes copied; bytes that are all 0.
 ghost use mathlib.Core.Path.{_≡_};
-ghost use mathlib.Core.Bool.{cond, _&&_, _||_};
 ghost use Prim.Native.Nat.{_+_, _≤_, max};
 ghost use lib.ListN.{length};
 ghost use Rattle.bytes.specs.Bytes.{number, bytesOf, part, put, allZero};
@@ -85,25 +84,4 @@ pub fn all_zero(s: &[u8]) -> bool
         i += 1;
     }
     most == 0
-}
-
-// ---- tests without branches in the caller: a loop that gathers one stays straight
-pub fn both(a: bool, b: bool) -> bool
-    ensures { λ r. ⌜ r ≡ (a && b) ⌝ }
-{
-    if a { b } else { false }
-}
-
-// At least one of the two.
-pub fn any(a: bool, b: bool) -> bool
-    ensures { λ r. ⌜ r ≡ (a || b) ⌝ }
-{
-    if a { true } else { b }
-}
-
-// a where c holds, else b.
-pub fn either(c: bool, a: bool, b: bool) -> bool
-    ensures { λ r. ⌜ r ≡ cond c a b ⌝ }
-{
-    if c { a } else { b }
 }

@@ -6,8 +6,8 @@ use Prim.Native.Nat.{ℕ, _+_, _*_, _^_, _≤_}
 use native.Mathlib.Omega.{arith}
 use lib.Dec.{eqb, ltb}
 use borrow.Author.Tests.{eq-eqb, ne-eqb}
-use Rattle.rows.specs.Sets.{has}
-use Rattle.quorums.specs.declared.quorums.Kind.the-variants.{Write}
+use Rattle.sets.specs.Sets.{has}
+use Rattle.quorums.specs.declared.Kind.the-variants.{Write}
 use Rattle.fields.specs.Layout.{usedOf}
 use Rattle.table.specs.Chain.{orderOf}
 use Rattle.table.specs.WellFormed.{limit}

@@ -8,8 +8,8 @@ use settle::Verdict;
 ghost use mathlib.Core.Path.{_≡_};
 ghost use mathlib.Core.Bool.{true};
 ghost use Prim.Native.Nat.{_^_, _<_};
-ghost use Rattle.rows.specs.Sets.{has};
-ghost use Rattle.quorums.specs.declared.quorums.Kind.the-variants.{Write};
+ghost use Rattle.sets.specs.Sets.{has};
+ghost use Rattle.quorums.specs.declared.Kind.the-variants.{Write};
 ghost use Rattle.fields.specs.Layout.{usedOf};
 ghost use Rattle.table.specs.WellFormed.{wellFormed};
 ghost use Rattle.protocol.specs.Calls.{resultOf, outcome, check};
@@ -20,7 +20,7 @@ fn examine(t: &[u8], answering: RowSet) -> Verdict
     requires { ⌜ (wellFormed (now t) ≡ true) × (answering .bits < 2 ^ usedOf (now t)) ⌝ }
     ensures { λ r. ⌜ Judged Write (now (t .entry)) (answering .bits) (has (answering .bits)) r ⌝ }
 {
-    let order = table::chain_order(t);
+    let order = chain::chain_order(t);
     let poll = polls::gather(t, answering);
     settle::judge(Kind::Write, t, order, poll, answering, answering)
 }

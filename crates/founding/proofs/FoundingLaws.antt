@@ -9,9 +9,8 @@ use lib.Dec.{eqb, leb, ltb}
 use lib.ListN.{length, getD, drop}
 use lib.Seq.{drop-cons, drop-length}
 use borrow.Author.Tests.{le-leb, eqb-true}
-use Rattle.rows.specs.Upto.{Within}
-use Rattle.rows.proofs.Bools.{and-l, and-r}
-use Rattle.bytes.proofs.CodeLaws.{and-assoc}
+use Rattle.sets.specs.Upto.{Within}
+use Rattle.bools.proofs.BoolLaws.{and-l, and-r, and-assoc}
 use Rattle.table.specs.WellFormed.{between}
 use Rattle.protocol.specs.Calls.{Outcome, founding, firstNo, questions, namesIn, namesRise, founded, done, outcome, resultOf}
 use Rattle.protocol.proofs.QuestionLaws.{refusal-is, when-done}

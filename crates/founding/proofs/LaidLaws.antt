@@ -10,8 +10,8 @@ use lib.Dec.{eqb}
 use lib.Pow.{pow-mono, ones-lt}
 use lib.ListN.{length, getD, take, drop, length-append, replicate-append-replicate}
 use lib.Seq.{take-at, drop-at, take-all, take-suc, length-take-le}
-use Rattle.rows.specs.Sets.{has, firstRows}
-use Rattle.rows.proofs.SetLaws.{has-first, same-members}
+use Rattle.sets.specs.Sets.{has, firstRows}
+use Rattle.sets.proofs.SetLaws.{has-first, same-members}
 use Rattle.bytes.specs.Bytes.{number, bytesOf, part, put}
 use Rattle.fields.specs.Layout.{store, form, capacity, used, first, fileLength, name, link, members}
 use Rattle.bytes.proofs.ByteLaws.{length-put}

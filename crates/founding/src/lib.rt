@@ -1,5 +1,5 @@
 // The founding of a table: its questions in order, then what is done.
-use bytes::both;
+use bools::both;
 use questions::result;
 use rows::RowSet;
 use values::between;
@@ -8,7 +8,7 @@ ghost use mathlib.Core.Bool.{cond, _&&_};
 ghost use Prim.Native.Nat.{_+_, _*_, _%_, _≤_};
 ghost use lib.Dec.{eqb, leb};
 ghost use lib.ListN.{length};
-ghost use Rattle.rows.specs.Upto.{Within};
+ghost use Rattle.sets.specs.Upto.{Within};
 ghost use Rattle.fields.specs.Layout.{store, name, link, members};
 ghost use Rattle.table.specs.WellFormed.{between};
 ghost use Rattle.protocol.specs.Calls.{founding, namesIn, namesRise, founded, resultOf, outcome};
@@ -52,7 +52,7 @@ fn sizes_right(bytes: usize, capacity: usize, file: usize, n: usize) -> bool
     if !both(seated, between(1, file, 4_096)) {
         return false;
     }
-    bytes == fields::HEADER + capacity * table::row_size(file)
+    bytes == header::HEADER + capacity * table::row_size(file)
 }
 
 // The row behind row i in the chain of the rows 1 to n: 0 behind the last.
@@ -84,7 +84,7 @@ fn lay_table(t: &mut [u8], capacity: usize, file: usize, names: &[u8])
     // the rows stand behind the header, up to the end
     let mut at = t.len() - capacity * size;
     bytes::fill(t, 0);
-    fields::set_header(t, capacity as u8, n as u8, file as u16);
+    header::set_header(t, capacity as u8, n as u8, file as u16);
     let mut i = 0;
     while i < n {
         let x = bytes::u16_at(names, 2 * i);

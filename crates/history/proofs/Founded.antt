@@ -8,11 +8,11 @@ use lib.Dec.{eqb, leb, ltb}
 use lib.Pow.{ones-lt}
 use lib.ListN.{length, getD, length-replicate}
 use borrow.Author.Tests.{leb-true, lt-leb}
-use Rattle.rows.specs.Upto.{Within, upward}
-use Rattle.rows.specs.Sets.{has}
-use Rattle.rows.proofs.Bools.{and-l, and-r, clash}
-use Rattle.rows.proofs.SetLaws.{has-within}
-use Rattle.quorums.specs.declared.quorums.Kind.the-variants.{Read, Write}
+use Rattle.sets.specs.Upto.{Within, upward}
+use Rattle.sets.specs.Sets.{has}
+use Rattle.bools.proofs.BoolLaws.{and-l, and-r, clash}
+use Rattle.sets.proofs.SetLaws.{has-within}
+use Rattle.quorums.specs.declared.Kind.the-variants.{Read, Write}
 use Rattle.fields.specs.Layout.{get, mark, version, desired, epoch, members, contents, rowBytes, usedOf, fileOf, epochOf, membersOf, staleOf, versionOf, desiredOf, contentsOf}
 use Rattle.table.specs.WellFormed.{between}
 use Rattle.table.proofs.FormLaws.{between-is}

@@ -9,13 +9,13 @@ use native.Mathlib.Omega.{arith}
 use lib.Dec.{leb, ltb, eqb}
 use lib.ListN.{length}
 use borrow.Author.Tests.{eqb-true, eq-eqb, leb-true, le-leb, lt-leb}
-use Rattle.rows.specs.Upto.{Within, every, some}
-use Rattle.rows.specs.Sets.{has, cutTo}
-use Rattle.rows.proofs.Bools.{and-l, and-r, and-i, clash, same-test}
-use Rattle.rows.proofs.UptoLaws.{every-at, every-of, some-at, some-of}
-use Rattle.rows.proofs.SetLaws.{has-within}
-use Rattle.quorums.specs.declared.quorums.Kind.{Kind}
-use Rattle.quorums.specs.declared.quorums.Kind.the-variants.{Read, Write}
+use Rattle.sets.specs.Upto.{Within, every, some}
+use Rattle.sets.specs.Sets.{has, cutTo}
+use Rattle.bools.proofs.BoolLaws.{and-l, and-r, and-i, clash, same-test}
+use Rattle.sets.proofs.UptoLaws.{every-at, every-of, some-at, some-of}
+use Rattle.sets.proofs.SetLaws.{has-within}
+use Rattle.quorums.specs.declared.Kind.{Kind}
+use Rattle.quorums.specs.declared.Kind.the-variants.{Read, Write}
 use Rattle.table.specs.WellFormed.{limit}
 use Rattle.protocol.specs.Lists.{listQuorum, listChoice}
 use Rattle.protocol.specs.Polls.{Poll, highestEpoch, inForce, goodVersion, good, current, quorumHeld, ownTry, workedOn}

@@ -7,10 +7,10 @@ use native.Mathlib.Omega.{arith}
 use lib.Dec.{eqb, leb, ltb}
 use lib.ListN.{length, getD}
 use borrow.Author.Tests.{eqb-true, eqb-false, ne-eqb, ltb-true}
-use Rattle.rows.specs.Upto.{Within, upward}
-use Rattle.rows.specs.Sets.{has}
-use Rattle.quorums.specs.declared.quorums.Kind.{Kind}
-use Rattle.quorums.specs.declared.quorums.Kind.the-variants.{Read, Write}
+use Rattle.sets.specs.Upto.{Within, upward}
+use Rattle.sets.specs.Sets.{has}
+use Rattle.quorums.specs.declared.Kind.{Kind}
+use Rattle.quorums.specs.declared.Kind.the-variants.{Read, Write}
 use Rattle.bytes.specs.Bytes.{put}
 use Rattle.fields.specs.Layout.{get, mark, version, desired, contents, rowBytes, usedOf, fileOf, nameOf, staleOf, versionOf, desiredOf, contentsOf, epochOf, membersOf}
 use Rattle.table.specs.Chain.{orderOf}

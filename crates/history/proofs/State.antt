@@ -6,16 +6,16 @@ use Prim.Native.Nat.{ℕ, zero, suc, _+_, _-_, _*_, _^_, _≤_, _<_}
 use native.Mathlib.Omega.{arith}
 use lib.Dec.{eqb, leb, ltb}
 use lib.ListN.{length}
-use Rattle.rows.specs.Upto.{Within, some, lowest}
-use Rattle.rows.specs.Sets.{has}
-use Rattle.quorums.specs.declared.quorums.Kind.{Kind}
-use Rattle.quorums.specs.declared.quorums.Kind.the-variants.{Read, Write}
+use Rattle.sets.specs.Upto.{Within, some, lowest}
+use Rattle.sets.specs.Sets.{has}
+use Rattle.quorums.specs.declared.Kind.{Kind}
+use Rattle.quorums.specs.declared.Kind.the-variants.{Read, Write}
 use Rattle.fields.specs.Layout.{usedOf, fileOf, nameOf, contentsOf}
 use Rattle.table.specs.Chain.{orderOf}
 use Rattle.table.proofs.FormLaws.{Formed, header-facts}
 use Rattle.protocol.specs.Polls.{Poll, polled, highestEpoch, inForce, goodVersion, good, current, quorumHeld, workedOn}
 use Rattle.protocol.specs.Calls.{answers, workSet}
-use Rattle.rows.proofs.UptoLaws.{some-of}
+use Rattle.sets.proofs.UptoLaws.{some-of}
 use Rattle.protocol.proofs.ListLaws.{reads}
 use Rattle.protocol.proofs.PollLaws.{Agree, agree-less, epoch-same, list-same, version-same, good-same, current-same, quorum-same, worked-same, worked-in}
 use Rattle.protocol.proofs.QuestionLaws.{ByCoordinator, answered-used}

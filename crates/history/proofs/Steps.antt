@@ -9,12 +9,12 @@ use native.Mathlib.Omega.{arith}
 use lib.Dec.{leb, ltb, eqb}
 use lib.ListN.{length}
 use borrow.Author.Tests.{eqb-true, eq-eqb, leb-true, le-leb}
-use Rattle.rows.specs.Upto.{Within}
-use Rattle.rows.specs.Sets.{has}
-use Rattle.rows.proofs.Bools.{and-l, and-r, and-i, or-l, or-r, or-e, clash, same-test}
-use Rattle.rows.proofs.SetLaws.{has-within}
-use Rattle.quorums.specs.declared.quorums.Kind.{Kind}
-use Rattle.quorums.specs.declared.quorums.Kind.the-variants.{Read, Write}
+use Rattle.sets.specs.Upto.{Within}
+use Rattle.sets.specs.Sets.{has}
+use Rattle.bools.proofs.BoolLaws.{and-l, and-r, and-i, or-l, or-r, or-e, clash, same-test}
+use Rattle.sets.proofs.SetLaws.{has-within}
+use Rattle.quorums.specs.declared.Kind.{Kind}
+use Rattle.quorums.specs.declared.Kind.the-variants.{Read, Write}
 use Rattle.bytes.specs.Bytes.{put}
 use Rattle.table.specs.WellFormed.{limit}
 use Rattle.bytes.proofs.ByteLaws.{length-put}

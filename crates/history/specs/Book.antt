@@ -4,10 +4,10 @@ use mathlib.Core.List.{List, [], _∷_}
 use Prim.Native.Nat.{ℕ, zero, suc, _+_, _-_, _^_}
 use lib.Dec.{eqb}
 use lib.ListN.{length, getD}
-use Rattle.rows.specs.Upto.{every, some, upward}
-use Rattle.rows.specs.Sets.{has, cutTo}
-use Rattle.quorums.specs.declared.quorums.Kind.{Kind}
-use Rattle.quorums.specs.declared.quorums.Kind.the-variants.{Read, Write}
+use Rattle.sets.specs.Upto.{every, some, upward}
+use Rattle.sets.specs.Sets.{has, cutTo}
+use Rattle.quorums.specs.declared.Kind.{Kind}
+use Rattle.quorums.specs.declared.Kind.the-variants.{Read, Write}
 use Rattle.bytes.specs.Bytes.{put}
 use Rattle.protocol.specs.Lists.{listQuorum, listChoice}
 use Rattle.protocol.specs.Calls.{Call, founding, read, write, send, check, namesIn, zeros}

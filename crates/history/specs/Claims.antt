@@ -4,8 +4,8 @@ use mathlib.Core.Bool.{Bool, true, cond, _||_}
 use mathlib.Core.List.{List, [], _∷_}
 use Prim.Native.Nat.{ℕ}
 use lib.Dec.{eqb}
-use Rattle.rows.specs.Sets.{has}
-use Rattle.quorums.specs.declared.quorums.Kind.the-variants.{Write}
+use Rattle.sets.specs.Sets.{has}
+use Rattle.quorums.specs.declared.Kind.the-variants.{Write}
 use Rattle.table.specs.WellFormed.{wellFormed}
 use Rattle.protocol.specs.Calls.{Call, founding, check, firstNo, upTo, questions, outcome, namesIn}
 use Rattle.history.specs.Book.{Book, opened, holdsQuorum, someHasAll, entered}

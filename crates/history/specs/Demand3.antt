@@ -4,9 +4,9 @@ use mathlib.Core.Bool.{Bool, cond}
 use mathlib.Core.List.{List, [], _∷_}
 use Prim.Native.Nat.{ℕ, zero, suc, _<_}
 use lib.Dec.{eqb}
-use Rattle.rows.specs.Sets.{has}
-use Rattle.quorums.specs.declared.quorums.Kind.{Kind}
-use Rattle.quorums.specs.declared.quorums.Kind.the-variants.{Read, Write}
+use Rattle.sets.specs.Sets.{has}
+use Rattle.quorums.specs.declared.Kind.{Kind}
+use Rattle.quorums.specs.declared.Kind.the-variants.{Read, Write}
 use Rattle.bytes.specs.Bytes.{part}
 use Rattle.protocol.specs.Calls.{Call, founding, read, write, send, check, Outcome, firstNo, upTo, questions, outcome, namesIn}
 use Rattle.history.specs.Book.{Book, opened, holdsQuorum, someHasAll, entered}

@@ -11,13 +11,13 @@ use lib.Dec.{eqb, leb}
 use lib.ListN.{length, getD, take, length-append, length-take, List·getD-append}
 use lib.Seq.{take-suc, getD-append-add}
 use borrow.Author.Tests.{le-leb, lt-leb, leb-true, eq-eqb, ne-eqb, eqb-true}
-use Rattle.rows.specs.Upto.{Within, some, count}
-use Rattle.rows.specs.Sets.{has, gaining, noRow}
-use Rattle.rows.proofs.Bools.{and-l, and-r, and-i, or-l, or-r, or-e, same-test, clash}
-use Rattle.rows.proofs.UptoLaws.{some-at, some-of, some-none, some-ext, count-le}
-use Rattle.rows.proofs.SetLaws.{gain-where, has-within}
+use Rattle.sets.specs.Upto.{Within, some, count}
+use Rattle.sets.specs.Sets.{has, gaining, noRow}
+use Rattle.bools.proofs.BoolLaws.{and-l, and-r, and-i, or-l, or-r, or-e, same-test, clash}
+use Rattle.sets.proofs.UptoLaws.{some-at, some-of, some-none, some-ext, count-le}
+use Rattle.sets.proofs.SetLaws.{gain-where, has-within}
 use Rattle.grid.specs.declared.Grid.{Grid}
-use Rattle.quorums.specs.declared.quorums.Kind.{Kind}
+use Rattle.quorums.specs.declared.Kind.{Kind}
 use Rattle.grid.specs.Sizes.{published, noGrid}
 use Rattle.quorums.specs.Quorums.{quorum, choice}
 use Rattle.grid.proofs.SizeLaws.{published-fits}

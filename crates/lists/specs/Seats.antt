@@ -4,7 +4,7 @@ use mathlib.Core.Bool.{Bool, cond}
 use mathlib.Core.List.{List}
 use Prim.Native.Nat.{ℕ, _+_}
 use lib.ListN.{getD}
-use Rattle.rows.specs.Sets.{has}
+use Rattle.sets.specs.Sets.{has}
 
 -- of the row at place j, after n seats: the row, whether v lists it, and the seats with it
 pub record Seat (order : List ℕ) (v j n row seat : ℕ) (member : Bool) : Type 0 where

@@ -1,6 +1,6 @@
 // A list of rows in chain order: the quorum that a set holds of it, and the choice that a name makes over it.
 // The chain order is the first `count` of an array of 64 rows.
-use bytes::both;
+use bools::both;
 use quorums::Kind;
 use rows::RowSet;
 ghost use mathlib.Core.Path.{_≡_};
@@ -8,8 +8,8 @@ ghost use mathlib.Core.Bool.{_&&_, cond};
 ghost use Prim.Native.Nat.{ℕ, _+_, _≤_, _<_};
 ghost use lib.Dec.{eqb};
 ghost use lib.ListN.{length, take};
-ghost use Rattle.rows.specs.Upto.{some};
-ghost use Rattle.rows.specs.Sets.{has};
+ghost use Rattle.sets.specs.Upto.{some};
+ghost use Rattle.sets.specs.Sets.{has};
 ghost use Rattle.lists.specs.Seats.{Seat};
 ghost use Rattle.protocol.specs.Lists.{seats, atSeat, listQuorum, listChoice};
 
@@ -88,7 +88,7 @@ pub fn quorum(kind: Kind, order: &[u8; 64], count: usize, list: RowSet, set: Row
     ensures { λ r. ⌜ r ≡ listQuorum kind (take count (now (order .entry))) (list .bits) (has (set .bits)) ⌝ }
 {
     let length = list.size();
-    quorums::holds(
+    coterie::holds(
         kind,
         grid::published(length),
         length,
@@ -106,6 +106,6 @@ pub fn choice(kind: Kind, order: &[u8; 64], count: usize, list: RowSet, name: u1
         order,
         count,
         list,
-        quorums::choose(kind, grid::published(length), length, name),
+        coterie::choose(kind, grid::published(length), length, name),
     )
 }

@@ -10,9 +10,9 @@ use lib.Dec.{eqb, leb}
 use lib.ListN.{length, getD, set, replicate, length-set}
 use lib.Seq.{getD-set-same, getD-set-other}
 use borrow.Author.Tests.{le-leb, lt-leb, eq-eqb, ne-eqb}
-use Rattle.rows.specs.Upto.{Within, some, most}
-use Rattle.rows.specs.Sets.{has, isRow, noRow, gaining}
-use Rattle.rows.proofs.SetLaws.{row-yes, gain-where, has-within}
+use Rattle.sets.specs.Upto.{Within, some, most}
+use Rattle.sets.specs.Sets.{has, isRow, noRow, gaining}
+use Rattle.sets.proofs.SetLaws.{row-yes, gain-where, has-within}
 use Rattle.polls.specs.Shows.{placed}
 
 pub placed-at : (xs : List ℕ) (k : ℕ) → k < 64 → placed xs (k + 1) ≡ getD xs k 0

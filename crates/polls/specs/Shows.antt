@@ -4,7 +4,7 @@ use mathlib.Core.Bool.{Bool, cond, _&&_}
 use mathlib.Core.List.{List}
 use Prim.Native.Nat.{ℕ, _-_}
 use lib.ListN.{getD}
-use Rattle.rows.specs.Sets.{has, isRow}
+use Rattle.sets.specs.Sets.{has, isRow}
 use Rattle.protocol.specs.Polls as definition
 use Rattle.fields.specs.Layout.{staleOf, versionOf, desiredOf, epochOf}
 use Rattle.polls.specs.declared.Poll.{Poll}

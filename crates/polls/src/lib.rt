@@ -1,13 +1,13 @@
 // What the answering rows say, and questions 6 and 7 about a set of them.
-use bytes::any;
-use bytes::both;
+use bools::any;
+use bools::both;
 use rows::RowSet;
 ghost use mathlib.Core.Path.{_≡_};
 ghost use mathlib.Core.Bool.{_&&_, cond};
 ghost use Prim.Native.Nat.{ℕ, _^_, _<_, max};
 ghost use lib.Dec.{eqb, ltb};
-ghost use Rattle.rows.specs.Upto.{Within, some, most};
-ghost use Rattle.rows.specs.Sets.{has};
+ghost use Rattle.sets.specs.Upto.{Within, some, most};
+ghost use Rattle.sets.specs.Sets.{has};
 ghost use Rattle.fields.specs.Layout.{usedOf};
 ghost use Rattle.table.specs.Contracts.{Sized};
 ghost use Rattle.protocol.specs.Polls.{polled};
@@ -56,7 +56,7 @@ pub fn gather(t: &[u8], answering: RowSet) -> Poll
     requires { ⌜ Sized (now t) × (answering .bits < 2 ^ usedOf (now t)) ⌝ }
     ensures { λ r. ⌜ Shows r (polled (now (t .entry)) (has (answering .bits))) ⌝ }
 {
-    let used = fields::used(t);
+    let used = header::used(t);
     let mut stale = RowSet::EMPTY;
     let mut versions = [0u32; 64];
     let mut desired = [0u32; 64];

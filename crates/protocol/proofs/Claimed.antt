@@ -8,11 +8,11 @@ use native.Mathlib.Omega.{arith}
 use lib.Dec.{eqb, leb, ltb, eqb·suc-zero}
 use lib.ListN.{length, take, drop}
 use borrow.Author.Tests.{eqb-true, eq-eqb, ne-eqb, eqb-false, ltb-true}
-use Rattle.rows.specs.Upto.{Within}
-use Rattle.rows.specs.Sets.{has}
-use Rattle.rows.proofs.Bools.{and-l, and-r, or-e, clash}
-use Rattle.quorums.specs.declared.quorums.Kind.{Kind}
-use Rattle.quorums.specs.declared.quorums.Kind.the-variants.{Read, Write}
+use Rattle.sets.specs.Upto.{Within}
+use Rattle.sets.specs.Sets.{has}
+use Rattle.bools.proofs.BoolLaws.{and-l, and-r, or-e, clash}
+use Rattle.quorums.specs.declared.Kind.{Kind}
+use Rattle.quorums.specs.declared.Kind.the-variants.{Read, Write}
 use Rattle.bytes.specs.Bytes.{part}
 use Rattle.fields.specs.Layout
 use Rattle.fields.specs.Layout.{usedOf, fileOf, nameOf, linkOf, rowLength, rowsEnd, rowBytes}

@@ -5,8 +5,8 @@ use mathlib.Core.List.{List, [], _∷_, _++_}
 use Prim.Native.Nat.{ℕ, zero, suc, _+_, _*_}
 use lib.Dec.{eqb}
 use lib.ListN.{length, replicate}
-use Rattle.rows.specs.Upto
-use Rattle.rows.specs.Sets
+use Rattle.sets.specs.Upto
+use Rattle.sets.specs.Sets
 use Rattle.grid.specs.Sizes
 use Rattle.quorums.specs.Quorums
 use Rattle.bytes.specs.Bytes

@@ -13,11 +13,11 @@ use lib.Pow.{pow-mono, ones-lt}
 use lib.ListN.{length, getD, take, drop, replicate, length-append, length-replicate}
 use lib.Seq.{take-at, drop-at, drop-drop}
 use borrow.Author.Tests.{eqb-true, eq-eqb, ne-eqb, ltb-true, lt-ltb, leb-true, le-leb}
-use Rattle.rows.specs.Upto.{Within, every, upward}
-use Rattle.rows.specs.Sets.{has}
-use Rattle.rows.proofs.Bools.{and-l, and-r, and-i, or-l, or-r, clash}
-use Rattle.rows.proofs.UptoLaws.{every-of}
-use Rattle.rows.proofs.SetLaws.{has-all}
+use Rattle.sets.specs.Upto.{Within, every, upward}
+use Rattle.sets.specs.Sets.{has}
+use Rattle.bools.proofs.BoolLaws.{and-l, and-r, and-i, or-l, or-r, clash}
+use Rattle.sets.proofs.UptoLaws.{every-of}
+use Rattle.sets.proofs.SetLaws.{has-all}
 use Rattle.bytes.specs.Bytes.{number, bytesOf, part, allZero}
 use Rattle.fields.specs.Layout.{get, form, capacity, used, first, fileLength, name, link, mark, version, desired, epoch, members, reserved, contents, rowLength, rowsEnd, rowBytes, capacityOf, usedOf, firstOf, fileOf, nameOf, linkOf}
 use Rattle.table.specs.Chain.{chain, orderOf, among, risesFrom}

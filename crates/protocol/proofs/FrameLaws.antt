@@ -7,7 +7,7 @@ use native.Mathlib.Decide.{decLe}
 use native.Mathlib.Omega.{arith}
 use lib.Dec.{eqb}
 use lib.ListN.{length, drop}
-use Rattle.rows.specs.Upto.{Within, every}
+use Rattle.sets.specs.Upto.{Within, every}
 use Rattle.bytes.specs.Bytes.{part, allZero}
 use Rattle.fields.specs.Layout.{get, form, capacity, used, first, fileLength, name, link, capacityOf, usedOf, firstOf, fileOf, nameOf, linkOf, rowLength, rowsEnd, rowBytes}
 use Rattle.table.specs.Chain.{chain, orderOf, among, risesFrom}

@@ -6,11 +6,11 @@ use Prim.Native.Nat.{ℕ, _<_, _≤_}
 use native.Mathlib.Omega.{arith}
 use lib.Dec.{leb, ltb, eqb}
 use borrow.Author.Tests.{eqb-true, eq-eqb, leb-true, le-leb, not-true, ltb-true, ltb-false, lt-ltb, le-ltb}
-use Rattle.rows.specs.Upto.{Within, some, lowest, most}
-use Rattle.rows.specs.Sets.{has, cutTo}
-use Rattle.rows.proofs.Bools.{and-l, and-r, and-i, same-test, clash}
-use Rattle.rows.proofs.UptoLaws.{some-at, some-of, some-none, some-ext, most-le, most-at, most-under, most-ext, lowest-at, lowest-ext}
-use Rattle.quorums.specs.declared.quorums.Kind.{Kind}
+use Rattle.sets.specs.Upto.{Within, some, lowest, most}
+use Rattle.sets.specs.Sets.{has, cutTo}
+use Rattle.bools.proofs.BoolLaws.{and-l, and-r, and-i, same-test, clash}
+use Rattle.sets.proofs.UptoLaws.{some-at, some-of, some-none, some-ext, most-le, most-at, most-under, most-ext, lowest-at, lowest-ext}
+use Rattle.quorums.specs.declared.Kind.{Kind}
 use Rattle.protocol.specs.Lists.{listQuorum, listChoice}
 use Rattle.protocol.specs.Polls.{Poll, highestEpoch, inForce, unmarked, marked, goodVersion, good, current, quorumHeld, ownTry, workedOn}
 

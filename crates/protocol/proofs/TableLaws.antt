@@ -10,8 +10,8 @@ use native.Mathlib.Omega.{arith}
 use lib.Dec.{eqb}
 use lib.ListN.{length, take, drop}
 use borrow.Author.Tests.{eqb-true, eq-eqb, ne-eqb}
-use Rattle.rows.specs.Upto.{Within}
-use Rattle.rows.proofs.UptoLaws.{last}
+use Rattle.sets.specs.Upto.{Within}
+use Rattle.sets.proofs.UptoLaws.{last}
 use Rattle.bytes.specs.Bytes.{number, part, put}
 use Rattle.fields.specs.Layout.{Field, get, fileLength, rowLength, rowsEnd, rowBytes}
 use Rattle.bytes.proofs.ByteLaws.{length-part, length-put, part-put, part-apart, drop-put-after}

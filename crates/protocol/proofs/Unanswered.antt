@@ -8,11 +8,11 @@ use native.Mathlib.Omega.{arith}
 use lib.Dec.{eqb, leb, ltb, eqb·suc-zero}
 use lib.ListN.{length, take, drop}
 use borrow.Author.Tests.{eqb-true, ltb-true}
-use Rattle.rows.specs.Upto.{Within, lowest}
-use Rattle.rows.specs.Sets.{has}
-use Rattle.rows.proofs.SetLaws.{has-within}
-use Rattle.quorums.specs.declared.quorums.Kind.{Kind}
-use Rattle.quorums.specs.declared.quorums.Kind.the-variants.{Read, Write}
+use Rattle.sets.specs.Upto.{Within, lowest}
+use Rattle.sets.specs.Sets.{has}
+use Rattle.sets.proofs.SetLaws.{has-within}
+use Rattle.quorums.specs.declared.Kind.{Kind}
+use Rattle.quorums.specs.declared.Kind.the-variants.{Read, Write}
 use Rattle.bytes.specs.Bytes.{number, part}
 use Rattle.fields.specs.Layout
 use Rattle.fields.specs.Layout.{get, mark, version, desired, epoch, members, usedOf, firstOf, fileOf, capacityOf, nameOf, linkOf, staleOf, versionOf, desiredOf, epochOf, membersOf, contentsOf, rowsEnd, rowBytes}

@@ -4,8 +4,8 @@ use mathlib.Core.Bool.{Bool, true, false}
 use mathlib.Core.List.{List}
 use Prim.Native.Nat.{ℕ, _+_}
 use lib.ListN.{length, take, drop}
-use Rattle.rows.specs.Upto.{Within}
-use Rattle.rows.specs.Sets.{has}
+use Rattle.sets.specs.Upto.{Within}
+use Rattle.sets.specs.Sets.{has}
 use Rattle.fields.specs.Layout.{usedOf, nameOf, linkOf, rowsEnd, rowBytes}
 use Rattle.table.specs.WellFormed.{wellFormed}
 use Rattle.protocol.specs.Calls.{Call, founding, read, write, send, check, Outcome, lent, outcome}

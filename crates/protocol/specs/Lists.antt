@@ -4,10 +4,10 @@ use mathlib.Core.List.{List, [], _∷_}
 use Prim.Native.Nat.{ℕ, _-_}
 use lib.Dec.{eqb, leb}
 use lib.ListN.{length, getD}
-use Rattle.rows.specs.Upto.{some, count}
-use Rattle.rows.specs.Sets.{has}
+use Rattle.sets.specs.Upto.{some, count}
+use Rattle.sets.specs.Sets.{has}
 use Rattle.grid.specs.declared.Grid.{Grid}
-use Rattle.quorums.specs.declared.quorums.Kind.{Kind}
+use Rattle.quorums.specs.declared.Kind.{Kind}
 use Rattle.grid.specs.Sizes.{published}
 use Rattle.quorums.specs.Quorums.{quorum, choice}
 

@@ -3,9 +3,9 @@ use mathlib.Core.Bool.{Bool, not, cond, _&&_, _||_}
 use mathlib.Core.List.{List}
 use Prim.Native.Nat.{ℕ}
 use lib.Dec.{eqb, leb, ltb}
-use Rattle.rows.specs.Upto.{some, lowest, most}
-use Rattle.rows.specs.Sets.{has, cutTo}
-use Rattle.quorums.specs.declared.quorums.Kind.{Kind}
+use Rattle.sets.specs.Upto.{some, lowest, most}
+use Rattle.sets.specs.Sets.{has, cutTo}
+use Rattle.quorums.specs.declared.Kind.{Kind}
 use Rattle.fields.specs.Layout.{epochOf, membersOf, staleOf, versionOf, desiredOf}
 use Rattle.protocol.specs.Lists.{listQuorum, listChoice}
 

@@ -1,5 +1,5 @@
 // The questions that a call is asked before its poll, the limit, and the result.
-use bytes::both;
+use bools::both;
 use rows::RowSet;
 ghost use mathlib.Core.Path.{_≡_};
 ghost use mathlib.Core.Bool.{_&&_};
@@ -29,7 +29,7 @@ pub fn coordinator_asked(t: &[u8], c: usize, answering: RowSet) -> u32
     ensures { λ r. ⌜ r ≡ firstNo (byCoordinator (now (t .entry)) c (answering .bits) []) ⌝ }
 {
     if wellformed::well_formed(t) {
-        let used = fields::used(t);
+        let used = header::used(t);
         if both(
             values::between(1, c, used),
             values::only_rows(used, answering.bits),
@@ -65,7 +65,7 @@ pub fn range_asked(t: &[u8], c: usize, answering: RowSet, offset: usize, count: 
     if no != 0 {
         return no;
     }
-    if in_range(fields::file_length(t), offset, count) {
+    if in_range(header::file_length(t), offset, count) {
         return 0;
     }
     4

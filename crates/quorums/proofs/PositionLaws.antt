@@ -8,7 +8,7 @@ use native.Mathlib.Omega.{arith}
 use lib.Dec.{leb}
 use lib.Arith.{digits-div, digits-mod}
 use borrow.Author.Tests.{leb-true, leb-false}
-use Rattle.rows.specs.Upto.{Within}
+use Rattle.sets.specs.Upto.{Within}
 use Rattle.grid.specs.declared.Grid.{Grid}
 use Rattle.grid.specs.Sizes.{spare, rowOf, columnOf, height}
 use Rattle.grid.proofs.SizeLaws.{Fits}

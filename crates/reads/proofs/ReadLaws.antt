@@ -7,10 +7,10 @@ use native.Mathlib.Omega.{arith}
 use lib.Dec.{eqb}
 use lib.ListN.{length}
 use borrow.Author.Tests.{eq-eqb, ne-eqb}
-use Rattle.rows.specs.Upto.{Within, lowest}
-use Rattle.rows.specs.Sets.{has}
-use Rattle.rows.proofs.SetLaws.{has-within}
-use Rattle.quorums.specs.declared.quorums.Kind.the-variants.{Read}
+use Rattle.sets.specs.Upto.{Within, lowest}
+use Rattle.sets.specs.Sets.{has}
+use Rattle.sets.proofs.SetLaws.{has-within}
+use Rattle.quorums.specs.declared.Kind.the-variants.{Read}
 use Rattle.bytes.specs.Bytes.{part}
 use Rattle.fields.specs.Layout.{usedOf, nameOf, rowBytes, contents, contentsOf}
 use Rattle.table.specs.Chain.{orderOf}

@@ -9,7 +9,7 @@ use native.Mathlib.Decide.{decLt}
 use native.Mathlib.Omega.{arith}
 use lib.ListN.{length, getD, take, drop, set, length-drop}
 use lib.Seq.{drop-drop, take-at, drop-at, take-add, take-all, getD-drop, length-take-le, take-append-le, drop-append-le, paste, paste-zero, paste-suc}
-use Rattle.rows.specs.Upto.{Within}
+use Rattle.sets.specs.Upto.{Within}
 use Rattle.bytes.specs.Bytes.{part, put}
 use Rattle.fields.specs.Layout.{get, store, mark, version, desired, contents, storeContents, usedOf, fileOf, rowLength, rowsEnd, rowBytes}
 use Rattle.table.specs.Contracts.{Sized}

@@ -3,7 +3,7 @@ ghost use mathlib.Core.Path.{_≡_};
 ghost use mathlib.Core.Logic.{_⊎_, _≢_};
 ghost use Prim.Native.Nat.{_+_, _≤_};
 ghost use lib.ListN.{length};
-ghost use Rattle.rows.specs.Upto.{Within};
+ghost use Rattle.sets.specs.Upto.{Within};
 ghost use Rattle.bytes.specs.Bytes.{part, put};
 ghost use Rattle.fields.specs.Layout.{store, mark, version, desired, usedOf, rowBytes};
 ghost use Rattle.table.specs.Contracts.{Sized};
@@ -37,7 +37,7 @@ pub fn refresh(t: &mut [u8], from: usize, to: usize)
     ensures { λ r. ⌜ now (t .exit) ≡ withRow (now (t .entry)) to (refreshedRow (rowBytes (now (t .entry)) from)) ⌝ }
 {
     let version = fields::version(table::row_of(t, from));
-    let file = fields::file_length(t);
+    let file = header::file_length(t);
     let source = table::rows_end(t, from) - file;
     let target = table::rows_end(t, to) - file;
     let size = table::row_length(t);

@@ -1,8 +1,8 @@
 // A set of rows: bit i - 1 for row i, rows 1 to 64. Positions and columns of a grid count the same way.
 ghost use mathlib.Core.Path.{_≡_};
 ghost use mathlib.Core.Bool.{cond, not};
-ghost use Rattle.rows.specs.Upto.{every, some, count, lowest, most};
-ghost use Rattle.rows.specs.Sets.{has, firstRows, gaining, losing, cutTo, leftOf};
+ghost use Rattle.sets.specs.Upto.{every, some, count, lowest, most};
+ghost use Rattle.sets.specs.Sets.{has, firstRows, gaining, losing, cutTo, leftOf};
 
 pub struct RowSet {
     pub bits: u64,

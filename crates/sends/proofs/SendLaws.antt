@@ -4,9 +4,9 @@ use mathlib.Core.Bool.{Bool, true, not, cond, _&&_}
 use mathlib.Core.List.{List}
 use Prim.Native.Nat.{ℕ, _+_, _*_, _^_}
 use lib.Dec.{eqb, leb}
-use Rattle.rows.specs.Upto.{Within}
-use Rattle.rows.specs.Sets.{has}
-use Rattle.rows.proofs.Bools.{and-l, and-r}
+use Rattle.sets.specs.Upto.{Within}
+use Rattle.sets.specs.Sets.{has}
+use Rattle.bools.proofs.BoolLaws.{and-l, and-r}
 use Rattle.fields.specs.Layout.{get, version, usedOf, staleOf, versionOf, desiredOf, rowBytes}
 use Rattle.table.specs.WellFormed.{between, onlyRows, wellFormed}
 use Rattle.table.proofs.FormLaws.{between-is}

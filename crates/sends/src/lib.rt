@@ -1,5 +1,5 @@
 // A send: its questions in order, then what is done.
-use bytes::both;
+use bools::both;
 use questions::result;
 use rows::RowSet;
 use values::between;
@@ -44,7 +44,7 @@ fn send_asked(t: &[u8], from: usize, to: usize, answering: RowSet) -> u32
     ensures { λ r. ⌜ r ≡ firstNo (questions (now (t .entry)) (send from to (answering .bits))) ⌝ }
 {
     if wellformed::well_formed(t) {
-        if rows_named(fields::used(t), from, to, answering) {
+        if rows_named(header::used(t), from, to, answering) {
             if both(answering.has(from), answering.has(to)) {
                 return rows_asked(table::row_of(t, from), table::row_of(t, to));
             }

@@ -4,11 +4,11 @@ use mathlib.Core.Bool.{Bool, true, false, not, cond, _&&_}
 use mathlib.Core.List.{List}
 use Prim.Native.Nat.{ℕ, _≤_}
 use lib.Dec.{eqb}
-use Rattle.rows.specs.Upto.{Within, lowest, most}
-use Rattle.rows.specs.Sets.{has}
-use Rattle.rows.proofs.Bools.{and-l}
-use Rattle.rows.proofs.UptoLaws.{lowest-in}
-use Rattle.rows.proofs.SetLaws.{has-within}
+use Rattle.sets.specs.Upto.{Within, lowest, most}
+use Rattle.sets.specs.Sets.{has}
+use Rattle.bools.proofs.BoolLaws.{and-l}
+use Rattle.sets.proofs.UptoLaws.{lowest-in}
+use Rattle.sets.proofs.SetLaws.{has-within}
 use Rattle.fields.specs.Layout.{get, members, usedOf, rowBytes, membersOf}
 use Rattle.protocol.specs.Polls.{Poll, polled, highestEpoch, inForce}
 use Rattle.protocol.specs.Calls.{answers}

@@ -4,9 +4,9 @@ use mathlib.Core.Bool.{Bool, true, false, not, cond, _&&_}
 use mathlib.Core.List.{List}
 use Prim.Native.Nat.{ℕ}
 use lib.Dec.{eqb, ltb}
-use Rattle.rows.specs.Upto.{some, most}
-use Rattle.rows.specs.Sets.{has, cutTo, leftOf}
-use Rattle.quorums.specs.declared.quorums.Kind.{Kind}
+use Rattle.sets.specs.Upto.{some, most}
+use Rattle.sets.specs.Sets.{has, cutTo, leftOf}
+use Rattle.quorums.specs.declared.Kind.{Kind}
 use Rattle.table.specs.Chain.{orderOf}
 use Rattle.protocol.specs.Polls.{highestEpoch, inForce, unmarked, marked, goodVersion, good, current, quorumHeld}
 use Rattle.protocol.specs.Calls.{answers}

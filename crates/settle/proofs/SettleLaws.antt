@@ -5,8 +5,8 @@ use mathlib.Core.List.{List}
 use Prim.Native.Nat.{ℕ, _≤_}
 use native.Mathlib.Omega.{arith}
 use lib.ListN.{take}
-use Rattle.rows.specs.Sets.{has, cutTo}
-use Rattle.quorums.specs.declared.quorums.Kind.{Kind}
+use Rattle.sets.specs.Sets.{has, cutTo}
+use Rattle.quorums.specs.declared.Kind.{Kind}
 use Rattle.fields.specs.Layout.{membersOf, nameOf}
 use Rattle.table.specs.Chain.{orderOf}
 use Rattle.protocol.specs.Lists.{listChoice}

@@ -4,8 +4,8 @@ use mathlib.Core.Bool.{Bool, true, cond}
 use mathlib.Core.List.{List}
 use Prim.Native.Nat.{ℕ, _^_, _≤_, _<_}
 use lib.ListN.{length, take}
-use Rattle.rows.specs.Sets.{has}
-use Rattle.quorums.specs.declared.quorums.Kind.{Kind}
+use Rattle.sets.specs.Sets.{has}
+use Rattle.quorums.specs.declared.Kind.{Kind}
 use Rattle.fields.specs.Layout.{usedOf}
 use Rattle.table.specs.Chain.{orderOf}
 use Rattle.table.specs.Contracts.{Sized}

@@ -1,15 +1,15 @@
 // The set that a call works on, and questions 6 and 7.
-use bytes::both;
+use bools::both;
+use chain::Order;
 use polls::Poll;
 use quorums::Kind;
 use rows::RowSet;
-use table::Order;
 ghost use mathlib.Core.Path.{_≡_};
 ghost use mathlib.Core.Bool.{true, cond, _&&_};
 ghost use Prim.Native.Nat.{ℕ, _^_, _≤_, _<_};
 ghost use lib.ListN.{length, take};
-ghost use Rattle.rows.specs.Upto.{some, most};
-ghost use Rattle.rows.specs.Sets.{has};
+ghost use Rattle.sets.specs.Upto.{some, most};
+ghost use Rattle.sets.specs.Sets.{has};
 ghost use Rattle.fields.specs.Layout.{usedOf};
 ghost use Rattle.table.specs.WellFormed.{wellFormed};
 ghost use Rattle.protocol.specs.Lists.{listQuorum};
@@ -125,7 +125,7 @@ pub fn settle(kind: Kind, t: &[u8], c: usize, answering: RowSet) -> Settled
     requires { ⌜ (wellFormed (now t) ≡ true) × (answering .bits < 2 ^ usedOf (now t)) × (has (answering .bits) c ≡ true) ⌝ }
     ensures { λ r. ⌜ (has (r .rows .bits) ≡ workSet kind (now (t .entry)) c (answering .bits)) × Judged kind (now (t .entry)) (answering .bits) (has (r .rows .bits)) (r .verdict) ⌝ }
 {
-    let order = table::chain_order(t);
+    let order = chain::chain_order(t);
     let poll = polls::gather(t, answering);
     decide(kind, t, order, poll, answering, c)
 }

@@ -4,7 +4,7 @@ ghost use mathlib.Core.Path.{_≡_};
 ghost use mathlib.Core.Bool.{cond};
 ghost use Prim.Native.Nat.{_+_, _≤_};
 ghost use lib.ListN.{length};
-ghost use Rattle.rows.specs.Sets.{has};
+ghost use Rattle.sets.specs.Sets.{has};
 ghost use Rattle.fields.specs.Layout.{version, desired, usedOf, rowLength};
 ghost use Rattle.table.specs.Contracts.{Sized};
 ghost use Rattle.protocol.specs.Rows.{markedRow, patchedRow, enrolledRow, withRows, wroteRow, checkedRow};
@@ -53,7 +53,7 @@ pub fn write_rows(
     requires { ⌜ Sized (now t) × (32 + offset + length (now patch) ≤ rowLength (now t)) ⌝ }
     ensures { λ r. ⌜ now (t .exit) ≡ withRows (now (t .entry)) (has (works .bits)) (wroteRow (has (good .bits)) version offset (now (patch .entry))) (usedOf (now (t .entry))) ⌝ }
 {
-    let used = fields::used(t);
+    let used = header::used(t);
     let size = table::row_length(t);
     let mut at = table::rows_end(t, 0);
     let mut i = 0;
@@ -107,7 +107,7 @@ pub fn check_rows(t: &mut [u8], set: RowSet, good: RowSet, version: u32, epoch: 
     requires { ⌜ Sized (now t) ⌝ }
     ensures { λ r. ⌜ now (t .exit) ≡ withRows (now (t .entry)) (has (set .bits)) (checkedRow (has (good .bits)) version epoch (set .bits)) (usedOf (now (t .entry))) ⌝ }
 {
-    let used = fields::used(t);
+    let used = header::used(t);
     let size = table::row_length(t);
     let mut at = table::rows_end(t, 0);
     let mut i = 0;

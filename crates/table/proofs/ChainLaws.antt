@@ -13,16 +13,15 @@ use lib.ListN.{length, getD, take, drop, set, replicate, length-set, length-appe
 use lib.Seq.{take-all, take-suc, take-suc-set, append-snoc, drop-cons, drop-length, getD-set-same, getD-set-other, length-take-le}
 use borrow.Author.Tests.{eqb-true, eq-eqb, ne-eqb}
 use borrow.Author.Count.{below-more}
-use Rattle.rows.specs.Upto.{Within, every}
-use Rattle.rows.specs.Sets.{gaining}
-use Rattle.rows.proofs.Bools.{and-l, and-r, clash}
-use Rattle.rows.proofs.UptoLaws.{every-at}
-use Rattle.rows.proofs.SetLaws.{gain-where}
+use Rattle.sets.specs.Upto.{Within, every}
+use Rattle.sets.specs.Sets.{gaining}
+use Rattle.bools.proofs.BoolLaws.{and-l, and-r, clash, and-assoc}
+use Rattle.sets.proofs.UptoLaws.{every-at}
+use Rattle.sets.proofs.SetLaws.{gain-where}
 use Rattle.fields.specs.Layout.{usedOf, firstOf, linkOf, nameOf}
 use Rattle.table.specs.Chain.{chain, orderOf, among, risesFrom}
 use Rattle.table.specs.WellFormed.{visitsEach, namesRise, wellFormed}
 use Rattle.table.specs.Contracts.{Linked, Listed, Walked, Followed}
-use Rattle.bytes.proofs.CodeLaws.{and-assoc}
 use Rattle.table.proofs.TestLaws.{eqb-swap}
 use Rattle.table.proofs.WellFormedLaws.{header, few-rows, link-in}
 

@@ -10,9 +10,9 @@ use lib.Dec.{eqb}
 use lib.ListN.{length, getD, set, replicate, length-set}
 use lib.Seq.{getD-set-same, getD-set-other}
 use borrow.Author.Tests.{eqb-true, eq-eqb}
-use Rattle.rows.specs.Upto.{Within, every}
-use Rattle.rows.proofs.Bools.{and-l, and-r, same-test}
-use Rattle.rows.proofs.UptoLaws.{last, every-at, every-of, every-ext}
+use Rattle.sets.specs.Upto.{Within, every}
+use Rattle.bools.proofs.BoolLaws.{and-l, and-r, same-test}
+use Rattle.sets.proofs.UptoLaws.{last, every-at, every-of, every-ext}
 use Rattle.fields.specs.Layout.{get, epoch, members, usedOf, rowBytes, epochOf, membersOf}
 use Rattle.table.specs.WellFormed.{listsAgree, wellFormed}
 use Rattle.table.proofs.TestLaws.{eqb-swap}

@@ -7,15 +7,14 @@ use native.Mathlib.Nat.{mul-le-mul-right, suc-mul}
 use native.Mathlib.Omega.{arith}
 use lib.ListN.{length}
 use borrow.Author.Tests.{eqb-true, ne-eqb}
-use Rattle.rows.specs.Upto.{Within, every}
-use Rattle.rows.proofs.Bools.{and-l, and-r}
-use Rattle.rows.proofs.UptoLaws.{every-at}
+use Rattle.sets.specs.Upto.{Within, every}
+use Rattle.bools.proofs.BoolLaws.{and-l, and-r, and-assoc}
+use Rattle.sets.proofs.UptoLaws.{every-at}
 use Rattle.bytes.specs.Bytes.{part}
 use Rattle.fields.specs.Layout.{capacityOf, usedOf, fileOf, rowLength, rowsEnd, rowBytes, linkOf}
 use Rattle.table.specs.WellFormed.{headerValues, lengthRight, rowRight, visitsEach, namesRise, unusedZero, listsAgree, wellFormed}
 use Rattle.table.specs.Contracts.{Sized, Linked}
 use Rattle.bytes.proofs.ByteLaws.{length-part}
-use Rattle.bytes.proofs.CodeLaws.{and-assoc}
 use Rattle.table.proofs.FormLaws.{HeaderFacts, header-facts, row-facts}
 
 pub header : {t : List ℕ} → headerValues t ≡ true → HeaderFacts t

@@ -5,7 +5,7 @@ use mathlib.Core.Logic.{_⊎_}
 use mathlib.Core.List.{List, _++_}
 use Prim.Native.Nat.{ℕ, _+_, _≤_, _<_}
 use lib.ListN.{length, getD, take}
-use Rattle.rows.specs.Upto.{Within, every}
+use Rattle.sets.specs.Upto.{Within, every}
 use Rattle.fields.specs.Layout.{usedOf, firstOf, linkOf, rowBytes}
 use Rattle.table.specs.Chain.{chain}
 use Rattle.table.specs.WellFormed.{headerValues, lengthRight, rowRight}

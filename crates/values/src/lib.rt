@@ -1,7 +1,7 @@
 // The values that question 1 allows: tests that the calls share, and all that is asked of one used row by itself.
+use bools::both;
+use bools::either;
 use bytes::all_zero;
-use bytes::both;
-use bytes::either;
 use rows::RowSet;
 ghost use mathlib.Core.Path.{_≡_};
 ghost use Prim.Native.Nat.{_≤_};

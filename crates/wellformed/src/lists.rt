@@ -1,12 +1,12 @@
 // Used rows of one epoch carry the same list.
-use bytes::any;
-use bytes::both;
+use bools::any;
+use bools::both;
 ghost use mathlib.Core.Path.{_≡_};
 ghost use mathlib.Core.Bool.{not, _||_};
 ghost use Prim.Native.Nat.{_-_, _≤_};
 ghost use lib.Dec.{eqb};
 ghost use lib.ListN.{getD};
-ghost use Rattle.rows.specs.Upto.{every};
+ghost use Rattle.sets.specs.Upto.{every};
 ghost use Rattle.fields.specs.Layout.{usedOf, rowBytes};
 ghost use Rattle.table.specs.WellFormed.{listsAgree};
 ghost use Rattle.table.specs.Contracts.{Sized};
@@ -30,7 +30,7 @@ pub fn lists_agree(t: &[u8]) -> bool
     requires { ⌜ Sized (now t) ⌝ }
     ensures { λ r. ⌜ r ≡ every (usedOf (now (t .entry))) (λ i. every (usedOf (now (t .entry))) (λ j. listsAgree (rowBytes (now (t .entry)) i) (rowBytes (now (t .entry)) j))) ⌝ }
 {
-    let used = fields::used(t);
+    let used = header::used(t);
     let mut epochs = [0u32; 64];
     let mut lists = [0u64; 64];
     let mut ok = true;

@@ -7,9 +7,9 @@ use native.Mathlib.Omega.{arith}
 use lib.Dec.{ltb}
 use lib.ListN.{length}
 use borrow.Author.Tests.{lt-ltb, ltb-true}
-use Rattle.rows.specs.Sets.{has}
-use Rattle.rows.proofs.Bools.{clash, same-test}
-use Rattle.quorums.specs.declared.quorums.Kind.the-variants.{Write}
+use Rattle.sets.specs.Sets.{has}
+use Rattle.bools.proofs.BoolLaws.{clash, same-test}
+use Rattle.quorums.specs.declared.Kind.the-variants.{Write}
 use Rattle.fields.specs.Layout.{usedOf, rowLength}
 use Rattle.table.specs.Chain.{orderOf}
 use Rattle.table.specs.WellFormed.{limit}

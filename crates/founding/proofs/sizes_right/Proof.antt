@@ -6,7 +6,7 @@ use native.Mathlib.Nat.{mul-le-mul}
 use native.Mathlib.Omega.{arith}
 use borrow.Author.Tests.{not-true, not-false}
 use lib.Dec.{leb}
-use Rattle.rows.proofs.Bools.{and-l, and-r}
+use Rattle.bools.proofs.BoolLaws.{and-l, and-r}
 use Rattle.table.specs.WellFormed.{between}
 use Rattle.table.proofs.FormLaws.{between-is}
 use Rattle.founding.proofs.sizes_right.Statement.{statement}

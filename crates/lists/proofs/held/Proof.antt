@@ -5,8 +5,8 @@ use borrow.Author.Needs.{needs}
 use lib.ListN.{length, take}
 use Rattle.lists.proofs.SeatLaws.{seat-next, seat-few, held-next, none-held}
 use Rattle.protocol.specs.Lists.{keep, seats, atSeat}
-use Rattle.rows.proofs.SetLaws.{has-empty}
-use Rattle.rows.specs.Sets.{has}
+use Rattle.sets.proofs.SetLaws.{has-empty}
+use Rattle.sets.specs.Sets.{has}
 use Rattle.lists.proofs.held.Statement.{statement}
 use Rattle.lists.proofs.held.Tie as tie
 

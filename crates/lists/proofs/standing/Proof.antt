@@ -7,9 +7,9 @@ use lib.ListN.{length, take}
 use lib.Dec.{eqb}
 use Rattle.lists.proofs.SeatLaws.{seat-next, seat-few, standing-next, none-standing}
 use Rattle.protocol.specs.Lists.{keep, seats, atSeat}
-use Rattle.rows.proofs.SetLaws.{has-empty}
-use Rattle.rows.specs.Sets.{has}
-use Rattle.rows.specs.Upto.{some}
+use Rattle.sets.proofs.SetLaws.{has-empty}
+use Rattle.sets.specs.Sets.{has}
+use Rattle.sets.specs.Upto.{some}
 use Rattle.lists.proofs.standing.Statement.{statement}
 use Rattle.lists.proofs.standing.Tie as tie
 

@@ -7,10 +7,10 @@ use lib.ListN.{getD}
 use lib.Dec.{ltb}
 use Rattle.polls.proofs.PlaceLaws.{placed-at, some-next}
 use Rattle.polls.specs.Shows.{placed}
-use Rattle.rows.specs.Sets.{has}
-use Rattle.rows.proofs.SetLaws.{above-highest, highest-row}
-use Rattle.rows.proofs.UptoLaws.{some-to}
-use Rattle.rows.specs.Upto.{some, most}
+use Rattle.sets.specs.Sets.{has}
+use Rattle.sets.proofs.SetLaws.{above-highest, highest-row}
+use Rattle.sets.proofs.UptoLaws.{some-to}
+use Rattle.sets.specs.Upto.{some, most}
 use Rattle.polls.proofs.above.Statement.{statement}
 use Rattle.polls.proofs.above.Tie as tie
 

@@ -7,8 +7,8 @@ use Rattle.polls.proofs.PlaceLaws.{upTo, gathered-none, gathered-next, 
 use Rattle.protocol.specs.Polls.{polled}
 use Rattle.table.proofs.WellFormedLaws.{long, few-rows}
 use Rattle.fields.specs.Layout.{usedOf, staleOf, versionOf, desiredOf, epochOf}
-use Rattle.rows.proofs.SetLaws.{has-empty}
-use Rattle.rows.specs.Sets.{has}
+use Rattle.sets.proofs.SetLaws.{has-empty}
+use Rattle.sets.specs.Sets.{has}
 use Rattle.polls.proofs.gather.Statement.{statement}
 use Rattle.polls.proofs.gather.Tie as tie
 

@@ -7,9 +7,9 @@ use lib.ListN.{getD}
 use lib.Dec.{eqb}
 use Rattle.polls.proofs.PlaceLaws.{placed-at, upTo, gathered-none, gathered-next, gathered-all}
 use Rattle.polls.specs.Shows.{placed}
-use Rattle.rows.proofs.SetLaws.{has-empty, above-highest, highest-row}
-use Rattle.rows.specs.Upto.{most}
-use Rattle.rows.specs.Sets.{has}
+use Rattle.sets.proofs.SetLaws.{has-empty, above-highest, highest-row}
+use Rattle.sets.specs.Upto.{most}
+use Rattle.sets.specs.Sets.{has}
 use Rattle.polls.proofs.having.Statement.{statement}
 use Rattle.polls.proofs.having.Tie as tie
 

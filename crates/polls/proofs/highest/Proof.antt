@@ -6,10 +6,10 @@ use borrow.Author.Needs.{needs}
 use lib.ListN.{getD}
 use Rattle.polls.proofs.PlaceLaws.{placed-at, most-next}
 use Rattle.polls.specs.Shows.{placed}
-use Rattle.rows.specs.Sets.{has}
-use Rattle.rows.proofs.SetLaws.{above-highest, highest-row}
-use Rattle.rows.proofs.UptoLaws.{most-to}
-use Rattle.rows.specs.Upto.{most}
+use Rattle.sets.specs.Sets.{has}
+use Rattle.sets.proofs.SetLaws.{above-highest, highest-row}
+use Rattle.sets.proofs.UptoLaws.{most-to}
+use Rattle.sets.specs.Upto.{most}
 use Rattle.polls.proofs.highest.Statement.{statement}
 use Rattle.polls.proofs.highest.Tie as tie
 

@@ -4,7 +4,7 @@ use native.Mathlib.Omega.{arith}
 use borrow.Author.Tests.{leb-true, le-leb}
 use lib.Dec.{leb}
 use Rattle.questions.proofs.QuestionLaws.{range-test}
-use Rattle.rows.proofs.Bools.{clash}
+use Rattle.bools.proofs.BoolLaws.{clash}
 use Rattle.questions.proofs.in_range.Statement.{statement}
 use Rattle.questions.proofs.in_range.Tie as tie
 

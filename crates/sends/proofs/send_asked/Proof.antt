@@ -5,8 +5,8 @@ use Prim.Native.Nat.{ℕ}
 use native.Mathlib.Omega.{arith}
 use lib.Dec.{eqb, leb}
 use mathlib.Core.List.{List}
-use Rattle.rows.specs.Upto.{Within}
-use Rattle.rows.specs.Sets.{has}
+use Rattle.sets.specs.Upto.{Within}
+use Rattle.sets.specs.Sets.{has}
 use Rattle.fields.specs.Layout.{get, mark, version, desired, usedOf, staleOf, versionOf, desiredOf, rowBytes}
 use Rattle.table.specs.WellFormed.{between, onlyRows, wellFormed}
 use Rattle.table.proofs.WellFormedLaws.{sized, long, few-rows}

@@ -5,8 +5,8 @@ use borrow.Author.Needs.{needs}
 use Rattle.settle.proofs.SettleLaws.{try-is, works-on-try, works-on-all}
 use Rattle.protocol.proofs.PollLaws.{cut-in}
 use Rattle.fields.specs.Layout.{get, name, members, usedOf, membersOf, nameOf}
-use Rattle.rows.proofs.SetLaws.{has-within}
-use Rattle.rows.specs.Sets.{has}
+use Rattle.sets.proofs.SetLaws.{has-within}
+use Rattle.sets.specs.Sets.{has}
 use Rattle.settle.proofs.decide.Statement.{statement}
 use Rattle.settle.proofs.decide.Tie as tie
 

@@ -3,8 +3,8 @@ use mathlib.Core.Bool.{Bool, cond, _&&_}
 use mathlib.Core.Path.{_≡_, _∙_, ap, ap₂}
 use mathlib.Core.List.{List}
 use Prim.Native.Nat.{ℕ}
-use Rattle.rows.specs.Upto.{some}
-use Rattle.rows.specs.Sets.{has}
+use Rattle.sets.specs.Upto.{some}
+use Rattle.sets.specs.Sets.{has}
 use Rattle.protocol.specs.Lists.{listQuorum}
 use Rattle.protocol.specs.Polls.{quorumHeld}
 use Rattle.table.specs.Chain.{orderOf}

@@ -3,7 +3,7 @@ use mathlib.Core.Bool.{Bool, cond}
 use mathlib.Core.Path.{_≡_, sym, _∙_, ap}
 use Prim.Native.Nat.{ℕ, _≤_}
 use native.Mathlib.Omega.{arith}
-use Rattle.rows.specs.Sets.{has}
+use Rattle.sets.specs.Sets.{has}
 use Rattle.fields.specs.Layout.{get, members, rowBytes}
 use Rattle.settle.proofs.ForceLaws.{leader, leader-is, leader-in, leader-used, force-is}
 use Rattle.settle.proofs.list_in_force.Statement.{statement}

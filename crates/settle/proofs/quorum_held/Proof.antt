@@ -1,8 +1,8 @@
 use borrow.Author.Needs.{needs}
 use mathlib.Core.Path.{_≡_, refl, sym, _∙_}
 use mathlib.Core.Bool.{true, false}
-use Rattle.rows.specs.Upto.{some}
-use Rattle.rows.specs.Sets.{has}
+use Rattle.sets.specs.Upto.{some}
+use Rattle.sets.specs.Sets.{has}
 use Rattle.settle.proofs.ForceLaws.{not-swap}
 use Rattle.settle.proofs.quorum_held.Statement.{statement}
 use Rattle.settle.proofs.quorum_held.Tie as tie

@@ -6,7 +6,7 @@ use Rattle.store.proofs.RowsLaws.{Done, none-done, turn-fits, turn-long
 use Rattle.protocol.specs.Rows.{checkedRow}
 use Rattle.table.proofs.WellFormedLaws.{long, row-length}
 use Rattle.fields.specs.Layout.{usedOf}
-use Rattle.rows.specs.Sets.{has}
+use Rattle.sets.specs.Sets.{has}
 use Rattle.store.proofs.check_rows.Statement.{statement}
 use Rattle.store.proofs.check_rows.Tie as tie
 

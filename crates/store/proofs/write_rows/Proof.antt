@@ -6,7 +6,7 @@ use Rattle.store.proofs.RowsLaws.{Done, none-done, turn-fits, turn-long
 use Rattle.protocol.specs.Rows.{wroteRow}
 use Rattle.table.proofs.WellFormedLaws.{long}
 use Rattle.fields.specs.Layout.{usedOf}
-use Rattle.rows.specs.Sets.{has}
+use Rattle.sets.specs.Sets.{has}
 use Rattle.store.proofs.write_rows.Statement.{statement}
 use Rattle.store.proofs.write_rows.Tie as tie
 

@@ -3,7 +3,7 @@ use Prim.Native.Nat.{_^_}
 use native.Mathlib.Omega.{arith}
 use borrow.Author.Tests.{lt-ltb}
 use borrow.Author.Needs.{needs}
-use Rattle.rows.proofs.DigitLaws.{shl-one}
+use Rattle.sets.proofs.DigitLaws.{shl-one}
 use Rattle.table.specs.WellFormed.{onlyRows}
 use Rattle.values.proofs.only_rows.Statement.{statement}
 use Rattle.values.proofs.only_rows.Tie as tie

@@ -1,6 +1,6 @@
 use native.Mathlib.Omega.{arith}
 use lib.Count.{leading-le}
-use Rattle.rows.proofs.SetLaws.{highest-bit}
+use Rattle.sets.proofs.SetLaws.{highest-bit}
 use Rattle.rows.proofs.RowSet.highest.Statement.{statement}
 use Rattle.rows.proofs.RowSet.highest.Tie as tie
 

@@ -1,4 +1,4 @@
-use Rattle.rows.proofs.SetLaws.{empty-is}
+use Rattle.sets.proofs.SetLaws.{empty-is}
 use native.Mathlib.Omega.{arith}
 use borrow.Author.Needs.{needs}
 use Rattle.rows.proofs.RowSet.is_empty.Statement.{statement}

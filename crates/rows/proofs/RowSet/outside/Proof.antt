@@ -1,4 +1,4 @@
-use Rattle.rows.proofs.SetLaws.{has-left}
+use Rattle.sets.proofs.SetLaws.{has-left}
 use borrow.Author.Needs.{needs}
 use Rattle.rows.proofs.RowSet.outside.Statement.{statement}
 use Rattle.rows.proofs.RowSet.outside.Tie as tie

@@ -6,7 +6,7 @@ use borrow.Author.Needs.{needs}
 use lib.ListN.{getD}
 use lib.Dec.{eqb}
 use Rattle.table.proofs.TestLaws.{every-turn}
-use Rattle.rows.specs.Upto.{every}
+use Rattle.sets.specs.Upto.{every}
 use Rattle.wellformed.proofs.lists.agrees.Statement.{statement}
 use Rattle.wellformed.proofs.lists.agrees.Tie as tie
 

@@ -7,7 +7,7 @@ use Rattle.fields.specs.Layout.{usedOf, rowBytes, get, epoch, members, epochOf,
 use Rattle.table.specs.WellFormed.{listsAgree}
 use Rattle.table.proofs.WellFormedLaws.{few-rows, long}
 use Rattle.table.proofs.TestLaws.{every-turn}
-use Rattle.rows.specs.Upto.{every}
+use Rattle.sets.specs.Upto.{every}
 use Rattle.wellformed.proofs.lists.lists_agree.Statement.{statement}
 use Rattle.wellformed.proofs.lists.lists_agree.Tie as tie
 

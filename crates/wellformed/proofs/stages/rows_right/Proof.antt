@@ -7,7 +7,7 @@ use Rattle.fields.specs.Layout.{usedOf, rowBytes}
 use Rattle.table.proofs.WellFormedLaws.{header, long}
 use Rattle.table.specs.WellFormed.{rowRight}
 use Rattle.table.proofs.TestLaws.{every-turn}
-use Rattle.rows.specs.Upto.{every}
+use Rattle.sets.specs.Upto.{every}
 use Rattle.wellformed.proofs.stages.rows_right.Statement.{statement}
 use Rattle.wellformed.proofs.stages.rows_right.Tie as tie
 

@@ -1,0 +1,43 @@
+use borrow.Author.Needs.{needs}
+use Rattle.fields.specs.Layout.{store, form, capacity, used, first, fileLength}
+use Rattle.header.proofs.set_header.Statement.{statement}
+use Rattle.header.proofs.set_header.Tie as tie
+
+store-at-requires : tie.Need-store-at-requires
+store-at-requires c κs = search needs
+
+store-at-requires-2 : tie.Need-store-at-requires-2
+store-at-requires-2 c κs = search needs
+
+store-at-requires-3 : tie.Need-store-at-requires-3
+store-at-requires-3 c κs = search needs
+
+store-at-requires-4 : tie.Need-store-at-requires-4
+store-at-requires-4 c κs = search needs
+
+store-at-requires-5 : tie.Need-store-at-requires-5
+store-at-requires-5 c κs = search needs
+
+same-length : tie.Need-same-length
+same-length c = search needs
+
+returns : tie.Need-returns
+unfolding store form capacity used first fileLength
+returns c =
+    let four = c .before .before .before .before .before .before in
+    let three = four .before .before .before .before in
+    let two = three .before .before .before .before in
+    let one = two .before .before .before .before in
+    rw (c .before .before .store-at5 .ensures, four .store-at4 .ensures, three .store-at3 .ensures, two .store-at2 .ensures, one .store-at .ensures)
+
+pub set-header-spec : {M : Type 1} → statement M
+set-header-spec =
+    tie.close
+    (tie.spec
+    store-at-requires
+    store-at-requires-2
+    store-at-requires-3
+    store-at-requires-4
+    store-at-requires-5
+    same-length
+    returns)

@@ -1,4 +1,0 @@
-pub mod Bools
-pub mod UptoLaws
-pub mod DigitLaws
-pub mod SetLaws
