@@ -4,7 +4,7 @@ use questions::coordinator_asked;
 use questions::result;
 use quorums::Kind;
 use rows::RowSet;
-use settle::Verdict;
+use verdicts::Verdict;
 ghost use mathlib.Core.Path.{_≡_};
 ghost use mathlib.Core.Bool.{true};
 ghost use Prim.Native.Nat.{_^_, _<_};
@@ -13,7 +13,7 @@ ghost use Rattle.quorums.specs.declared.Kind.the-variants.{Write};
 ghost use Rattle.fields.specs.Layout.{usedOf};
 ghost use Rattle.table.specs.WellFormed.{wellFormed};
 ghost use Rattle.protocol.specs.Calls.{resultOf, outcome, check};
-ghost use Rattle.settle.specs.Judged.{Judged};
+ghost use Rattle.verdicts.specs.Judged.{Judged};
 
 // What an epoch check finds of the rows that answered, by one poll.
 fn examine(t: &[u8], answering: RowSet) -> Verdict
@@ -22,7 +22,7 @@ fn examine(t: &[u8], answering: RowSet) -> Verdict
 {
     let order = chain::chain_order(t);
     let poll = polls::gather(t, answering);
-    settle::judge(Kind::Write, t, order, poll, answering, answering)
+    verdicts::judge(Kind::Write, t, order, poll, answering, answering)
 }
 
 // An epoch check: the rows that answered become the list of a new epoch, unless they are the list in force.

@@ -15,7 +15,7 @@ use Rattle.table.specs.WellFormed.{between}
 use Rattle.protocol.specs.Calls.{Outcome, founding, firstNo, questions, namesIn, namesRise, founded, done, outcome, resultOf}
 use Rattle.protocol.proofs.QuestionLaws.{refusal-is, when-done}
 use Rattle.protocol.proofs.FoundedLaws.{founds-of}
-use Rattle.founding.proofs.LaidLaws.{names-even}
+use Rattle.laying.proofs.NameLaws.{names-even}
 
 -- ---- question 11's loop: the names before the k-th rise (ok) up to `low`
 module _ (names : List ℕ) (k low : ℕ) (ok : Bool) (so-far : (ok && namesRise low (drop k names)) ≡ namesRise 0 names) where

@@ -1,17 +1,14 @@
 // The founding of a table: its questions in order, then what is done.
 use bools::both;
 use questions::result;
-use rows::RowSet;
 use values::between;
 ghost use mathlib.Core.Path.{_≡_};
-ghost use mathlib.Core.Bool.{cond, _&&_};
-ghost use Prim.Native.Nat.{_+_, _*_, _%_, _≤_};
+ghost use mathlib.Core.Bool.{_&&_};
+ghost use Prim.Native.Nat.{_+_, _*_, _%_};
 ghost use lib.Dec.{eqb, leb};
 ghost use lib.ListN.{length};
-ghost use Rattle.sets.specs.Upto.{Within};
-ghost use Rattle.fields.specs.Layout.{store, name, link, members};
 ghost use Rattle.table.specs.WellFormed.{between};
-ghost use Rattle.protocol.specs.Calls.{founding, namesIn, namesRise, founded, resultOf, outcome};
+ghost use Rattle.protocol.specs.Calls.{founding, namesIn, namesRise, resultOf, outcome};
 
 // Do the names rise strictly, and is none of them 0?
 fn names_rise(names: &[u8]) -> bool
@@ -55,45 +52,6 @@ fn sizes_right(bytes: usize, capacity: usize, file: usize, n: usize) -> bool
     bytes == header::HEADER + capacity * table::row_size(file)
 }
 
-// The row behind row i in the chain of the rows 1 to n: 0 behind the last.
-fn next_row(i: usize, n: usize) -> u8
-    requires { ⌜ (i ≤ n) × (n ≤ 64) ⌝ }
-    ensures { λ r. ⌜ r ≡ cond (eqb i n) 0 (i + 1) ⌝ }
-{
-    if i == n { 0 } else { (i + 1) as u8 }
-}
-
-// A row gets its name, the next row and the list.
-fn found_row(row: &mut [u8], x: u16, next: u8, list: u64)
-    requires { ⌜ 32 ≤ length (now row) ⌝ }
-    ensures { λ r. ⌜ now (row .exit) ≡ store members list (store link next (store name x (now (row .entry)))) ⌝ }
-{
-    fields::set_name(row, x);
-    fields::set_link(row, next);
-    fields::set_members(row, list);
-}
-
-// A table of so many rows for a file of so many bytes, with the named rows in it.
-fn lay_table(t: &mut [u8], capacity: usize, file: usize, names: &[u8])
-    requires { ⌜ (length (now t) ≡ 16 + capacity * (32 + file)) × Within 4_096 file × (capacity ≤ 64) × (length (now names) ≡ 2 * length (namesIn (now names))) × Within capacity (length (namesIn (now names))) ⌝ }
-    ensures { λ r. ⌜ now (t .exit) ≡ founded capacity file (namesIn (now (names .entry))) ⌝ }
-{
-    let n = names.len() / 2;
-    let list = RowSet::first(n);
-    let size = table::row_size(file);
-    // the rows stand behind the header, up to the end
-    let mut at = t.len() - capacity * size;
-    bytes::fill(t, 0);
-    header::set_header(t, capacity as u8, n as u8, file as u16);
-    let mut i = 0;
-    while i < n {
-        let x = bytes::u16_at(names, 2 * i);
-        i += 1;
-        found_row(&mut t[at..at + size], x, next_row(i, n), list.bits);
-        at += size;
-    }
-}
-
 // A founding: a table of so many rows for a file of so many bytes, with the named machines in it. Value: how many.
 pub fn found(t: &mut [u8], capacity: usize, file: usize, names: &[u8]) -> u64
     ensures { λ x. ⌜ (x ≡ resultOf (outcome (now (t .entry)) (founding capacity file (now (names .entry))))) × (now (t .exit) ≡ outcome (now (t .entry)) (founding capacity file (now (names .entry))) .table) ⌝ }
@@ -105,6 +63,6 @@ pub fn found(t: &mut [u8], capacity: usize, file: usize, names: &[u8]) -> u64
     if !sizes_right(t.len(), capacity, file, n) {
         return result(12, 0);
     }
-    lay_table(t, capacity, file, names);
+    laying::lay_table(t, capacity, file, names);
     result(0, n as u32)
 }

@@ -1,17 +1,14 @@
--- How the code keeps a poll: an array has a place for each of the 64 rows, place i - 1 for row i.
+-- How the code keeps a poll.
 use mathlib.Core.Path.{_≡_}
 use mathlib.Core.Bool.{Bool, cond, _&&_}
 use mathlib.Core.List.{List}
-use Prim.Native.Nat.{ℕ, _-_}
-use lib.ListN.{getD}
-use Rattle.sets.specs.Sets.{has, isRow}
+use Prim.Native.Nat.{ℕ}
+use Rattle.sets.specs.Sets.{has}
 use Rattle.protocol.specs.Polls as definition
+use Rattle.places.specs.Places.{placed}
 use Rattle.fields.specs.Layout.{staleOf, versionOf, desiredOf, epochOf}
 use Rattle.polls.specs.declared.Poll.{Poll}
 use Rattle.polls.specs.declared.Said.{Said}
-
-unfoldable pub placed : List ℕ → ℕ → ℕ
-placed xs i = cond (isRow i) (getD xs (i - 1) 0) 0
 
 -- the code's poll is the definition's, but for the rows' lists, which stay in the table
 pub record Shows (p : Poll) (q : definition.Poll) : Type 0 where

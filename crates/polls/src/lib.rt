@@ -1,17 +1,12 @@
-// What the answering rows say, and questions 6 and 7 about a set of them.
-use bools::any;
-use bools::both;
+// What the rows that answered say.
 use rows::RowSet;
-ghost use mathlib.Core.Path.{_≡_};
-ghost use mathlib.Core.Bool.{_&&_, cond};
-ghost use Prim.Native.Nat.{ℕ, _^_, _<_, max};
-ghost use lib.Dec.{eqb, ltb};
-ghost use Rattle.sets.specs.Upto.{Within, some, most};
+ghost use Prim.Native.Nat.{_^_, _<_};
+ghost use Rattle.sets.specs.Upto.{Within};
 ghost use Rattle.sets.specs.Sets.{has};
 ghost use Rattle.fields.specs.Layout.{usedOf};
 ghost use Rattle.table.specs.Contracts.{Sized};
 ghost use Rattle.protocol.specs.Polls.{polled};
-ghost use Rattle.polls.specs.Shows.{placed, Shows, Says};
+ghost use Rattle.polls.specs.Shows.{Shows, Says};
 
 // The state gathered by a poll: a place for each of the 64 rows, 0 for rows that did not answer.
 pub struct Poll {
@@ -76,58 +71,4 @@ pub fn gather(t: &[u8], answering: RowSet) -> Poll
         desired: desired,
         epochs: epochs,
     }
-}
-
-// The larger of m and v, where v counts.
-fn larger(m: u32, v: u32, counts: bool) -> u32
-    ensures { λ r. ⌜ r ≡ max m (cond counts v 0) ⌝ }
-{
-    if counts {
-        if m < v {
-            return v;
-        }
-    }
-    m
-}
-
-// The highest value over the rows of a set; 0 where it is empty.
-pub fn highest(values: &[u32; 64], s: RowSet) -> u32
-    ensures { λ r. ⌜ r ≡ most 64 (has (s .bits)) (placed (now (values .entry))) ⌝ }
-{
-    let end = s.highest();
-    let mut m = 0;
-    let mut k = 0;
-    while k < end {
-        m = larger(m, values[k], s.has(k + 1));
-        k += 1;
-    }
-    m
-}
-
-// The rows of a set that have a value.
-pub fn having(values: &[u32; 64], s: RowSet, v: u32) -> RowSet
-    ensures { λ r. ⌜ has (r .bits) ≡ (λ (i : ℕ). has (s .bits) i && eqb (placed (now (values .entry)) i) v) ⌝ }
-{
-    let end = s.highest();
-    let mut set = RowSet::EMPTY;
-    let mut k = 0;
-    while k < end {
-        set = set.gain(k + 1, both(s.has(k + 1), values[k] == v));
-        k += 1;
-    }
-    set
-}
-
-// Has some row of a set more than v?
-pub fn above(values: &[u32; 64], s: RowSet, v: u32) -> bool
-    ensures { λ r. ⌜ r ≡ some 64 (λ i. has (s .bits) i && ltb v (placed (now (values .entry)) i)) ⌝ }
-{
-    let end = s.highest();
-    let mut found = false;
-    let mut k = 0;
-    while k < end {
-        found = any(found, both(s.has(k + 1), v < values[k]));
-        k += 1;
-    }
-    found
 }

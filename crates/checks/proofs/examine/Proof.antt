@@ -2,7 +2,7 @@ use borrow.Author.Needs.{needs}
 use mathlib.Core.Path.{_≡_}
 use Rattle.table.proofs.WellFormedLaws.{sized, linked}
 use Rattle.protocol.specs.Calls.{answers}
-use Rattle.settle.specs.Judged.{Gathered}
+use Rattle.verdicts.specs.Judged.{Gathered}
 use Rattle.checks.proofs.examine.Statement.{statement}
 use Rattle.checks.proofs.examine.Tie as tie
 

@@ -8,7 +8,7 @@ use lib.Dec.{eqb}
 use lib.ListN.{length}
 use Rattle.table.specs.WellFormed.{between}
 use Rattle.protocol.specs.Calls.{namesIn}
-use Rattle.founding.proofs.LaidLaws.{names-even}
+use Rattle.laying.proofs.NameLaws.{names-even}
 use Rattle.founding.proofs.names_right.Statement.{statement}
 use Rattle.founding.proofs.names_right.Tie as tie
 

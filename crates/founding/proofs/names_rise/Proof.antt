@@ -5,7 +5,7 @@ use native.Mathlib.Omega.{arith}
 use borrow.Author.Needs.{needs}
 use lib.ListN.{length, drop}
 use Rattle.protocol.specs.Calls.{namesIn, namesRise}
-use Rattle.founding.proofs.LaidLaws.{name-at}
+use Rattle.laying.proofs.NameLaws.{name-at}
 use Rattle.founding.proofs.FoundingLaws.{rise-turn, rise-end}
 use Rattle.founding.proofs.names_rise.Statement.{statement}
 use Rattle.founding.proofs.names_rise.Tie as tie

@@ -3,7 +3,7 @@ use mathlib.Core.Path.{_≡_, refl, ap, _∙_}
 use Prim.Native.Nat.{_+_, _-_, _≤_, _<_}
 use native.Mathlib.Omega.{arith}
 use borrow.Author.Needs.{needs}
-use Rattle.polls.proofs.PlaceLaws.{upTo, gathered-none, gathered-next, gathered-used, Placed, placed-none, placed-more, placed-masked}
+use Rattle.places.proofs.PlaceLaws.{upTo, gathered-none, gathered-next, gathered-used, Placed, placed-none, placed-more, placed-masked}
 use Rattle.protocol.specs.Polls.{polled}
 use Rattle.table.proofs.WellFormedLaws.{long, few-rows}
 use Rattle.fields.specs.Layout.{usedOf, staleOf, versionOf, desiredOf, epochOf}

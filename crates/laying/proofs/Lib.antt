@@ -1,0 +1,2 @@
+mod LaidLaws
+pub mod NameLaws

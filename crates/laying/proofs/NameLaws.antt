@@ -1,0 +1,25 @@
+-- Names in bytes: two bytes each.
+use mathlib.Core.Path.{_≡_, refl}
+use mathlib.Core.List.{List, [], _∷_}
+use Prim.Native.Nat.{ℕ, zero, suc, _+_, _*_, _%_, _≤_}
+use native.Mathlib.Omega.{arith}
+use lib.ListN.{length, getD}
+use Rattle.bytes.specs.Bytes.{number, part}
+use Rattle.protocol.specs.Calls.{namesIn}
+
+-- the name of row k + 1
+pub name-at : (k : ℕ) (bytes : List ℕ) → 2 * k + 2 ≤ length bytes → number (part (2 * k) 2 bytes) ≡ getD (namesIn bytes) k 0
+unfolding number part namesIn
+name-at zero [] h = absurd (omega arith)
+name-at zero (x ∷ []) h = absurd (omega arith)
+name-at zero (x ∷ y ∷ l) h = omega arith
+name-at (suc k) [] h = absurd (omega arith)
+name-at (suc k) (x ∷ []) h = absurd (omega arith)
+name-at (suc k) (x ∷ y ∷ l) h = let e : 2 * suc k ≡ suc (suc (2 * k)) = omega arith in rw e (name-at k l (omega arith))
+
+-- two bytes for each name, where the bytes are even
+pub names-even : (bytes : List ℕ) → length bytes % 2 ≡ 0 → length bytes ≡ 2 * length (namesIn bytes)
+unfolding namesIn
+names-even [] h = refl
+names-even (x ∷ []) h = absurd (omega arith)
+names-even (x ∷ y ∷ l) h = let e : length l ≡ 2 * length (namesIn l) = names-even l (omega arith) in omega arith

@@ -1,0 +1,153 @@
+use mathlib.Core.Path.{_≡_, refl, _∙_, ap}
+use Prim.Native.Nat.{ℕ, _+_, _-_, _*_, _/_, _^_, _≤_}
+use native.Mathlib.Omega.{arith}
+use borrow.Author.Needs.{needs}
+use lib.ListN.{length}
+use Rattle.laying.proofs.LaidLaws.{Laid, none-laid, all-laid, Turn, laid-fits, lent-zeros, laid-long, laid-turn, all-rows}
+use Rattle.laying.proofs.NameLaws.{name-at}
+use Rattle.protocol.proofs.FoundedLaws.{length-zeros}
+use Rattle.protocol.specs.Calls.{namesIn}
+use Rattle.laying.proofs.lay_table.Statement.{statement}
+use Rattle.laying.proofs.lay_table.Tie as tie
+
+abbrev Inv-loop : tie.InvT-loop
+Inv-loop t₀ capacity file names n list size at₀ i₀ t at i = (i ≤ n) × (length t ≡ length t₀) × Laid capacity n file (namesIn names) i at t
+
+abbrev μ-loop : tie.MeasureT-loop
+μ-loop t₀ capacity file names n list size at₀ i₀ t at i = n - i
+
+-- the rows fill the table behind its header
+rows-long : (c : tie.After-row-size Inv-loop μ-loop) → let a = c .before .before .before .before .args in 16 + a .capacity * c .row-size .result ≡ length (a .t .now)
+rows-long c = let s = c .before .before .before .before in omega (arith, ap (λ (x : ℕ). s .args .capacity * x) (c .row-size .ensures), s .pre .0)
+
+-- the list is that of all used rows
+list-is : (c : tie.After-first Inv-loop μ-loop) → c .first .result .bits ≡ 2 ^ (length (c .before .before .before .args .names .now) / 2) - 1
+list-is c =
+    let s = c .before .before .before in
+    all-rows (length (s .args .names .now) / 2) (c .first .result .bits) (omega (arith, s .pre .2, s .pre .3, s .pre .4)) (omega arith) (c .first .ensures)
+
+turn : (l : tie.In-loop Inv-loop μ-loop) → let a = l .before .before .before .before .before .before .before .before .before .before .before .before .before .before .args in
+    Turn (a .capacity) (length (a .names .now) / 2) (a .file) (namesIn (a .names .now)) (l .before .loop .i) (l .before .loop .at) (l .before .before .before .before .before .before .before .before .before .before .row-size .result) (l .before .loop .t)
+turn l =
+    let p = l .before .before .before .before .before .before .before .before .before .before .before .before .before .before .pre in
+    record { room = p .4 .1; below = omega (arith, l .loop-test .taken, p .3); wide = l .before .before .before .before .before .before .before .before .before .before .row-size .ensures; laid = l .before .loop .inv .2 }
+
+first-requires : tie.Need-first-requires Inv-loop μ-loop
+first-requires c κs = search needs
+
+row-size-requires : tie.Need-row-size-requires Inv-loop μ-loop
+row-size-requires c κs = c .before .before .before .pre .1 .1
+
+mul-at : tie.Need-mul-at Inv-loop μ-loop
+mul-at c = omega (arith, rows-long c)
+
+sub-at : tie.Need-sub-at Inv-loop μ-loop
+sub-at c = omega (arith, rows-long c)
+
+fill-requires : tie.Need-fill-requires Inv-loop μ-loop
+fill-requires c κs = search needs
+
+cast-set-header : tie.Need-cast-set-header Inv-loop μ-loop
+cast-set-header c = search needs
+
+cast-set-header-2 : tie.Need-cast-set-header-2 Inv-loop μ-loop
+cast-set-header-2 c = search needs
+
+cast-set-header-3 : tie.Need-cast-set-header-3 Inv-loop μ-loop
+cast-set-header-3 c = search needs
+
+set-header-requires : tie.Need-set-header-requires Inv-loop μ-loop
+set-header-requires c κs = omega (arith, c .before .before .before .fill .kept .0, c .before .before .before .before .before .before .before .before .before .pre .0)
+
+loop-holds : tie.Need-loop-holds Inv-loop μ-loop
+loop-holds c =
+    let s = c .before .before .before .before .before .before .before .before .before .before .before .before in (
+      omega arith,
+      refl,
+      none-laid _ _ _ _ _ (s .args .t .now) _ _ (omega (arith, rows-long (c .before .before .before .before .before .before .before .before))) (s .pre .0) (s .pre .2) (omega (arith, s .pre .2, s .pre .3, s .pre .4)) (c .before .before .before .before .before .before .fill .ensures) (c .before .before .set-header .ensures),
+    )
+
+mul-u16-at : tie.Need-mul-u16-at Inv-loop μ-loop
+mul-u16-at c = search needs
+
+u16-at-requires : tie.Need-u16-at-requires Inv-loop μ-loop
+u16-at-requires c κs = omega (arith, c .loop-test .taken)
+
+add-i : tie.Need-add-i Inv-loop μ-loop
+add-i c = search needs
+
+add-found-row : tie.Need-add-found-row Inv-loop μ-loop
+add-found-row c = omega (arith, laid-fits (turn (c .before)))
+
+sub-found-row : tie.Need-sub-found-row Inv-loop μ-loop
+sub-found-row c = search needs
+
+part-found-row-start : tie.Need-part-found-row-start Inv-loop μ-loop
+part-found-row-start c = search needs
+
+part-found-row-end : tie.Need-part-found-row-end Inv-loop μ-loop
+part-found-row-end c = omega (arith, laid-fits (turn (c .before)))
+
+next-row-requires : tie.Need-next-row-requires Inv-loop μ-loop
+next-row-requires c κs = let s = c .before .before .before .before .before .before .before .before .before .before .before .before .before .before .before .before in (omega (arith, c .before .before .loop-test .taken), omega (arith, s .pre .2, s .pre .3, s .pre .4))
+
+found-row-requires : tie.Need-found-row-requires Inv-loop μ-loop
+found-row-requires c κs =
+    let l = c .before .before .before in
+    omega (arith, ap length (lent-zeros (turn l)), length-zeros (32 + l .before .before .before .before .before .before .before .before .before .before .before .before .before .before .args .file))
+
+add-at : tie.Need-add-at Inv-loop μ-loop
+add-at c = omega (arith, laid-fits (turn (c .before .before .before .before .before .before)))
+
+loop-less : tie.Need-loop-less Inv-loop μ-loop
+loop-less c = search needs
+
+loop-again : tie.Need-loop-again Inv-loop μ-loop
+loop-again c =
+    let l = c .before .before .before .before .before .before in
+    let row = c .before .before .found-row in (
+      omega (arith, l .loop-test .taken),
+      laid-long (turn l) (row .last .0) (row .kept .0) ∙ l .before .loop .inv .1,
+      laid-turn (turn l) _ _ _ _ (row .ensures) (c .before .before .before .before .before .u16-at .ensures ∙ name-at _ _ (omega (arith, l .loop-test .taken)))
+          (omega arith) (c .before .before .before .next-row .ensures) (list-is (l .before .before .before .before .before .before .before .before .before .before .before)),
+    )
+
+same-length : tie.Need-same-length Inv-loop μ-loop
+same-length c = c .before .loop .inv .1 ∙ c .before .before .before .before .set-header .kept .0 ∙ c .before .before .before .before .before .before .before .before .fill .kept .0
+
+returns : tie.Need-returns Inv-loop μ-loop
+returns c =
+    let l = c .before .loop in
+    let s = c .before .before .before .before .before .before .before .before .before .before .before .before .before .before in
+    all-laid _ _ _ _ _ _ _ (omega (arith, s .pre .3)) (omega (arith, s .pre .3)) (l .inv .2)
+
+pub lay-table-spec : {M : Type 1} → statement M
+lay-table-spec =
+    tie.close
+    (tie.spec
+    Inv-loop
+    μ-loop
+    first-requires
+    row-size-requires
+    mul-at
+    sub-at
+    fill-requires
+    cast-set-header
+    cast-set-header-2
+    cast-set-header-3
+    set-header-requires
+    loop-holds
+    mul-u16-at
+    u16-at-requires
+    add-i
+    add-found-row
+    sub-found-row
+    part-found-row-start
+    part-found-row-end
+    next-row-requires
+    found-row-requires
+    add-at
+    loop-less
+    loop-again
+    same-length
+    returns)
