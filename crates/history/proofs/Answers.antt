@@ -1,28 +1,28 @@
 -- Reads and writes are answered as the book says.
-use mathlib.Core.Path.{_≡_, refl, sym, _∙_, ap, ap₂, subst}
-use mathlib.Core.Bool.{Bool, true, false, not, cond, _&&_, _||_}
+use mathlib.Core.Path.{_≡_, refl, sym, _∙_, ap}
+use mathlib.Core.Bool.{Bool, true, false, cond}
 use mathlib.Core.List.{List, [], _∷_}
-use Prim.Native.Nat.{ℕ, zero, suc, _+_, _-_, _*_, _^_, _≤_, _<_}
+use Prim.Native.Nat.{ℕ, _-_}
 use native.Mathlib.Omega.{arith}
-use lib.Dec.{eqb, leb, ltb}
+use lib.Dec.{eqb, ltb}
 use lib.ListN.{length}
 use borrow.Author.Tests.{lt-ltb}
-use Rattle.sets.specs.Upto.{Within, lowest}
+use Rattle.sets.specs.Upto.{lowest}
 use Rattle.sets.specs.Sets.{has}
 use Rattle.quorums.specs.declared.Kind.{Kind}
 use Rattle.quorums.specs.declared.Kind.the-variants.{Read, Write}
 use Rattle.bytes.specs.Bytes.{part}
 use Rattle.fields.specs.Layout.{usedOf, contentsOf}
 use Rattle.table.specs.Chain.{orderOf}
-use Rattle.table.specs.WellFormed.{limit, wellFormed}
-use Rattle.protocol.specs.Polls.{Poll, highestEpoch, inForce, goodVersion, good, current, quorumHeld}
-use Rattle.protocol.specs.Calls.{Call, founding, read, write, send, check, Question, Outcome, firstNo, upTo, byCoordinator, isUsed, inFile, questions, done, outcome, answers, workSet}
+use Rattle.table.specs.WellFormed.{limit}
+use Rattle.protocol.specs.Polls.{inForce, goodVersion, good, current, quorumHeld}
+use Rattle.protocol.specs.Calls.{Call, founding, read, write, send, check, firstNo, upTo, inFile, questions, done, outcome, answers, workSet}
 use Rattle.protocol.proofs.ListLaws.{reads}
 use Rattle.protocol.proofs.PollLaws.{lowest-good}
-use Rattle.protocol.proofs.QuestionLaws.{refusal-is, when-done, yes-first, no-first, ByCoordinator, early-passed, ReadYes, read-yes, WriteYes, write-yes}
+use Rattle.protocol.proofs.QuestionLaws.{refusal-is, when-done, yes-first, ByCoordinator, early-passed, read-yes}
 use Rattle.history.specs.Book.{Book, order, holdsQuorum, someHasAll}
 use Rattle.history.specs.Demand3.{verdict, ReadGives, RefusedRight, Right}
-use Rattle.history.proofs.Invariant.{Inv, version-is}
+use Rattle.history.proofs.Invariant.{version-is}
 use Rattle.history.proofs.State.{State, whole, few, current-whole, good-whole, version-whole, work-sub, work-used, six-is, seven-is, work-quorum}
 
 module _ (t : List ℕ) (b : Book) (e : ℕ) (S : State t b e) where

@@ -1,27 +1,23 @@
 -- A done founding opens the book that its table stands against.
-use mathlib.Core.Path.{_≡_, refl, sym, _∙_, ap, ap₂, subst}
-use mathlib.Core.Bool.{Bool, true, false, not, cond, _&&_, _||_}
-use mathlib.Core.List.{List, [], _∷_}
-use Prim.Native.Nat.{ℕ, zero, suc, _+_, _-_, _*_, _%_, _^_, _≤_, _<_}
+use mathlib.Core.Path.{_≡_, sym, _∙_, ap}
+use mathlib.Core.Bool.{false}
+use mathlib.Core.List.{List}
+use Prim.Native.Nat.{ℕ, _-_, _^_}
 use native.Mathlib.Omega.{arith}
-use lib.Dec.{eqb, leb, ltb}
+use lib.Dec.{eqb}
 use lib.Pow.{ones-lt}
-use lib.ListN.{length, getD, length-replicate}
-use borrow.Author.Tests.{leb-true, lt-leb}
+use lib.ListN.{length, length-replicate}
+use borrow.Author.Tests.{lt-leb}
 use Rattle.sets.specs.Upto.{Within, upward}
-use Rattle.sets.specs.Sets.{has}
-use Rattle.bools.proofs.BoolLaws.{and-l, and-r, clash}
+use Rattle.bools.proofs.BoolLaws.{clash}
 use Rattle.sets.proofs.SetLaws.{has-within}
-use Rattle.quorums.specs.declared.Kind.the-variants.{Read, Write}
-use Rattle.fields.specs.Layout.{get, mark, version, desired, epoch, members, contents, rowBytes, usedOf, fileOf, epochOf, membersOf, staleOf, versionOf, desiredOf, contentsOf}
-use Rattle.table.specs.WellFormed.{between}
-use Rattle.table.proofs.FormLaws.{between-is}
+use Rattle.quorums.specs.declared.Kind.the-variants.{Read}
+use Rattle.fields.specs.Layout.{get, mark, version, epoch, members, contents, epochOf, membersOf, staleOf, versionOf, contentsOf}
 use Rattle.protocol.specs.Polls.{polled}
-use Rattle.protocol.specs.Calls.{founding, questions, firstNo, namesIn, namesRise, zeros, founded}
+use Rattle.protocol.specs.Calls.{zeros, founded}
 use Rattle.protocol.proofs.ListLaws.{inhabited}
-use Rattle.protocol.proofs.QuestionLaws.{yes-first}
-use Rattle.protocol.proofs.FoundedLaws.{Founds, founded-used, founded-file, founded-name, founded-order, founded-formed, at-row, row-members, zero-mark, zero-version, zero-desired, zero-epoch, row-contents}
-use Rattle.history.specs.Book.{Book, order, nameIn, opened}
+use Rattle.protocol.proofs.FoundedLaws.{Founds, founded-used, founded-file, founded-name, founded-order, founded-formed, at-row, row-members, zero-mark, zero-version, zero-epoch, row-contents}
+use Rattle.history.specs.Book.{order, nameIn, opened}
 use Rattle.history.proofs.Invariant.{aim, Inv}
 use Rattle.history.proofs.State.{whole, State}
 

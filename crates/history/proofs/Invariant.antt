@@ -1,26 +1,24 @@
 -- What holds of the rows and the book after any list of calls, and what the questions come to where it holds.
 -- The rows are an unmasked poll p and their contents c.
-use mathlib.Core.Path.{_≡_, refl, sym, _∙_, ap, subst}
-use mathlib.Core.Bool.{Bool, true, false, not, cond, _&&_, _||_}
+use mathlib.Core.Path.{_≡_, refl, sym, _∙_, subst}
+use mathlib.Core.Bool.{Bool, true, false, cond, _&&_}
 use mathlib.Core.List.{List}
-use Prim.Native.Nat.{ℕ, zero, suc, _+_, _-_, _^_, _<_, _≤_}
+use Prim.Native.Nat.{ℕ, zero, suc, _-_, _^_, _<_, _≤_}
 use native.Mathlib.Decide.{ℕ-discrete}
 use native.Mathlib.Omega.{arith}
-use lib.Dec.{leb, ltb, eqb}
-use lib.ListN.{length}
-use borrow.Author.Tests.{eqb-true, eq-eqb, leb-true, le-leb, lt-leb}
+use lib.Dec.{leb, eqb}
+use borrow.Author.Tests.{eqb-true, eq-eqb, leb-true, le-leb}
 use Rattle.sets.specs.Upto.{Within, every, some}
-use Rattle.sets.specs.Sets.{has, cutTo}
-use Rattle.bools.proofs.BoolLaws.{and-l, and-r, and-i, clash, same-test}
+use Rattle.sets.specs.Sets.{has}
+use Rattle.bools.proofs.BoolLaws.{and-l, and-r, and-i, same-test}
 use Rattle.sets.proofs.UptoLaws.{every-at, every-of, some-at, some-of}
 use Rattle.sets.proofs.SetLaws.{has-within}
 use Rattle.quorums.specs.declared.Kind.{Kind}
 use Rattle.quorums.specs.declared.Kind.the-variants.{Read, Write}
-use Rattle.table.specs.WellFormed.{limit}
 use Rattle.protocol.specs.Lists.{listQuorum, listChoice}
 use Rattle.protocol.specs.Polls.{Poll, highestEpoch, inForce, goodVersion, good, current, quorumHeld, ownTry, workedOn}
 use Rattle.protocol.proofs.ListLaws.{inhabited, reads, grows}
-use Rattle.protocol.proofs.PollLaws.{Leads, Good, epoch-le, leads, version-le, version-under, good-at, good-of, current-good, current-desired, current-of, cut-in}
+use Rattle.protocol.proofs.PollLaws.{Leads, epoch-le, leads, version-le, version-under, good-at, good-of, current-good, current-desired, current-of, cut-in}
 use Rattle.history.specs.Book.{Book, order, nameIn, hasAll, holdsQuorum, someHasAll, writeSet}
 
 -- the version that a row has, or that it desires where it is marked

@@ -1,29 +1,25 @@
 -- The table after a call against the book after it.
-use mathlib.Core.Path.{_≡_, refl, sym, _∙_, ap, ap₂, subst}
-use mathlib.Core.Bool.{Bool, true, false, not, cond, _&&_, _||_}
-use mathlib.Core.List.{List, [], _∷_}
-use Prim.Native.Nat.{ℕ, zero, suc, _+_, _-_, _*_, _^_, _≤_, _<_}
+use mathlib.Core.Path.{_≡_, refl, sym, _∙_, ap, subst}
+use mathlib.Core.Bool.{Bool, true, false}
+use mathlib.Core.List.{List}
+use Prim.Native.Nat.{ℕ, suc, _+_, _-_, _<_}
 use native.Mathlib.Omega.{arith}
-use lib.Dec.{eqb, leb, ltb}
+use lib.Dec.{eqb}
 use lib.ListN.{length, getD}
-use borrow.Author.Tests.{eqb-true, eqb-false, ne-eqb, ltb-true}
+use borrow.Author.Tests.{eqb-false, ne-eqb}
 use Rattle.sets.specs.Upto.{Within, upward}
 use Rattle.sets.specs.Sets.{has}
-use Rattle.quorums.specs.declared.Kind.{Kind}
-use Rattle.quorums.specs.declared.Kind.the-variants.{Read, Write}
-use Rattle.bytes.specs.Bytes.{put}
-use Rattle.fields.specs.Layout.{get, mark, version, desired, contents, rowBytes, usedOf, fileOf, nameOf, staleOf, versionOf, desiredOf, contentsOf, epochOf, membersOf}
-use Rattle.table.specs.Chain.{orderOf}
+use Rattle.quorums.specs.declared.Kind.the-variants.{Write}
+use Rattle.fields.specs.Layout.{get, mark, version, desired, contents, rowBytes, usedOf, staleOf, versionOf, desiredOf, contentsOf, epochOf}
 use Rattle.table.specs.WellFormed.{limit}
 use Rattle.bytes.proofs.ByteLaws.{length-put}
 use Rattle.table.proofs.FormLaws.{Formed}
-use Rattle.protocol.specs.Polls.{Poll, polled, highestEpoch, inForce, goodVersion, good, current, quorumHeld, workedOn}
+use Rattle.protocol.specs.Polls.{polled, highestEpoch, inForce, goodVersion, good, current}
 use Rattle.protocol.specs.Calls.{answers, workSet}
-use Rattle.protocol.proofs.RowLaws.{fieldAt, Becomes, fieldsOf, changed}
-use Rattle.protocol.proofs.PollLaws.{epoch-same}
+use Rattle.protocol.proofs.RowLaws.{fieldAt, fieldsOf, changed}
 use Rattle.protocol.proofs.FrameLaws.{Frame, same-used, same-file, same-order}
-use Rattle.protocol.proofs.QuestionLaws.{ByCoordinator, WriteYes, SendYes, CheckYes}
-use Rattle.protocol.proofs.DoneLaws.{Leaves, RowBecomes, writeTable, write-leaves, write-taken, write-marked, sendTable, send-leaves, send-target, checkTable, check-leaves, check-taken, check-marked}
+use Rattle.protocol.proofs.QuestionLaws.{WriteYes, SendYes, CheckYes}
+use Rattle.protocol.proofs.DoneLaws.{RowBecomes, writeTable, write-leaves, write-taken, write-marked, sendTable, send-leaves, send-target, checkTable, check-leaves, check-taken, check-marked}
 use Rattle.protocol.proofs.KeepLaws.{write-formed, write-membership, send-formed, send-membership, check-formed, check-membership}
 use Rattle.history.specs.Book.{Book, order, nameIn, holdsQuorum, writeSet, written, passedOn, agreed}
 use Rattle.history.proofs.Invariant.{Inv, set-is}

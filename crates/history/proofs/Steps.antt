@@ -1,29 +1,25 @@
 -- Each call that is done keeps what holds of the rows and the book.
 use mathlib.Core.Path.{_≡_, refl, sym, _∙_, ap}
-use mathlib.Core.Bool.{Bool, true, false, not, cond, _&&_, _||_, or-false}
+use mathlib.Core.Bool.{Bool, true, false, cond, _&&_, _||_, or-false}
 use mathlib.Core.Logic.{_⊎_, inl, inr, _≢_}
 use mathlib.Core.List.{List}
-use Prim.Native.Nat.{ℕ, zero, suc, _+_, _-_, _^_, _<_, _≤_}
+use Prim.Native.Nat.{ℕ, suc, _+_, _-_, _^_, _<_, _≤_}
 use native.Mathlib.Decide.{ℕ-discrete}
 use native.Mathlib.Omega.{arith}
-use lib.Dec.{leb, ltb, eqb}
-use lib.ListN.{length}
+use lib.Dec.{leb, eqb}
 use borrow.Author.Tests.{eqb-true, eq-eqb, leb-true, le-leb}
 use Rattle.sets.specs.Upto.{Within}
 use Rattle.sets.specs.Sets.{has}
-use Rattle.bools.proofs.BoolLaws.{and-l, and-r, and-i, or-l, or-r, or-e, clash, same-test}
+use Rattle.bools.proofs.BoolLaws.{or-l, or-r, or-e, clash, same-test}
 use Rattle.sets.proofs.SetLaws.{has-within}
-use Rattle.quorums.specs.declared.Kind.{Kind}
 use Rattle.quorums.specs.declared.Kind.the-variants.{Read, Write}
 use Rattle.bytes.specs.Bytes.{put}
-use Rattle.table.specs.WellFormed.{limit}
-use Rattle.bytes.proofs.ByteLaws.{length-put}
 use Rattle.protocol.specs.Lists.{listQuorum}
 use Rattle.protocol.specs.Polls.{Poll, highestEpoch, inForce, goodVersion, good, current}
 use Rattle.protocol.proofs.ListLaws.{shared, inhabited, reads}
-use Rattle.protocol.proofs.PollLaws.{Good, good-at, good-of}
+use Rattle.protocol.proofs.PollLaws.{good-at, good-of}
 use Rattle.history.specs.Book.{Book, order, hasAll, holdsQuorum, written, passedOn, agreed}
-use Rattle.history.proofs.Invariant.{aim, Epochs, Versions, Inv, has-all, clean, in-force, version-is, good-is}
+use Rattle.history.proofs.Invariant.{aim, Epochs, Versions, Inv, clean, in-force, version-is, good-is}
 
 -- what a row says, and its contents
 pub record Is (p : Poll) (c : ℕ → List ℕ) (i : ℕ) (z : Bool) (v d : ℕ) (l : List ℕ) : Type 0 where

@@ -1,26 +1,24 @@
 -- Demand 3, for any list of calls; and what else holds of every founded history.
-use mathlib.Core.Path.{_≡_, refl, sym, _∙_, ap, ap₂, subst}
-use mathlib.Core.Bool.{Bool, true, false, not, cond, _&&_, _||_}
+use mathlib.Core.Path.{_≡_, refl, sym, _∙_}
+use mathlib.Core.Bool.{Bool, true, false, cond, _&&_, _||_}
 use mathlib.Core.List.{List, [], _∷_}
-use Prim.Native.Nat.{ℕ, zero, suc, _+_, _-_, _*_, _^_, _≤_, _<_}
+use Prim.Native.Nat.{ℕ, zero, suc, _-_}
 use native.Mathlib.Omega.{arith}
-use lib.Dec.{eqb, leb, ltb, eqb·suc-zero}
-use lib.ListN.{length}
-use borrow.Author.Tests.{eqb-true, eqb-false, eq-eqb, ltb-true}
+use lib.Dec.{eqb, ltb, eqb·suc-zero}
+use borrow.Author.Tests.{eqb-true, ltb-true}
 use Rattle.sets.specs.Sets.{has}
-use Rattle.bools.proofs.BoolLaws.{and-l, and-r, or-e, clash}
-use Rattle.quorums.specs.declared.Kind.the-variants.{Read, Write}
+use Rattle.quorums.specs.declared.Kind.the-variants.{Write}
 use Rattle.fields.specs.Layout.{usedOf}
 use Rattle.table.specs.Chain.{orderOf}
 use Rattle.table.specs.WellFormed.{limit, onlyRows, wellFormed}
-use Rattle.table.proofs.FormLaws.{Formed, well-formed-of}
+use Rattle.table.proofs.FormLaws.{well-formed-of}
 use Rattle.protocol.specs.Polls.{highestEpoch, inForce, current, quorumHeld}
-use Rattle.protocol.specs.Calls.{Call, founding, read, write, send, check, Outcome, firstNo, upTo, isUsed, byCoordinator, questions, done, outcome, answers, namesIn, founded}
+use Rattle.protocol.specs.Calls.{Call, founding, read, write, send, check, firstNo, upTo, isUsed, byCoordinator, questions, done, outcome, answers, namesIn}
 use Rattle.protocol.proofs.QuestionLaws.{yes-first, ByCoordinator, passed-first, refusal-is, when-done, when-refused, write-yes, send-yes, CheckYes, check-yes}
 use Rattle.protocol.proofs.FoundedLaws.{founds-of}
 use Rattle.protocol.proofs.DoneLaws.{writeTable, sendTable, checkTable}
 use Rattle.history.specs.Book.{Book, opened, holdsQuorum, someHasAll, entered, agreed}
-use Rattle.history.specs.Demand3.{Right, AllRight, Demand3}
+use Rattle.history.specs.Demand3.{AllRight, Demand3}
 use Rattle.history.specs.Claims.{tableAfter, bookAfter, AlwaysWellFormed, ChecksByBook}
 use Rattle.history.proofs.State.{State, six-check, seven-check}
 use Rattle.history.proofs.Answers.{right}

@@ -1,13 +1,13 @@
 -- "The plain book": fed each call's arguments and whether it was done. Nothing comes from the table.
 use mathlib.Core.Bool.{Bool, true, false, cond, _&&_, _||_}
-use mathlib.Core.List.{List, [], _∷_}
-use Prim.Native.Nat.{ℕ, zero, suc, _+_, _-_, _^_}
+use mathlib.Core.List.{List}
+use Prim.Native.Nat.{ℕ, _+_, _-_, _^_}
 use lib.Dec.{eqb}
 use lib.ListN.{length, getD}
 use Rattle.sets.specs.Upto.{every, some, upward}
 use Rattle.sets.specs.Sets.{has, cutTo}
 use Rattle.quorums.specs.declared.Kind.{Kind}
-use Rattle.quorums.specs.declared.Kind.the-variants.{Read, Write}
+use Rattle.quorums.specs.declared.Kind.the-variants.{Write}
 use Rattle.bytes.specs.Bytes.{put}
 use Rattle.protocol.specs.Lists.{listQuorum, listChoice}
 use Rattle.protocol.specs.Calls.{Call, founding, read, write, send, check, namesIn, zeros}

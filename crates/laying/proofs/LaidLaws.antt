@@ -12,11 +12,11 @@ use lib.ListN.{length, getD, take, drop, length-append, replicate-append-replica
 use lib.Seq.{take-at, drop-at, take-all, take-suc, length-take-le}
 use Rattle.sets.specs.Sets.{has, firstRows}
 use Rattle.sets.proofs.SetLaws.{has-first, same-members}
-use Rattle.bytes.specs.Bytes.{number, bytesOf, part, put}
+use Rattle.bytes.specs.Bytes.{bytesOf, put}
 use Rattle.fields.specs.Layout.{store, form, capacity, used, first, fileLength, name, link, members}
 use Rattle.bytes.proofs.ByteLaws.{length-put}
 use Rattle.bytes.proofs.CodeLaws.{part-length, part-back}
-use Rattle.protocol.specs.Calls.{zeros, namesIn, foundedHeader, foundedRow, foundedRows, founded}
+use Rattle.protocol.specs.Calls.{zeros, foundedHeader, foundedRow, foundedRows, founded}
 use Rattle.protocol.proofs.FoundedLaws.{length-zeros, length-header, length-rows}
 
 -- ---- zeros

@@ -1,31 +1,26 @@
 -- The claims of specs/Claims.antt, proved.
-use mathlib.Core.Path.{_≡_, refl, sym, _∙_, ap, ap₂, subst, fun-ext}
-use mathlib.Core.Bool.{Bool, true, false, not, cond, _&&_, _||_}
-use mathlib.Core.Logic.{_⊎_, inl, inr}
-use mathlib.Core.List.{List, [], _∷_}
-use Prim.Native.Nat.{ℕ, zero, suc, _+_, _-_, _*_, _%_, _^_, _≤_, _<_}
+use mathlib.Core.Path.{_≡_, refl, sym, _∙_, subst}
+use mathlib.Core.Bool.{Bool, true, false}
+use mathlib.Core.List.{List}
+use Prim.Native.Nat.{ℕ, zero, suc, _-_}
 use native.Mathlib.Omega.{arith}
-use lib.Dec.{eqb, leb, ltb, eqb·suc-zero}
-use lib.ListN.{length, take, drop}
-use borrow.Author.Tests.{eqb-true, eq-eqb, ne-eqb, eqb-false, ltb-true}
-use Rattle.sets.specs.Upto.{Within}
+use lib.Dec.{eqb}
+use borrow.Author.Tests.{eqb-true, ltb-true}
 use Rattle.sets.specs.Sets.{has}
-use Rattle.bools.proofs.BoolLaws.{and-l, and-r, or-e, clash}
-use Rattle.quorums.specs.declared.Kind.{Kind}
-use Rattle.quorums.specs.declared.Kind.the-variants.{Read, Write}
+use Rattle.bools.proofs.BoolLaws.{clash}
+use Rattle.quorums.specs.declared.Kind.the-variants.{Write}
 use Rattle.bytes.specs.Bytes.{part}
 use Rattle.fields.specs.Layout
-use Rattle.fields.specs.Layout.{usedOf, fileOf, nameOf, linkOf, rowLength, rowsEnd, rowBytes}
-use Rattle.table.specs.Chain.{chain, orderOf}
-use Rattle.table.specs.WellFormed.{limit, onlyRows, wellFormed}
-use Rattle.table.proofs.FormLaws.{Formed, formed, well-formed-of}
-use Rattle.protocol.specs.Polls.{Poll, polled, highestEpoch, inForce, goodVersion, good, current, quorumHeld, workedOn}
+use Rattle.fields.specs.Layout.{usedOf, nameOf, rowsEnd}
+use Rattle.table.specs.Chain.{orderOf}
+use Rattle.table.specs.WellFormed.{wellFormed}
+use Rattle.table.proofs.FormLaws.{well-formed-of}
+use Rattle.protocol.specs.Polls.{inForce}
 use Rattle.protocol.specs.Calls
-use Rattle.protocol.specs.Calls.{Call, founding, read, write, send, check, Outcome, firstNo, questions, done, outcome, refused, answers, workSet, namesIn}
+use Rattle.protocol.specs.Calls.{Call, founding, read, write, send, check, firstNo, questions, done, outcome, answers, workSet, namesIn}
 use Rattle.protocol.specs.Claims
-use Rattle.protocol.proofs.TableLaws.{Like, Changed}
 use Rattle.protocol.proofs.PollLaws.{worked-in}
-use Rattle.protocol.proofs.QuestionLaws.{refusal-is, when-done, when-refused, ReadYes, read-yes, WriteYes, write-yes, SendYes, send-yes, CheckYes, check-yes}
+use Rattle.protocol.proofs.QuestionLaws.{refusal-is, when-done, when-refused, write-yes, send-yes, CheckYes, check-yes}
 use Rattle.protocol.proofs.DoneLaws.{Leaves, writeTable, write-leaves, sendTable, send-leaves, checkTable, check-leaves}
 use Rattle.protocol.proofs.KeepLaws.{write-formed, send-formed}
 use Rattle.protocol.proofs.FoundedLaws.{founds-of, founded-formed}

@@ -1,32 +1,30 @@
 -- What a done write, send and check leave in each row.
 use mathlib.Core.Path.{_≡_, refl, sym, _∙_, ap, subst}
-use mathlib.Core.Bool.{Bool, true, false, not, cond, _&&_, _||_}
+use mathlib.Core.Bool.{Bool, true, false, cond}
 use mathlib.Core.List.{List, []}
-use Prim.Native.Nat.{ℕ, zero, suc, _+_, _-_, _*_, _^_, _≤_, _<_}
+use Prim.Native.Nat.{ℕ, zero, suc, _+_, _-_, _^_, _≤_, _<_}
 use native.Mathlib.Nat.{lt-of-lt-of-le}
 use native.Mathlib.Omega.{arith}
-use lib.Dec.{eqb, leb, ltb}
+use lib.Dec.{eqb}
 use lib.Pow.{pow-mono}
 use lib.ListN.{length}
-use borrow.Author.Tests.{eqb-true, eq-eqb, ne-eqb, ltb-true}
+use borrow.Author.Tests.{eqb-true, eq-eqb}
 use Rattle.sets.specs.Upto.{Within}
 use Rattle.sets.specs.Sets.{has}
-use Rattle.bools.proofs.BoolLaws.{and-l, and-r, or-e, clash}
-use Rattle.quorums.specs.declared.Kind.{Kind}
-use Rattle.quorums.specs.declared.Kind.the-variants.{Read, Write}
+use Rattle.quorums.specs.declared.Kind.the-variants.{Write}
 use Rattle.bytes.specs.Bytes.{put}
-use Rattle.fields.specs.Layout.{get, name, link, mark, version, desired, epoch, members, contents, rowLength, rowBytes, usedOf, fileOf, nameOf, linkOf, epochOf, membersOf, staleOf, versionOf, desiredOf, contentsOf}
+use Rattle.fields.specs.Layout.{get, name, link, contents, rowLength, rowBytes, usedOf, fileOf, nameOf, versionOf, contentsOf}
 use Rattle.table.specs.Chain.{orderOf}
-use Rattle.table.specs.WellFormed.{limit, wellFormed}
-use Rattle.table.proofs.FormLaws.{RowFacts, Formed, formed, HeaderFacts, header-facts, rows-room}
-use Rattle.protocol.specs.Polls.{Poll, polled, highestEpoch, inForce, goodVersion, good, current, workedOn}
-use Rattle.protocol.specs.Rows.{markedRow, patchedRow, enrolledRow, refreshedRow, withRow, withRows, wroteRow, checkedRow}
+use Rattle.table.specs.WellFormed.{limit}
+use Rattle.table.proofs.FormLaws.{Formed, formed, header-facts, rows-room}
+use Rattle.protocol.specs.Polls.{Poll, polled, highestEpoch, goodVersion, good}
+use Rattle.protocol.specs.Rows.{refreshedRow, withRow, withRows, wroteRow, checkedRow}
 use Rattle.protocol.specs.Calls.{answers, workSet}
 use Rattle.protocol.proofs.RowLaws.{fieldAt, Becomes, fieldsOf, changed, unchanged, marked-row, patched-row, then-enrolled, refreshed-row}
-use Rattle.protocol.proofs.TableLaws.{Like, row-long, Changed, one-row, many-rows}
-use Rattle.protocol.proofs.PollLaws.{Good, good-at, worked-in, version-under}
+use Rattle.protocol.proofs.TableLaws.{row-long, Changed, one-row, many-rows}
+use Rattle.protocol.proofs.PollLaws.{worked-in, version-under}
 use Rattle.protocol.proofs.FrameLaws.{Frame, frame-of}
-use Rattle.protocol.proofs.QuestionLaws.{ByCoordinator, answered-used, WriteYes, SendYes, CheckYes}
+use Rattle.protocol.proofs.QuestionLaws.{answered-used, WriteYes, SendYes, CheckYes}
 
 -- rows of a well-formed table are long enough for their head
 module _ (t : List ℕ) (w : Formed t) where

@@ -1,18 +1,17 @@
 -- What no call after a founding alters: header, names and links. And what follows: chain order, the header's and the chain's part of question 1.
-use mathlib.Core.Path.{_≡_, refl, sym, _∙_, ap, ap₂, fun-ext}
+use mathlib.Core.Path.{_≡_, refl, _∙_, ap, fun-ext}
 use mathlib.Core.Bool.{Bool, true, false, cond}
-use mathlib.Core.List.{List, []}
-use Prim.Native.Nat.{ℕ, zero, suc, _+_, _≤_, _<_}
+use mathlib.Core.List.{List}
+use Prim.Native.Nat.{ℕ, zero, suc, _≤_}
 use native.Mathlib.Decide.{decLe}
 use native.Mathlib.Omega.{arith}
-use lib.Dec.{eqb}
-use lib.ListN.{length, drop}
-use Rattle.sets.specs.Upto.{Within, every}
-use Rattle.bytes.specs.Bytes.{part, allZero}
-use Rattle.fields.specs.Layout.{get, form, capacity, used, first, fileLength, name, link, capacityOf, usedOf, firstOf, fileOf, nameOf, linkOf, rowLength, rowsEnd, rowBytes}
-use Rattle.table.specs.Chain.{chain, orderOf, among, risesFrom}
-use Rattle.table.specs.WellFormed.{between, headerValues, lengthRight, visitsEach, namesRise, unusedZero}
-use Rattle.protocol.proofs.TableLaws.{Like, like-get, like-length, like-end, Changed, behind}
+use lib.ListN.{drop}
+use Rattle.sets.specs.Upto.{Within}
+use Rattle.bytes.specs.Bytes.{allZero}
+use Rattle.fields.specs.Layout.{get, form, capacity, used, first, fileLength, name, link, capacityOf, usedOf, firstOf, fileOf, nameOf, linkOf, rowsEnd, rowBytes}
+use Rattle.table.specs.Chain.{orderOf}
+use Rattle.table.specs.WellFormed.{headerValues, lengthRight, visitsEach, namesRise, unusedZero}
+use Rattle.protocol.proofs.TableLaws.{Like, like-get, like-end, Changed, behind}
 
 pub record Frame (t u : List ℕ) : Type 0 where
   pub like : Like t u

@@ -1,29 +1,26 @@
 -- Writes and sends keep every well-formed table well formed; so does a check, unless a row that did not answer has the new epoch already.
 use mathlib.Core.Path.{_≡_, refl, sym, _∙_, ap, subst}
-use mathlib.Core.Bool.{Bool, true, false, not, cond, _&&_, _||_}
+use mathlib.Core.Bool.{Bool, true, false, cond}
 use mathlib.Core.List.{List, []}
-use Prim.Native.Nat.{ℕ, zero, suc, _+_, _-_, _*_, _^_, _≤_, _<_}
+use Prim.Native.Nat.{ℕ, zero, _+_, _-_, _^_, _≤_, _<_}
 use native.Mathlib.Decide.{ℕ-discrete}
 use native.Mathlib.Omega.{arith}
-use lib.Dec.{eqb, leb, ltb}
-use lib.ListN.{length}
-use borrow.Author.Tests.{eqb-true, eq-eqb, ne-eqb, ltb-true}
+use lib.Dec.{eqb}
+use borrow.Author.Tests.{eqb-true}
 use Rattle.sets.specs.Upto.{Within}
 use Rattle.sets.specs.Sets.{has}
-use Rattle.bools.proofs.BoolLaws.{and-l, and-r, or-e, clash}
-use Rattle.quorums.specs.declared.Kind.the-variants.{Read, Write}
-use Rattle.bytes.specs.Bytes.{allZero, put}
-use Rattle.fields.specs.Layout.{get, name, link, mark, version, desired, epoch, members, reserved, contents, rowBytes, usedOf, epochOf, membersOf, staleOf, versionOf, desiredOf}
-use Rattle.table.specs.WellFormed.{limit, wellFormed}
-use Rattle.table.proofs.FormLaws.{RowFacts, Formed, formed, well-formed-of, HeaderFacts, header-facts}
-use Rattle.protocol.specs.Polls.{Poll, polled, highestEpoch, goodVersion, good, current}
+use Rattle.bools.proofs.BoolLaws.{clash}
+use Rattle.quorums.specs.declared.Kind.the-variants.{Write}
+use Rattle.fields.specs.Layout.{get, name, link, desired, epoch, members, rowBytes, usedOf, epochOf, membersOf, staleOf, versionOf, desiredOf}
+use Rattle.table.specs.WellFormed.{limit}
+use Rattle.table.proofs.FormLaws.{RowFacts, Formed, formed, header-facts}
+use Rattle.protocol.specs.Polls.{polled, highestEpoch, goodVersion, good, current}
 use Rattle.protocol.specs.Calls.{answers, workSet}
 use Rattle.protocol.proofs.RowLaws.{fieldAt, Becomes, fieldsOf, changed}
-use Rattle.protocol.proofs.TableLaws.{Changed}
-use Rattle.protocol.proofs.PollLaws.{Good, good-at, good-of, version-le, current-desired, worked-in}
-use Rattle.protocol.proofs.FrameLaws.{Frame, same-used, same-header, same-long, same-visits, same-rise, zero-stays}
-use Rattle.protocol.proofs.QuestionLaws.{ByCoordinator, answered-used, WriteYes, SendYes, CheckYes}
-use Rattle.protocol.proofs.DoneLaws.{Leaves, RowBecomes, write-used, writeTable, write-leaves, write-taken, write-marked, sendTable, send-leaves, send-target, checkTable, check-version, check-leaves, check-taken, check-marked}
+use Rattle.protocol.proofs.PollLaws.{good-at, good-of, version-le, current-desired, worked-in}
+use Rattle.protocol.proofs.FrameLaws.{same-used, same-header, same-long, same-visits, same-rise, zero-stays}
+use Rattle.protocol.proofs.QuestionLaws.{answered-used, WriteYes, SendYes, CheckYes}
+use Rattle.protocol.proofs.DoneLaws.{Leaves, write-used, writeTable, write-leaves, write-taken, write-marked, sendTable, send-leaves, send-target, checkTable, check-version, check-leaves, check-taken, check-marked}
 
 -- what is asked of a row, in terms of its seven fields
 record Fields (n i : ℕ) (f : ℕ → ℕ) : Type 0 where

@@ -1,14 +1,14 @@
 -- What a poll says of a set of rows, row by row; and that it says nothing of rows outside the set.
 use mathlib.Core.Path.{_≡_, refl, sym, _∙_, ap, ap₂, fun-ext}
-use mathlib.Core.Bool.{Bool, true, false, not, cond, _&&_, _||_}
+use mathlib.Core.Bool.{Bool, true, false, not, cond, _&&_}
 use mathlib.Core.List.{List}
-use Prim.Native.Nat.{ℕ, _<_, _≤_}
+use Prim.Native.Nat.{ℕ, _≤_}
 use native.Mathlib.Omega.{arith}
-use lib.Dec.{leb, ltb, eqb}
-use borrow.Author.Tests.{eqb-true, eq-eqb, leb-true, le-leb, not-true, ltb-true, ltb-false, lt-ltb, le-ltb}
+use lib.Dec.{ltb, eqb}
+use borrow.Author.Tests.{eqb-true, eq-eqb, not-true, ltb-false, le-ltb}
 use Rattle.sets.specs.Upto.{Within, some, lowest, most}
-use Rattle.sets.specs.Sets.{has, cutTo}
-use Rattle.bools.proofs.BoolLaws.{and-l, and-r, and-i, same-test, clash}
+use Rattle.sets.specs.Sets.{cutTo}
+use Rattle.bools.proofs.BoolLaws.{and-l, and-r, and-i, clash}
 use Rattle.sets.proofs.UptoLaws.{some-at, some-of, some-none, some-ext, most-le, most-at, most-under, most-ext, lowest-at, lowest-ext}
 use Rattle.quorums.specs.declared.Kind.{Kind}
 use Rattle.protocol.specs.Lists.{listQuorum, listChoice}

@@ -1,13 +1,13 @@
 -- The first no is the refusal: what a done call has passed, and what a refused one leaves.
-use mathlib.Core.Path.{_≡_, refl, sym, _∙_, ap}
+use mathlib.Core.Path.{_≡_, refl, sym, _∙_}
 use mathlib.Core.Bool.{Bool, true, false, not, cond, _&&_, _||_}
-use mathlib.Core.List.{List, [], _∷_}
-use Prim.Native.Nat.{ℕ, zero, suc, _+_, _%_, _*_, _/_, _^_, _≤_, _<_}
+use mathlib.Core.List.{List, _∷_}
+use Prim.Native.Nat.{ℕ, zero, suc, _+_, _%_, _/_, _^_, _≤_, _<_}
 use native.Mathlib.Omega.{arith}
 use lib.Dec.{eqb, leb, ltb, eqb·suc-zero}
 use lib.ListN.{length}
 use lib.Pow.{high, low}
-use borrow.Author.Tests.{eqb-true, eqb-false, eq-eqb, ltb-true, leb-true, not-true}
+use borrow.Author.Tests.{eqb-false, eq-eqb, ltb-true, leb-true, not-true}
 use Rattle.sets.specs.Upto.{Within}
 use Rattle.sets.specs.Sets.{has}
 use Rattle.bools.proofs.BoolLaws.{and-l, and-r}
@@ -15,7 +15,7 @@ use Rattle.sets.proofs.SetLaws.{has-within}
 use Rattle.quorums.specs.declared.Kind.the-variants.{Read, Write}
 use Rattle.fields.specs.Layout.{usedOf, fileOf, staleOf, versionOf, desiredOf}
 use Rattle.table.specs.Chain.{orderOf}
-use Rattle.table.specs.WellFormed.{between, limit, onlyRows, wellFormed}
+use Rattle.table.specs.WellFormed.{limit, onlyRows, wellFormed}
 use Rattle.table.proofs.FormLaws.{between-is}
 use Rattle.protocol.specs.Polls.{highestEpoch, inForce, goodVersion, current, quorumHeld}
 use Rattle.protocol.specs.Calls

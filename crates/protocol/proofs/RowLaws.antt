@@ -9,7 +9,7 @@ use lib.Dec.{leb, eqb}
 use lib.ListN.{length, getD, drop, length-drop}
 use borrow.Author.Tests.{leb-true, eqb-true}
 use Rattle.sets.specs.Upto.{Within, every}
-use Rattle.bools.proofs.BoolLaws.{and-l, and-r, or-e, clash}
+use Rattle.bools.proofs.BoolLaws.{and-l, and-r, or-e}
 use Rattle.sets.proofs.UptoLaws.{every-at}
 use Rattle.bytes.specs.Bytes.{put}
 use Rattle.fields.specs.Layout.{Field, get, store, name, link, mark, version, desired, epoch, members, reserved, contents, storeContents}

@@ -1,13 +1,13 @@
 -- Rows that did not answer have no part in a call.
-use mathlib.Core.Path.{_≡_, refl, sym, _∙_, ap, ap₂, subst, subst₂, fun-ext}
-use mathlib.Core.Bool.{Bool, true, false, not, cond, _&&_, _||_}
+use mathlib.Core.Path.{_≡_, refl, sym, _∙_, ap, ap₂, subst₂, fun-ext}
+use mathlib.Core.Bool.{Bool, true, false, not, cond, _&&_}
 use mathlib.Core.List.{List, [], _∷_}
-use Prim.Native.Nat.{ℕ, zero, suc, _+_, _-_, _*_, _^_, _≤_, _<_}
+use Prim.Native.Nat.{ℕ, zero, suc, _+_, _-_, _≤_}
 use native.Mathlib.Nat.{zero-add}
 use native.Mathlib.Omega.{arith}
-use lib.Dec.{eqb, leb, ltb, eqb·suc-zero}
-use lib.ListN.{length, take, drop}
-use borrow.Author.Tests.{eqb-true, ltb-true}
+use lib.Dec.{eqb, leb, ltb}
+use lib.ListN.{take}
+use borrow.Author.Tests.{ltb-true}
 use Rattle.sets.specs.Upto.{Within, lowest}
 use Rattle.sets.specs.Sets.{has}
 use Rattle.sets.proofs.SetLaws.{has-within}
@@ -15,18 +15,18 @@ use Rattle.quorums.specs.declared.Kind.{Kind}
 use Rattle.quorums.specs.declared.Kind.the-variants.{Read, Write}
 use Rattle.bytes.specs.Bytes.{number, part}
 use Rattle.fields.specs.Layout
-use Rattle.fields.specs.Layout.{get, mark, version, desired, epoch, members, usedOf, firstOf, fileOf, capacityOf, nameOf, linkOf, staleOf, versionOf, desiredOf, epochOf, membersOf, contentsOf, rowsEnd, rowBytes}
+use Rattle.fields.specs.Layout.{get, mark, version, desired, epoch, members, usedOf, firstOf, fileOf, nameOf, linkOf, staleOf, versionOf, desiredOf, epochOf, membersOf, contentsOf, rowBytes}
 use Rattle.table.specs.Chain.{chain, orderOf}
-use Rattle.table.specs.WellFormed.{between, limit, onlyRows, lengthRight, wellFormed}
+use Rattle.table.specs.WellFormed.{between, limit, onlyRows}
 use Rattle.bytes.proofs.ByteLaws.{part-part}
-use Rattle.table.proofs.FormLaws.{Formed, formed, HeaderFacts, header-facts}
-use Rattle.protocol.specs.Polls.{Poll, polled, highestEpoch, inForce, goodVersion, good, current, quorumHeld, workedOn}
+use Rattle.table.proofs.FormLaws.{Formed, formed, header-facts}
+use Rattle.protocol.specs.Polls.{Poll, polled, highestEpoch, inForce, goodVersion, good, current, workedOn}
 use Rattle.protocol.specs.Rows.{wroteRow, checkedRow, refreshedRow}
-use Rattle.protocol.specs.Calls.{Call, founding, read, write, send, check, Outcome, Question, firstNo, byCoordinator, isUsed, inFile, questions, done, outcome, lent, answers, workSet}
+use Rattle.protocol.specs.Calls.{Call, read, write, send, check, Question, firstNo, byCoordinator, isUsed, inFile, questions, done, outcome, answers, workSet}
 use Rattle.protocol.specs.Claims.{Answering, byRead, byWrite, bySend, byCheck, EqualIn, SameFor, UnansweredHaveNoPart}
-use Rattle.protocol.proofs.TableLaws.{Like, like-get, like-end, Changed}
+use Rattle.protocol.proofs.TableLaws.{Changed}
 use Rattle.protocol.proofs.PollLaws.{lowest-good, worked-in}
-use Rattle.protocol.proofs.QuestionLaws.{refusal-is, when-done, when-refused, ByCoordinator, answered-used, ReadYes, read-yes, WriteYes, write-yes, SendYes, send-yes, CheckYes, check-yes}
+use Rattle.protocol.proofs.QuestionLaws.{refusal-is, when-done, when-refused, answered-used, ReadYes, read-yes, WriteYes, write-yes, SendYes, send-yes, CheckYes, check-yes}
 use Rattle.protocol.proofs.DoneLaws.{writeTable, write-rows, sendTable, send-changed, checkTable, check-rows}
 
 -- chains along links that agree on the used rows

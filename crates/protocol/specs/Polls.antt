@@ -1,10 +1,10 @@
 -- What the answering rows say, and the set that a call works on.
-use mathlib.Core.Bool.{Bool, not, cond, _&&_, _||_}
+use mathlib.Core.Bool.{Bool, not, cond, _&&_}
 use mathlib.Core.List.{List}
 use Prim.Native.Nat.{ℕ}
-use lib.Dec.{eqb, leb, ltb}
+use lib.Dec.{eqb, ltb}
 use Rattle.sets.specs.Upto.{some, lowest, most}
-use Rattle.sets.specs.Sets.{has, cutTo}
+use Rattle.sets.specs.Sets.{cutTo}
 use Rattle.quorums.specs.declared.Kind.{Kind}
 use Rattle.fields.specs.Layout.{epochOf, membersOf, staleOf, versionOf, desiredOf}
 use Rattle.protocol.specs.Lists.{listQuorum, listChoice}

@@ -2,9 +2,8 @@
 use mathlib.Core.Bool.{Bool, cond}
 use mathlib.Core.List.{List}
 use Prim.Native.Nat.{ℕ, zero, suc}
-use lib.ListN.{length}
-use Rattle.bytes.specs.Bytes.{part, put}
-use Rattle.fields.specs.Layout.{get, store, mark, version, desired, epoch, members, contents, storeContents, rowLength, rowsEnd, rowBytes}
+use Rattle.bytes.specs.Bytes.{put}
+use Rattle.fields.specs.Layout.{get, store, mark, version, desired, epoch, members, contents, storeContents, rowsEnd, rowBytes}
 
 -- "is marked and desires the new version"
 unfoldable pub markedRow : ℕ → List ℕ → List ℕ

@@ -2,7 +2,7 @@
 use mathlib.Core.Path.{_≡_, refl, sym, _∙_, ap, ap₂, fun-ext}
 use mathlib.Core.Bool.{Bool, true, false, not, cond, _&&_, _||_, and-true, and-false, or-false}
 use mathlib.Core.Logic.{_⊎_, inl, inr}
-use Prim.Native.Nat.{ℕ, zero, suc, _+_, _-_, _*_, _/_, _%_, _^_, _≤_, _<_}
+use Prim.Native.Nat.{ℕ, zero, suc, _+_, _-_, _/_, _%_, _^_, _≤_, _<_}
 use native.Mathlib.Nat.{mod-lt, pos-of-ne-zero, eq-zero-or-pos}
 use native.Mathlib.Numerals.{add-one}
 use native.Mathlib.Decide.{decLe, decLt}
@@ -10,11 +10,11 @@ use native.Mathlib.Omega.{arith}
 use lib.Dec.{eqb, leb, ltb, eqb·suc-suc, eqb·zero-suc}
 use lib.Arith.{lt-one}
 use lib.Bits.{bitAnd, bitOr, bitXor, and-le-r}
-use lib.Count.{ones, ones-step, trailingZeros, trailing-le, trailing-of-zero, leadingZeros, leading-of-zero, leading-top}
+use lib.Count.{ones, ones-step, trailingZeros, leadingZeros, leading-of-zero, leading-top}
 use borrow.Author.Tests.{eq-eqb, eqb-true, le-leb, lt-leb, lt-ltb, leb-true, not-true}
 use Rattle.sets.specs.Upto.{Within, every, some, count, lowest, most}
 use Rattle.sets.specs.Sets.{has, isRow, noRow, firstRows, gaining, losing, cutTo, leftOf}
-use Rattle.bools.proofs.BoolLaws.{and-l, and-r, and-i, same-test, clash}
+use Rattle.bools.proofs.BoolLaws.{and-l, and-r, same-test, clash}
 use Rattle.sets.proofs.UptoLaws.{every-at, every-of, some-of, some-none, count-first, count-ext, lowest-is, lowest-none, most-le, most-under}
 use Rattle.sets.proofs.DigitLaws.{on, on-or, on-and, on-less, on-power, on-top, on-high, on-ones, on-half, on-zero, on-ext, half-lt, digit-is, trailing-on, trailing-below}
 

@@ -1,5 +1,5 @@
 -- Sets of rows. Where a set is stored it is a number; everywhere else it is the test of its members.
-use mathlib.Core.Bool.{Bool, true, false, not, _&&_, _||_}
+use mathlib.Core.Bool.{Bool, false, not, _&&_, _||_}
 use Prim.Native.Nat.{ℕ, zero, suc, _/_, _%_, _^_}
 use lib.Dec.{eqb, leb}
 

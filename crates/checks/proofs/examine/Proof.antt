@@ -1,5 +1,4 @@
 use borrow.Author.Needs.{needs}
-use mathlib.Core.Path.{_≡_}
 use Rattle.table.proofs.WellFormedLaws.{sized, linked}
 use Rattle.protocol.specs.Calls.{answers}
 use Rattle.verdicts.specs.Judged.{Gathered}

@@ -1,9 +1,9 @@
 use mathlib.Core.Path.{_≡_, refl, _∙_}
 use mathlib.Core.Bool.{_&&_}
-use Prim.Native.Nat.{_-_, _*_, _/_, _≤_}
+use Prim.Native.Nat.{_-_, _≤_}
 use native.Mathlib.Omega.{arith}
 use borrow.Author.Needs.{needs}
-use lib.ListN.{length, drop}
+use lib.ListN.{drop}
 use Rattle.protocol.specs.Calls.{namesIn, namesRise}
 use Rattle.laying.proofs.NameLaws.{name-at}
 use Rattle.founding.proofs.FoundingLaws.{rise-turn, rise-end}

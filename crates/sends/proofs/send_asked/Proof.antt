@@ -7,7 +7,7 @@ use lib.Dec.{eqb, leb}
 use mathlib.Core.List.{List}
 use Rattle.sets.specs.Upto.{Within}
 use Rattle.sets.specs.Sets.{has}
-use Rattle.fields.specs.Layout.{get, mark, version, desired, usedOf, staleOf, versionOf, desiredOf, rowBytes}
+use Rattle.fields.specs.Layout.{get, mark, version, desired, usedOf, staleOf, versionOf, desiredOf}
 use Rattle.table.specs.WellFormed.{between, onlyRows, wellFormed}
 use Rattle.table.proofs.WellFormedLaws.{sized, long, few-rows}
 use Rattle.sends.proofs.SendLaws.{named, send-answers}
