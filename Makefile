@@ -25,6 +25,6 @@ host: lib
 bench: lib
 	cargo run --release --offline --quiet --manifest-path host/Cargo.toml -p bench -- docs/BENCHMARKS.md
 
-# How many machines a read and a write call, to docs/QUORUMS.md and docs/quorums.svg.
+# How many machines a read and a write call, to docs/QUORUMS.md and docs/quorums.svg; the crates, to docs/rooms.svg.
 pictures: lib
-	cargo run --release --offline --quiet --manifest-path host/Cargo.toml -p pictures -- docs
+	cargo run --release --offline --quiet --manifest-path host/Cargo.toml -p pictures -- .

@@ -1,7 +1,7 @@
 //! A line chart in SVG, readable on light and dark pages.
 
 use crate::measure::Sizes;
-use std::fmt::Write;
+use crate::svg::{line, text};
 
 const WIDTH: f64 = 760.0;
 const HEIGHT: f64 = 440.0;
@@ -101,15 +101,4 @@ fn legend(svg: &mut String) {
         line(svg, &format!("<path class=\"line {class}\" d=\"M{:.1} {at:.1}h36\"/>", LEFT + 24.0));
         text(svg, LEFT + 70.0, at + 5.0, "entry", "start", words);
     }
-}
-
-fn text(svg: &mut String, x: f64, y: f64, class: &str, anchor: &str, words: &str) {
-    line(
-        svg,
-        &format!("<text class=\"{class}\" x=\"{x:.1}\" y=\"{y:.1}\" text-anchor=\"{anchor}\">{words}</text>"),
-    );
-}
-
-fn line(svg: &mut String, element: &str) {
-    writeln!(svg, "  {element}").expect("a string takes all");
 }

@@ -1,8 +1,11 @@
-//! Shows how many machines one coordinator calls for a read and for a write, as the library itself tells it.
-//! Writes QUORUMS.md and quorums.svg into the folder that it is given.
+//! Shows how many machines one coordinator calls for a read and for a write, as the library itself tells it, and the
+//! crates with what they stand on. Writes QUORUMS.md, quorums.svg and rooms.svg into the folder docs of the repository
+//! that it is given.
 
 mod chart;
 mod measure;
+mod rooms;
+mod svg;
 
 use dyngrid::Refusal;
 use measure::Sizes;
@@ -11,11 +14,11 @@ use std::path::Path;
 use std::process::ExitCode;
 
 fn main() -> ExitCode {
-    let Some(folder) = std::env::args().nth(1) else {
-        eprintln!("pictures: name the folder to write to, as in `pictures docs`");
+    let Some(root) = std::env::args().nth(1) else {
+        eprintln!("pictures: name the repository's folder, as in `pictures .`");
         return ExitCode::from(2);
     };
-    match draw(Path::new(&folder)) {
+    match draw(Path::new(&root)) {
         Ok(()) => ExitCode::SUCCESS,
         Err(problem) => {
             eprintln!("pictures: {problem}");
@@ -24,11 +27,13 @@ fn main() -> ExitCode {
     }
 }
 
-fn draw(folder: &Path) -> Result<(), Box<dyn std::error::Error>> {
+fn draw(root: &Path) -> Result<(), Box<dyn std::error::Error>> {
+    let folder = root.join("docs");
     let sizes = (1..=64).map(measure::sizes).collect::<Result<Vec<Sizes>, Refusal>>()?;
     std::fs::write(folder.join("QUORUMS.md"), document(&sizes))?;
     std::fs::write(folder.join("quorums.svg"), chart::svg(&sizes))?;
-    println!("pictures: wrote QUORUMS.md and quorums.svg to {}", folder.display());
+    std::fs::write(folder.join("rooms.svg"), rooms::svg(root)?)?;
+    println!("pictures: wrote QUORUMS.md, quorums.svg and rooms.svg to {}", folder.display());
     Ok(())
 }
 
