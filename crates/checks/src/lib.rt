@@ -49,6 +49,6 @@ pub fn check(t: &mut [u8], c: usize, r: u64) -> u64
         return result(8, 0);
     }
     let epoch = v.epoch + 1;
-    store::check_rows(t, answering, v.good, v.version, epoch);
+    enroll::check_rows(t, answering, v.good, v.version, epoch);
     result(0, epoch)
 }

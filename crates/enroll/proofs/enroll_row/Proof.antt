@@ -1,7 +1,7 @@
 use borrow.Author.Needs.{needs}
 use Rattle.protocol.specs.Rows.{enrolledRow}
-use Rattle.store.proofs.enroll_row.Statement.{statement}
-use Rattle.store.proofs.enroll_row.Tie as tie
+use Rattle.enroll.proofs.enroll_row.Statement.{statement}
+use Rattle.enroll.proofs.enroll_row.Tie as tie
 
 set-epoch-requires : tie.Need-set-epoch-requires
 set-epoch-requires c κs = search needs

@@ -1,8 +1,8 @@
 use mathlib.Core.Path.{_∙_, ap}
 use borrow.Author.Needs.{needs}
 use Rattle.protocol.specs.Rows.{enrolledRow}
-use Rattle.store.proofs.check_row.Statement.{statement}
-use Rattle.store.proofs.check_row.Tie as tie
+use Rattle.enroll.proofs.check_row.Statement.{statement}
+use Rattle.enroll.proofs.check_row.Tie as tie
 
 mark-other-requires : tie.Need-mark-other-requires
 mark-other-requires c κs = search needs

@@ -1,6 +1,6 @@
 use borrow.Author.Needs.{needs}
-use Rattle.store.proofs.mark_other.Statement.{statement}
-use Rattle.store.proofs.mark_other.Tie as tie
+use Rattle.enroll.proofs.mark_other.Statement.{statement}
+use Rattle.enroll.proofs.mark_other.Tie as tie
 
 returns : tie.Need-returns
 returns c = rw (c .if1 .taken)

@@ -2,13 +2,13 @@ use mathlib.Core.Path.{_≡_}
 use Prim.Native.Nat.{_-_, _≤_}
 use native.Mathlib.Omega.{arith}
 use borrow.Author.Needs.{needs}
 use Rattle.store.proofs.RowsLaws.{Done, none-done, turn-fits, turn-long, rows-turn}
 use Rattle.protocol.specs.Rows.{checkedRow}
 use Rattle.table.proofs.WellFormedLaws.{long, row-length}
 use Rattle.fields.specs.Layout.{usedOf}
 use Rattle.sets.specs.Sets.{has}
-use Rattle.store.proofs.check_rows.Statement.{statement}
-use Rattle.store.proofs.check_rows.Tie as tie
+use Rattle.enroll.proofs.check_rows.Statement.{statement}
+use Rattle.enroll.proofs.check_rows.Tie as tie
 
 abbrev Inv-loop : tie.InvT-loop
 Inv-loop t₀ set good version epoch used size at₀ i₀ t at i = (i ≤ used) × Done t₀ (has (set .bits)) (checkedRow (has (good .bits)) version epoch (set .bits)) used size i at t
