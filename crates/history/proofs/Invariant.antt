@@ -188,14 +188,6 @@ module _ (n : ℕ) (p : Poll) (c : ℕ → List ℕ) (b : Book) (e : ℕ) (few :
     tried-used : (i : ℕ) → tried i ≡ true → Within n i
     tried-used i h = ins i (tried-in i h)
 
-    pub worked-used : (i : ℕ) → workedOn kind (order b) p k a r i ≡ true → Within n i
-    unfolding workedOn tried
-    worked-used i = go (quorumHeld kind (order b) p tried && current p tried)
-      where
-        go : (x : Bool) → cond x tried r i ≡ true → Within n i
-        go true h = tried-used i h
-        go false h = ins i h
-
     -- what questions 6 and 7 answer for the set worked on is what the book says of R
     pub answers-are : (quorumHeld kind (order b) p (workedOn kind (order b) p k a r) ≡ holdsQuorum b kind r)
         × (holdsQuorum b kind r ≡ true → current p (workedOn kind (order b) p k a r) ≡ someHasAll b r)

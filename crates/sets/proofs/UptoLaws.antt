@@ -148,18 +148,6 @@ lowest-in n p h = go (some n p) refl
         let none : lowest n p ≡ 0 = lowest-none n p (λ i w. same-test (p i) false (λ q. sym e ∙ some-of n p i w q) (λ q. absurd (clash q))) in
         absurd (omega arith)
 
-pub lowest-below : (n : ℕ) (p : ℕ → Bool) (i : ℕ) → 1 ≤ i → i < lowest n p → p i ≡ false
-unfolding lowest
-lowest-below zero p i h l = absurd (omega arith)
-lowest-below (suc n) p i h l = go (some n p) refl (p (suc n)) refl (p i) refl (lowest-below n p i h)
-  where
-    go : (a : Bool) → some n p ≡ a → (b : Bool) → p (suc n) ≡ b → (x : Bool) → p i ≡ x → (i < lowest n p → p i ≡ false) → p i ≡ false
-    go a ea b eb false ex ih = ex
-    go true ea b eb true ex ih = let m : i < lowest n p = rw ea at l in ih m
-    go false ea true eb true ex ih =
-        let m : i < suc n = rw (ea, eb) at l in absurd (clash (sym ea ∙ some-of n p i (omega arith) ex))
-    go false ea false eb true ex ih = let m : i < 0 = rw (ea, eb) at l in absurd (omega arith)
-
 -- ---- most
 pub most-le : (n : ℕ) (p : ℕ → Bool) (f : ℕ → ℕ) (i : ℕ) → Within n i → p i ≡ true → f i ≤ most n p f
 unfolding most

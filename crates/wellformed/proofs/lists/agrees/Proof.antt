@@ -1,17 +1,15 @@
-use mathlib.Core.Bool.{Bool, not, _||_}
 use mathlib.Core.Path.{_≡_, refl, _∙_, ap}
 use Prim.Native.Nat.{ℕ, _+_, _-_, _≤_}
 use native.Mathlib.Omega.{arith}
 use borrow.Author.Needs.{needs}
-use lib.ListN.{getD}
-use lib.Dec.{eqb}
 use Rattle.table.proofs.TestLaws.{every-turn}
 use Rattle.sets.specs.Upto.{every}
+use Rattle.wellformed.specs.Compared.{agreeing}
 use Rattle.wellformed.proofs.lists.agrees.Statement.{statement}
 use Rattle.wellformed.proofs.lists.agrees.Tie as tie
 
 abbrev Inv-loop : tie.InvT-loop
-Inv-loop epoch list epochs lists n ok₀ k₀ ok k = (k ≤ n) × (ok ≡ every k (λ i. not (eqb epoch (getD epochs (i - 1) 0)) || eqb list (getD lists (i - 1) 0)))
+Inv-loop epoch list epochs lists n ok₀ k₀ ok k = (k ≤ n) × (ok ≡ every k (agreeing epochs lists epoch list))
 
 abbrev μ-loop : tie.MeasureT-loop
 μ-loop epoch list epochs lists n ok₀ k₀ ok k = n - k
@@ -45,15 +43,14 @@ loop-less : tie.Need-loop-less Inv-loop μ-loop
 loop-less c = search needs
 
 loop-again : tie.Need-loop-again Inv-loop μ-loop
+unfolding agreeing
 loop-again c =
     let l = c .before .before .before .before .before .loop in
     let a = c .before .before .before .before .before .before .args in
-    let z : l .k ≡ l .k + 1 - 1 = omega arith in
-    let test : ℕ → Bool = λ i. not (eqb (a .epoch) (getD (a .epochs .now) (i - 1) 0)) || eqb (a .list) (getD (a .lists .now) (i - 1) 0) in (
+    let z : l .k + 1 - 1 ≡ l .k = omega arith in (
       omega arith,
-      every-turn test (l .k) (l .ok) (c .before .any .result) (c .both .result) (l .inv .1)
-          (c .before .any .ensures ∙ ap (λ (i : ℕ). not (eqb (a .epoch) (getD (a .epochs .now) i 0)) || eqb (a .list) (getD (a .lists .now) i 0)) z)
-          (c .both .ensures),
+      every-turn (agreeing (a .epochs .now) (a .lists .now) (a .epoch) (a .list)) (l .k) (l .ok) (c .before .any .result) (c .both .result) (l .inv .1)
+          (rw z (c .before .any .ensures)) (c .both .ensures),
     )
 
 returns : tie.Need-returns Inv-loop μ-loop
@@ -61,7 +58,7 @@ returns c =
     let l = c .before .loop in
     let a = c .before .before .args in
     let e : l .k ≡ a .n = omega arith in
-    l .inv .1 ∙ ap (λ (m : ℕ). every m (λ i. not (eqb (a .epoch) (getD (a .epochs .now) (i - 1) 0)) || eqb (a .list) (getD (a .lists .now) (i - 1) 0))) e
+    l .inv .1 ∙ ap (λ (m : ℕ). every m (agreeing (a .epochs .now) (a .lists .now) (a .epoch) (a .list))) e
 
 pub agrees-spec : {M : Type 1} → statement M
 agrees-spec =

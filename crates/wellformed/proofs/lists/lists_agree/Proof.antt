@@ -1,12 +1,12 @@
-use mathlib.Core.Path.{_≡_, refl, _∙_, ap}
+use mathlib.Core.Path.{_≡_, refl, sym, _∙_, ap}
 use Prim.Native.Nat.{ℕ, _+_, _-_, _≤_, _<_}
 use native.Mathlib.Omega.{arith}
 use borrow.Author.Needs.{needs}
-use Rattle.table.proofs.ListLaws.{Gathered, gathered-none, gathered-more, agree-turn, agree-all}
+use Rattle.wellformed.proofs.AgreeLaws.{Gathered, gathered-none, gathered-more, agree-turn, agree-so-far, agree-all}
 use Rattle.fields.specs.Layout.{usedOf, rowBytes, get, epoch, members, epochOf, membersOf}
 use Rattle.table.specs.WellFormed.{listsAgree}
 use Rattle.table.proofs.WellFormedLaws.{few-rows, long}
-use Rattle.table.proofs.TestLaws.{every-turn}
+use Rattle.table.proofs.TestLaws.{every-turn-where}
 use Rattle.sets.specs.Upto.{every}
 use Rattle.wellformed.proofs.lists.lists_agree.Statement.{statement}
 use Rattle.wellformed.proofs.lists.lists_agree.Tie as tie
@@ -41,8 +41,8 @@ epoch-requires c κs = c .row-of .ensures .1
 members-requires : tie.Need-members-requires Inv-loop μ-loop
 members-requires c κs = c .before .row-of .ensures .1
 
-agrees-requires : tie.Need-agrees-requires Inv-loop μ-loop
-agrees-requires c κs = omega (arith, room (c .before .before .before .before .before))
+joins-requires : tie.Need-joins-requires Inv-loop μ-loop
+joins-requires c κs = omega (arith, room (c .before .before .before .before .before))
 
 both-requires : tie.Need-both-requires Inv-loop μ-loop
 both-requires c κs = search needs
@@ -78,12 +78,14 @@ loop-again c =
     let e = c .before .before .before .before .before .epoch in
     let eq : e .result ≡ epochOf t (l .k + 1) = e .ensures ∙ ap (get epoch) row in
     let mq : m .result ≡ membersOf t (l .k + 1) = m .ensures ∙ ap (get members) row in
-    let a = c .before .agrees in (
+    let a = c .before .joins in (
       omega arith,
       gathered-more (l .inv .1) (e .result) (room i) eq,
       gathered-more (l .inv .2) (m .result) (room i) mq,
-      every-turn (λ i. every (i - 1) (λ j. listsAgree (rowBytes t i) (rowBytes t j))) (l .k) (l .ok) (a .result) (c .both .result) (l .inv .3)
-          (agree-turn t (l .k) (l .epochs) (l .lists) (l .inv .1) (l .inv .2) (e .result) (m .result) (a .result) eq mq (a .ensures)) (c .both .ensures),
+      every-turn-where (λ i. every (i - 1) (λ j. listsAgree (rowBytes t i) (rowBytes t j))) (l .k) (l .ok) (a .result) (c .both .result) (l .inv .3)
+          (λ yes. agree-turn t (l .k) (l .epochs) (l .lists) (l .inv .1) (l .inv .2) (e .result) (m .result) (a .result) eq mq
+          (a .ensures (agree-so-far t (l .k) (l .epochs) (l .lists) (l .inv .1) (l .inv .2) ∙ sym (l .inv .3) ∙ yes)))
+          (c .both .ensures),
     )
 
 returns : tie.Need-returns Inv-loop μ-loop
@@ -106,7 +108,7 @@ lists-agree-spec =
     row-of-requires
     epoch-requires
     members-requires
-    agrees-requires
+    joins-requires
     both-requires
     mul-epochs
     array-write-epochs

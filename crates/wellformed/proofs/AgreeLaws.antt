@@ -1,9 +1,9 @@
--- Lists compared: each row with those before it.
+-- Lists compared: each row with those before it, unless it is like the last of them.
 use mathlib.Core.Path.{_≡_, refl, _∙_, ap, ap₂}
 use mathlib.Core.Bool.{Bool, true, not, _||_}
 use mathlib.Core.Logic.{_⊎_, inl, inr}
 use mathlib.Core.List.{List}
-use Prim.Native.Nat.{ℕ, suc, _+_, _-_, _<_}
+use Prim.Native.Nat.{ℕ, suc, _+_, _-_, _≤_, _<_}
 use native.Mathlib.Decide.{decLt}
 use native.Mathlib.Omega.{arith}
 use lib.Dec.{eqb}
@@ -11,11 +11,12 @@ use lib.ListN.{length, getD, set, replicate, length-set}
 use lib.Seq.{getD-set-same, getD-set-other}
 use borrow.Author.Tests.{eqb-true, eq-eqb}
 use Rattle.sets.specs.Upto.{Within, every}
-use Rattle.bools.proofs.BoolLaws.{and-l, and-r, same-test}
+use Rattle.bools.proofs.BoolLaws.{or-r, same-test}
 use Rattle.sets.proofs.UptoLaws.{last, every-at, every-of, every-ext}
 use Rattle.fields.specs.Layout.{get, epoch, members, usedOf, rowBytes, epochOf, membersOf}
-use Rattle.table.specs.WellFormed.{listsAgree, wellFormed}
+use Rattle.table.specs.WellFormed.{listsAgree}
 use Rattle.table.proofs.TestLaws.{eqb-swap}
+use Rattle.wellformed.specs.Compared.{agreeing, allAgree}
 
 -- ---- an array filled from its start: one of 64 whose element i - 1 is f i, for i from 1 to n
 pub record Gathered (f : ℕ → ℕ) (n : ℕ) (xs : List ℕ) : Type 0 where
@@ -64,26 +65,37 @@ unfolding listsAgree
 agree-swap row other =
     ap₂ (λ (a b : Bool). not a || b) (eqb-swap (get epoch row) (get epoch other)) (eqb-swap (get members row) (get members other))
 
+-- one that repeats the last of n that agree does too
+pub repeat-agrees : (epochs lists : List ℕ) (n e m : ℕ) → 1 ≤ n → e ≡ getD epochs (n - 1) 0 → m ≡ getD lists (n - 1) 0 → allAgree epochs lists n ≡ true
+    → every n (agreeing epochs lists e m) ≡ true
+unfolding agreeing allAgree
+repeat-agrees epochs lists n e m h p q a = every-of n (agreeing epochs lists e m) (λ i w. go i w (decLt i n))
+  where
+    before : every (n - 1) (agreeing epochs lists e m) ≡ true
+    before = rw (p, q) (every-at n (λ i. every (i - 1) (agreeing epochs lists (getD epochs (i - 1) 0) (getD lists (i - 1) 0))) a n (omega arith))
+
+    go : (i : ℕ) → Within n i → Dec (i < n) → agreeing epochs lists e m i ≡ true
+    go i w (yes l) = every-at (n - 1) (agreeing epochs lists e m) before i (omega arith)
+    go i w (no l) =
+        let z : n ≡ i = omega arith in
+        or-r (not (eqb e (getD epochs (i - 1) 0))) (eqb m (getD lists (i - 1) 0)) (eq-eqb m (getD lists (i - 1) 0) (q ∙ ap (λ (k : ℕ). getD lists (k - 1) 0) z))
+
 -- row k + 1, of epoch e and list m, and those before it
 module _ (t : List ℕ) (k : ℕ) (epochs lists : List ℕ) (g : Gathered (epochOf t) k epochs) (h : Gathered (membersOf t) k lists) where
-  pub agree-turn : (e m : ℕ) (b : Bool) → e ≡ epochOf t (k + 1) → m ≡ membersOf t (k + 1)
-      → b ≡ every k (λ i. not (eqb e (getD epochs (i - 1) 0)) || eqb m (getD lists (i - 1) 0))
+  pub agree-turn : (e m : ℕ) (b : Bool) → e ≡ epochOf t (k + 1) → m ≡ membersOf t (k + 1) → b ≡ every k (agreeing epochs lists e m)
       → b ≡ every (k + 1 - 1) (λ j. listsAgree (rowBytes t (k + 1)) (rowBytes t j))
-  unfolding listsAgree epochOf membersOf
+  unfolding agreeing listsAgree epochOf membersOf
   agree-turn e m b p q d =
       let z : k ≡ k + 1 - 1 = omega arith in
       d ∙ every-ext k _ _ (λ i w. rw (g .each i w, h .each i w, p, q)) ∙ ap (λ (n : ℕ). every n (λ j. listsAgree (rowBytes t (k + 1)) (rowBytes t j))) z
+
+  -- the arrays agree where the rows do
+  pub agree-so-far : allAgree epochs lists k ≡ every k (λ i. every (i - 1) (λ j. listsAgree (rowBytes t i) (rowBytes t j)))
+  unfolding agreeing allAgree listsAgree epochOf membersOf
+  agree-so-far =
+      every-ext k _ _ (λ i w. every-ext (i - 1) _ _ (λ j v. rw (g .each i w, h .each i w, g .each j (omega arith), h .each j (omega arith))))
 
 pub agree-all : (t : List ℕ) (n : ℕ) → every n (λ i. every (i - 1) (λ j. listsAgree (rowBytes t i) (rowBytes t j)))
     ≡ every n (λ i. every n (λ j. listsAgree (rowBytes t i) (rowBytes t j)))
 agree-all t n =
     pairs n (λ i j. listsAgree (rowBytes t i) (rowBytes t j)) (λ i. agree-same (rowBytes t i)) (λ i j. agree-swap (rowBytes t i) (rowBytes t j))
-
--- of a well-formed table: rows of one epoch carry the same list
-pub lists-same : (t : List ℕ) → wellFormed t ≡ true → (i j : ℕ) → Within (usedOf t) i → Within (usedOf t) j → epochOf t i ≡ epochOf t j
-    → membersOf t i ≡ membersOf t j
-unfolding wellFormed listsAgree epochOf membersOf
-lists-same t e i j wi wj q =
-    let all : every (usedOf t) (λ i. every (usedOf t) (λ j. listsAgree (rowBytes t i) (rowBytes t j))) ≡ true = search (and-l, and-r) in
-    let one : listsAgree (rowBytes t i) (rowBytes t j) ≡ true = every-at (usedOf t) _ (every-at (usedOf t) _ all i wi) j wj in
-    eqb-true (get members (rowBytes t i)) (get members (rowBytes t j)) (rw (eq-eqb (get epoch (rowBytes t i)) (get epoch (rowBytes t j)) q) at one)
