@@ -1,17 +1,17 @@
 -- What the code's loops and parts come to, over plain variables.
 use mathlib.Core.Path.{_≡_, refl, sym, _∙_, ap, ap₂}
-use mathlib.Core.Bool.{Bool, _&&_, and-true}
+use mathlib.Core.Bool.{true}
 use mathlib.Core.List.{List, [], _∷_, _++_, append-nil}
 use Prim.Native.Nat.{ℕ, zero, suc, _+_, _-_, _*_, _/_, _%_, _^_, _≤_, _<_, max}
 use native.Mathlib.Nat.{add-zero, mul-comm}
 use native.Mathlib.Numerals.{add-one}
-use native.Mathlib.Decide.{ℕ-discrete}
+use native.Mathlib.Decide.{ℕ-discrete, decLt}
 use native.Mathlib.Omega.{arith}
-use borrow.Author.Tests.{eq-eqb, ne-eqb}
+use borrow.Author.Tests.{eqb-true, eq-eqb}
 use lib.Dec.{eqb}
 use lib.ListN.{length, getD, take, drop, set, length-take, length-drop}
-use lib.Seq.{drop-drop, take-add, take-all, take-suc, take-suc-set, append-snoc, drop-cons, drop-length}
-use Rattle.bools.proofs.BoolLaws.{and-assoc}
+use lib.Seq.{drop-drop, take-add, take-all, take-suc, take-suc-set, append-snoc}
+use Rattle.bools.proofs.BoolLaws.{and-l, and-r, and-i, same-test}
 use Rattle.bytes.specs.Bytes.{number, bytesOf, part, put, allZero}
 use Rattle.bytes.proofs.ByteLaws.{number-append, length-part}
 
@@ -72,24 +72,46 @@ part-is xs a n b m e d = let k : (a + n) - a ≡ m = omega arith in rw (k, e)
 pub tail-is : (xs : List ℕ) (a b : ℕ) → a ≡ b → take (length xs - a) (drop a xs) ≡ drop b xs
 tail-is xs a b e = take-all (length xs - a) (drop a xs) (omega (arith, length-drop a xs)) ∙ ap (λ (k : ℕ). drop k xs) e
 
--- ---- all_zero: what was seen so far, and the rest
-pub larger-zero : (m x : ℕ) → eqb (max m x) 0 ≡ (eqb m 0 && eqb x 0)
-larger-zero m x = go (ℕ-discrete m 0) (ℕ-discrete x 0)
-  where
-    go : Dec (m ≡ 0) → Dec (x ≡ 0) → eqb (max m x) 0 ≡ (eqb m 0 && eqb x 0)
-    go (yes a) (yes b) = rw (eq-eqb m 0 a, eq-eqb x 0 b) (eq-eqb (max m x) 0 (omega arith))
-    go (yes a) (no b) = rw (eq-eqb m 0 a, ne-eqb x 0 b) (ne-eqb (max m x) 0 (λ e. b (omega arith)))
-    go (no a) d = rw (ne-eqb m 0 a) (ne-eqb (max m x) 0 (λ e. a (omega arith)))
+-- ---- all_zero: byte by byte
+zero-at : (s : List ℕ) → allZero s ≡ true → (k : ℕ) → k < length s → getD s k 0 ≡ 0
+unfolding allZero
+zero-at [] a k h = absurd (omega arith)
+zero-at (x ∷ xs) a zero h = eqb-true x 0 (and-l (eqb x 0) (allZero xs) a)
+zero-at (x ∷ xs) a (suc k) h = zero-at xs (and-r (eqb x 0) (allZero xs) a) k (omega arith)
 
-module _ (s : List ℕ) (i : ℕ) (ok : Bool) (so-far : (ok && allZero (drop i s)) ≡ allZero s) where
-  pub zero-turn : (r : Bool) → i < length s → r ≡ (ok && eqb (getD s i 0) 0) → (r && allZero (drop (i + 1) s)) ≡ allZero s
-  unfolding allZero
-  zero-turn r h e =
-      rw (e, add-one i) (and-assoc ok (eqb (getD s i 0) 0) (allZero (drop (suc i) s)))
-      ∙ ap (λ (l : List ℕ). ok && allZero l) (sym (drop-cons s i 0 h)) ∙ so-far
+zero-of : (s : List ℕ) → ((k : ℕ) → k < length s → getD s k 0 ≡ 0) → allZero s ≡ true
+unfolding allZero
+zero-of [] f = refl
+zero-of (x ∷ xs) f = and-i (eqb x 0) (allZero xs) (eq-eqb x 0 (f 0 (omega arith))) (zero-of xs (λ k h. f (suc k) (omega arith)))
 
-  pub zero-end : i ≡ length s → ok ≡ allZero s
-  unfolding allZero
-  zero-end e =
-      let z : drop i s ≡ [] = ap (λ (k : ℕ). drop k s) e ∙ drop-length s in
-      sym (and-true ok) ∙ ap (λ (l : List ℕ). ok && allZero l) (sym z) ∙ so-far
+-- the first i bytes of both halves, and the largest of them
+pub record Seen (s : List ℕ) (half most i : ℕ) : Type 0 where
+  pub low : most ≡ 0 → (k : ℕ) → k < i → getD s k 0 ≡ 0
+  pub high : most ≡ 0 → (k : ℕ) → k < i → getD s (half + k) 0 ≡ 0
+  pub none : allZero s ≡ true → most ≡ 0
+
+pub none-seen : (s : List ℕ) (half : ℕ) → Seen s half 0 0
+none-seen s half = record { low = λ e k h. absurd (omega arith); high = λ e k h. absurd (omega arith); none = λ a. refl }
+
+module _ (s : List ℕ) (half most i : ℕ) (p : Seen s half most i) where
+  pub seen-turn : (m : ℕ) → i < length s → half + i < length s → m ≡ max most (max (getD s i 0) (getD s (half + i) 0)) → Seen s half m (i + 1)
+  seen-turn m h g e = record {
+    low = λ z k l. go-low z k l (ℕ-discrete k i);
+    high = λ z k l. go-high z k l (ℕ-discrete k i);
+    none = λ a. omega (arith, e, p .none a, zero-at s a i h, zero-at s a (half + i) g);
+  }
+    where
+      go-low : m ≡ 0 → (k : ℕ) → k < i + 1 → Dec (k ≡ i) → getD s k 0 ≡ 0
+      go-low z k l (yes q) = let x : getD s i 0 ≡ 0 = omega (arith, e, z) in rw q x
+      go-low z k l (no q) = p .low (omega (arith, e, z)) k (omega arith)
+
+      go-high : m ≡ 0 → (k : ℕ) → k < i + 1 → Dec (k ≡ i) → getD s (half + k) 0 ≡ 0
+      go-high z k l (yes q) = let x : getD s (half + i) 0 ≡ 0 = omega (arith, e, z) in rw q x
+      go-high z k l (no q) = p .high (omega (arith, e, z)) k (omega arith)
+
+  pub all-seen : half ≤ i → half + i ≡ length s → eqb most 0 ≡ allZero s
+  all-seen h e = same-test (eqb most 0) (allZero s) (λ z. zero-of s (λ k l. go k l (decLt k i) (eqb-true most 0 z))) (λ a. eq-eqb most 0 (p .none a))
+    where
+      go : (k : ℕ) → k < length s → Dec (k < i) → most ≡ 0 → getD s k 0 ≡ 0
+      go k l (yes b) z = p .low z k b
+      go k l (no b) z = let q : half + (k - half) ≡ k = omega arith in rw q at (p .high z (k - half) (omega arith))

@@ -9,11 +9,11 @@ use native.Mathlib.Omega.{arith}
 use lib.Dec.{eqb}
 use lib.ListN.{length, getD, set, replicate, length-set}
 use lib.Seq.{getD-set-same, getD-set-other}
-use borrow.Author.Tests.{eqb-true, eq-eqb}
+use borrow.Author.Tests.{eq-eqb}
 use Rattle.sets.specs.Upto.{Within, every}
 use Rattle.bools.proofs.BoolLaws.{or-r, same-test}
 use Rattle.sets.proofs.UptoLaws.{last, every-at, every-of, every-ext}
-use Rattle.fields.specs.Layout.{get, epoch, members, usedOf, rowBytes, epochOf, membersOf}
+use Rattle.fields.specs.Layout.{get, epoch, members, rowBytes, epochOf, membersOf}
 use Rattle.table.specs.WellFormed.{listsAgree}
 use Rattle.table.proofs.TestLaws.{eqb-swap}
 use Rattle.wellformed.specs.Compared.{agreeing, allAgree}
