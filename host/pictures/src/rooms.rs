@@ -49,10 +49,14 @@ pub fn svg(root: &Path) -> Result<String, Box<dyn std::error::Error>> {
     svg.push_str(STYLE);
     line(&mut svg, &format!("<rect class=\"panel\" width=\"{widest}\" height=\"{tall}\" rx=\"8\"/>"));
     text(&mut svg, MARGIN, 30.0, "title", "start", "The crates, each above what it stands on");
-    for (index, (class, words)) in [("meaning", "definitions and laws, no code"), ("code", "code")].into_iter().enumerate()
+    for (index, (class, words)) in
+        [("meaning", "definitions and laws, no code"), ("code", "with code")].into_iter().enumerate()
     {
         let at = MARGIN + 250.0 * index as f64;
-        line(&mut svg, &format!("<rect class=\"{class}\" x=\"{at}\" y=\"44\" width=\"26\" height=\"16\" rx=\"3\"/>"));
+        line(
+            &mut svg,
+            &format!("<rect class=\"{class}\" x=\"{at}\" y=\"44\" width=\"26\" height=\"16\" rx=\"3\"/>"),
+        );
         text(&mut svg, at + 34.0, 57.0, "entry", "start", words);
     }
     for (upper, room) in rooms.iter().enumerate() {
@@ -122,7 +126,8 @@ fn levels(rooms: &[Room]) -> Vec<usize> {
 /// What a room needs and reaches by no other that it needs: the lines that are drawn.
 fn direct(rooms: &[Room], room: &Room) -> BTreeSet<usize> {
     let mut further = BTreeSet::new();
-    let mut open: Vec<usize> = room.needs.iter().flat_map(|&need| rooms[need].needs.iter().copied()).collect();
+    let mut open: Vec<usize> =
+        room.needs.iter().flat_map(|&need| rooms[need].needs.iter().copied()).collect();
     while let Some(next) = open.pop() {
         if further.insert(next) {
             open.extend(rooms[next].needs.iter().copied());

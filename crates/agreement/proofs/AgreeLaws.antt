@@ -16,7 +16,7 @@ use Rattle.sets.proofs.UptoLaws.{last, every-at, every-of, every-ext}
 use Rattle.fields.specs.Layout.{get, epoch, members, rowBytes, epochOf, membersOf}
 use Rattle.table.specs.WellFormed.{listsAgree}
 use Rattle.table.proofs.TestLaws.{eqb-swap}
-use Rattle.wellformed.specs.Compared.{agreeing, allAgree}
+use Rattle.agreement.specs.Compared.{agreeing, allAgree}
 
 -- ---- an array filled from its start: one of 64 whose element i - 1 is f i, for i from 1 to n
 pub record Gathered (f : ℕ → ℕ) (n : ℕ) (xs : List ℕ) : Type 0 where

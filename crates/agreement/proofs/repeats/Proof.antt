@@ -1,8 +1,8 @@
 use native.Mathlib.Omega.{arith}
 use borrow.Author.Needs.{needs}
 use borrow.Author.Tests.{le-leb, lt-leb}
-use Rattle.wellformed.proofs.lists.repeats.Statement.{statement}
-use Rattle.wellformed.proofs.lists.repeats.Tie as tie
+use Rattle.agreement.proofs.repeats.Statement.{statement}
+use Rattle.agreement.proofs.repeats.Tie as tie
 
 returns : tie.Need-returns
 returns c = rw (lt-leb 1 (c .before .args .n) (omega arith))

@@ -10,7 +10,7 @@ ghost use Rattle.sets.specs.Upto.{every};
 ghost use Rattle.fields.specs.Layout.{usedOf, rowBytes};
 ghost use Rattle.table.specs.WellFormed.{listsAgree};
 ghost use Rattle.table.specs.Contracts.{Sized};
-ghost use Rattle.wellformed.specs.Compared.{agreeing, allAgree};
+ghost use Rattle.agreement.specs.Compared.{agreeing, allAgree};
 
 // Does a row of this epoch and list agree with each of the first n?
 fn agrees(epoch: u32, list: u64, epochs: &[u32; 64], lists: &[u64; 64], n: usize) -> bool

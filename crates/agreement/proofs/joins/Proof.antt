@@ -6,9 +6,9 @@ use lib.ListN.{getD}
 use borrow.Author.Needs.{needs}
 use borrow.Author.Tests.{eqb-true, leb-true}
 use Rattle.bools.proofs.BoolLaws.{and-l, and-r}
-use Rattle.wellformed.proofs.AgreeLaws.{repeat-agrees}
-use Rattle.wellformed.proofs.lists.joins.Statement.{statement}
-use Rattle.wellformed.proofs.lists.joins.Tie as tie
+use Rattle.agreement.proofs.AgreeLaws.{repeat-agrees}
+use Rattle.agreement.proofs.joins.Statement.{statement}
+use Rattle.agreement.proofs.joins.Tie as tie
 
 repeats-requires : tie.Need-repeats-requires
 repeats-requires c κs = search needs

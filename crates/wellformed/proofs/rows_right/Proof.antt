@@ -8,8 +8,8 @@ use Rattle.table.proofs.WellFormedLaws.{header, long}
 use Rattle.table.specs.WellFormed.{rowRight}
 use Rattle.table.proofs.TestLaws.{every-turn}
 use Rattle.sets.specs.Upto.{every}
-use Rattle.wellformed.proofs.stages.rows_right.Statement.{statement}
-use Rattle.wellformed.proofs.stages.rows_right.Tie as tie
+use Rattle.wellformed.proofs.rows_right.Statement.{statement}
+use Rattle.wellformed.proofs.rows_right.Tie as tie
 
 abbrev Inv-loop : tie.InvT-loop
 Inv-loop t used ok₀ k₀ ok k = (k ≤ used) × (ok ≡ every k (λ i. rowRight (usedOf t) i (rowBytes t i)))

@@ -1,8 +1,8 @@
 use borrow.Author.Needs.{needs}
 use Rattle.table.specs.WellFormed.{headerValues}
 use Rattle.bytes.specs.Bytes.{part}
-use Rattle.wellformed.proofs.stages.header_values.Statement.{statement}
-use Rattle.wellformed.proofs.stages.header_values.Tie as tie
+use Rattle.wellformed.proofs.header_values.Statement.{statement}
+use Rattle.wellformed.proofs.header_values.Tie as tie
 
 capacity-requires : tie.Need-capacity-requires
 capacity-requires c κs = search needs

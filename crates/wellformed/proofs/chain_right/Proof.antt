@@ -3,8 +3,8 @@ use mathlib.Core.Path.{_≡_, sym, _∙_}
 use borrow.Author.Tests.{not-true, not-false}
 use borrow.Author.Needs.{needs}
 use Rattle.table.specs.WellFormed.{visitsEach}
-use Rattle.wellformed.proofs.stages.chain_right.Statement.{statement}
-use Rattle.wellformed.proofs.stages.chain_right.Tie as tie
+use Rattle.wellformed.proofs.chain_right.Statement.{statement}
+use Rattle.wellformed.proofs.chain_right.Tie as tie
 
 visits : (c : tie.Else1) → visitsEach (c .before .before .before .before .args .t .now) ≡ true
 visits c = sym (c .before .visits-each .ensures) ∙ not-false _ (c .if1 .left)

@@ -2,14 +2,14 @@ use mathlib.Core.Path.{_≡_, refl, sym, _∙_, ap}
 use Prim.Native.Nat.{ℕ, _+_, _-_, _≤_, _<_}
 use native.Mathlib.Omega.{arith}
 use borrow.Author.Needs.{needs}
-use Rattle.wellformed.proofs.AgreeLaws.{Gathered, gathered-none, gathered-more, agree-turn, agree-so-far, agree-all}
+use Rattle.agreement.proofs.AgreeLaws.{Gathered, gathered-none, gathered-more, agree-turn, agree-so-far, agree-all}
 use Rattle.fields.specs.Layout.{usedOf, rowBytes, get, epoch, members, epochOf, membersOf}
 use Rattle.table.specs.WellFormed.{listsAgree}
 use Rattle.table.proofs.WellFormedLaws.{few-rows, long}
 use Rattle.table.proofs.TestLaws.{every-turn-where}
 use Rattle.sets.specs.Upto.{every}
-use Rattle.wellformed.proofs.lists.lists_agree.Statement.{statement}
-use Rattle.wellformed.proofs.lists.lists_agree.Tie as tie
+use Rattle.agreement.proofs.lists_agree.Statement.{statement}
+use Rattle.agreement.proofs.lists_agree.Tie as tie
 
 abbrev Inv-loop : tie.InvT-loop
 Inv-loop t used epochs₀ lists₀ ok₀ k₀ epochs lists ok k = (k ≤ used) × Gathered (epochOf t) k epochs × Gathered (membersOf t) k lists

@@ -4,9 +4,9 @@ use native.Mathlib.Omega.{arith}
 use borrow.Author.Needs.{needs}
 use Rattle.table.proofs.TestLaws.{every-turn}
 use Rattle.sets.specs.Upto.{every}
-use Rattle.wellformed.specs.Compared.{agreeing}
-use Rattle.wellformed.proofs.lists.agrees.Statement.{statement}
-use Rattle.wellformed.proofs.lists.agrees.Tie as tie
+use Rattle.agreement.specs.Compared.{agreeing}
+use Rattle.agreement.proofs.agrees.Statement.{statement}
+use Rattle.agreement.proofs.agrees.Tie as tie
 
 abbrev Inv-loop : tie.InvT-loop
 Inv-loop epoch list epochs lists n ok₀ k₀ ok k = (k ≤ n) × (ok ≡ every k (agreeing epochs lists epoch list))

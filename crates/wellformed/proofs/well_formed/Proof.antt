@@ -6,8 +6,8 @@ use borrow.Author.Needs.{needs}
 use Rattle.table.proofs.WellFormedLaws.{by-short, by-header, by-length, by-rows, by-chain, by-unused, by-lists}
 use Rattle.table.specs.Contracts.{Sized, Linked}
 use Rattle.table.specs.WellFormed.{headerValues, visitsEach, namesRise}
-use Rattle.wellformed.proofs.stages.well_formed.Statement.{statement}
-use Rattle.wellformed.proofs.stages.well_formed.Tie as tie
+use Rattle.wellformed.proofs.well_formed.Statement.{statement}
+use Rattle.wellformed.proofs.well_formed.Tie as tie
 
 -- what each stage has shown
 head : (c : tie.Else2) → headerValues (c .before .before .before .before .args .t .now) ≡ true
