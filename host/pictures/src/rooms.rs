@@ -114,11 +114,13 @@ fn has_functions(source: &Path) -> std::io::Result<bool> {
     Ok(false)
 }
 
-/// How many crates stand below each, on the longest way down. A crate is listed behind those that it needs.
+/// How many crates stand below each, on the longest way down, whatever the order of the list.
 fn levels(rooms: &[Room]) -> Vec<usize> {
-    let mut levels: Vec<usize> = Vec::new();
-    for room in rooms {
-        levels.push(room.needs.iter().map(|&need| levels[need] + 1).max().unwrap_or(0));
+    let mut levels = vec![0; rooms.len()];
+    for _ in rooms {
+        for (at, room) in rooms.iter().enumerate() {
+            levels[at] = room.needs.iter().map(|&need| levels[need] + 1).max().unwrap_or(0);
+        }
     }
     levels
 }

@@ -42,7 +42,7 @@ highest-requires-2 : tie.Need-highest-requires-2
 highest-requires-2 c κs = search needs
 
 list-in-force-requires : tie.Need-list-in-force-requires
-list-in-force-requires c κs = search needs
+list-in-force-requires c κs = let s = c .before .before .before .before .before .before .before .before .before .before .before .before .before .before .before .before .before .before in (s .pre .0, s .pre .1, c .highest2 .ensures)
 
 quorum-held-requires : tie.Need-quorum-held-requires
 quorum-held-requires c κs = search needs
