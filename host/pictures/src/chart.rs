@@ -1,7 +1,7 @@
-//! A line chart in SVG, readable on light and dark pages.
+//! A line chart.
 
 use crate::measure::Sizes;
-use crate::svg::{line, text};
+use crate::svg::{line, open, text};
 
 const WIDTH: f64 = 760.0;
 const HEIGHT: f64 = 440.0;
@@ -12,34 +12,20 @@ const BOTTOM: f64 = 60.0;
 const MOST_MACHINES: f64 = 64.0;
 const MOST_CALLED: f64 = 35.0;
 
-const STYLE: &str = "  <style>
-    text { font: 14px system-ui, sans-serif; fill: #1f2328 }
-    .title { font-size: 17px; font-weight: 600 }
-    .panel { fill: #ffffff }
-    .grid { stroke: #d8dee4; stroke-width: 1 }
-    .axis { stroke: #59636e; stroke-width: 1.5 }
-    .line { fill: none; stroke-width: 2.5; stroke-linejoin: round }
-    .majority { stroke: #bc4c00; stroke-dasharray: 7 4 }
-    .write { stroke: #0969da }
-    .read { stroke: #1a7f37; stroke-dasharray: 2 3 }
-    @media (prefers-color-scheme: dark) {
-      text { fill: #e6edf3 }
-      .panel { fill: #0d1117 }
-      .grid { stroke: #30363d }
-      .axis { stroke: #9198a1 }
-      .majority { stroke: #f0883e }
-      .write { stroke: #58a6ff }
-      .read { stroke: #3fb950 }
-    }
-  </style>
-";
+const LIGHT: &str = ".grid { stroke: #d8dee4; stroke-width: 1 }
+.axis { stroke: #59636e; stroke-width: 1.5 }
+.line { fill: none; stroke-width: 2.5; stroke-linejoin: round }
+.majority { stroke: #bc4c00; stroke-dasharray: 7 4 }
+.write { stroke: #0969da }
+.read { stroke: #1a7f37; stroke-dasharray: 2 3 }";
+const DARK: &str = ".grid { stroke: #30363d }
+.axis { stroke: #9198a1 }
+.majority { stroke: #f0883e }
+.write { stroke: #58a6ff }
+.read { stroke: #3fb950 }";
 
 pub fn svg(sizes: &[Sizes]) -> String {
-    let mut svg = format!(
-        "<svg xmlns=\"http://www.w3.org/2000/svg\" viewBox=\"0 0 {WIDTH} {HEIGHT}\" role=\"img\" aria-label=\"Machines called\">\n"
-    );
-    svg.push_str(STYLE);
-    line(&mut svg, &format!("<rect class=\"panel\" width=\"{WIDTH}\" height=\"{HEIGHT}\" rx=\"8\"/>"));
+    let mut svg = open(WIDTH, HEIGHT, "Machines called", LIGHT, DARK);
     text(&mut svg, LEFT, 30.0, "title", "start", "Machines called by one coordinator, all answering");
     axes(&mut svg);
     series(&mut svg, "majority", sizes, |sizes| sizes.machines / 2 + 1);

@@ -1,6 +1,6 @@
 //! The crates and what each stands on, drawn from crates.txt: a crate stands above all that it needs.
 
-use crate::svg::{line, text};
+use crate::svg::{line, open, text};
 use std::collections::{BTreeMap, BTreeSet};
 use std::path::Path;
 
@@ -11,22 +11,12 @@ const STEP_Y: f64 = 62.0;
 const MARGIN: f64 = 24.0;
 const TOP: f64 = 96.0;
 
-const STYLE: &str = "  <style>
-    text { font: 14px system-ui, sans-serif; fill: #1f2328 }
-    .title { font-size: 17px; font-weight: 600 }
-    .panel { fill: #ffffff }
-    .code { fill: #ddf4ff; stroke: #0969da }
-    .meaning { fill: #fff8c5; stroke: #9a6700 }
-    .needs { fill: none; stroke: #818b98; stroke-width: 1.2 }
-    @media (prefers-color-scheme: dark) {
-      text { fill: #e6edf3 }
-      .panel { fill: #0d1117 }
-      .code { fill: #0c2d4d; stroke: #58a6ff }
-      .meaning { fill: #3b2a00; stroke: #d29922 }
-      .needs { stroke: #6e7681 }
-    }
-  </style>
-";
+const LIGHT: &str = ".code { fill: #ddf4ff; stroke: #0969da }
+.meaning { fill: #fff8c5; stroke: #9a6700 }
+.needs { fill: none; stroke: #818b98; stroke-width: 1.2 }";
+const DARK: &str = ".code { fill: #0c2d4d; stroke: #58a6ff }
+.meaning { fill: #3b2a00; stroke: #d29922 }
+.needs { stroke: #6e7681 }";
 
 /// A crate: the crates that it names, and whether its source has functions.
 struct Room {
@@ -43,11 +33,7 @@ pub fn svg(root: &Path) -> Result<String, Box<dyn std::error::Error>> {
     let height = levels.iter().max().map_or(0, |most| most + 1) as f64;
     let widest = places.values().fold(0.0, |most: f64, (x, _)| most.max(*x)) + BOX_WIDTH / 2.0 + MARGIN;
     let tall = TOP + height * STEP_Y;
-    let mut svg = format!(
-        "<svg xmlns=\"http://www.w3.org/2000/svg\" viewBox=\"0 0 {widest} {tall}\" role=\"img\" aria-label=\"Crates\">\n"
-    );
-    svg.push_str(STYLE);
-    line(&mut svg, &format!("<rect class=\"panel\" width=\"{widest}\" height=\"{tall}\" rx=\"8\"/>"));
+    let mut svg = open(widest, tall, "Crates", LIGHT, DARK);
     text(&mut svg, MARGIN, 30.0, "title", "start", "The crates, each above what it stands on");
     for (index, (class, words)) in
         [("meaning", "definitions and laws, no code"), ("code", "with code")].into_iter().enumerate()

@@ -1,6 +1,31 @@
-//! Elements of a picture in SVG.
+//! A picture in SVG, readable on light and dark pages.
 
 use std::fmt::Write;
+
+/// The start of a picture: its size, what it shows, its styles on light pages and where they differ on dark ones.
+pub fn open(width: f64, height: f64, shows: &str, light: &str, dark: &str) -> String {
+    let mut svg = format!(
+        "<svg xmlns=\"http://www.w3.org/2000/svg\" viewBox=\"0 0 {width} {height}\" role=\"img\" aria-label=\"{shows}\">\n  <style>\n"
+    );
+    for style in [
+        "text { font: 14px system-ui, sans-serif; fill: #1f2328 }",
+        ".title { font-size: 17px; font-weight: 600 }",
+        ".panel { fill: #ffffff }",
+    ]
+    .into_iter()
+    .chain(light.lines())
+    {
+        line(&mut svg, &format!("  {}", style.trim()));
+    }
+    line(&mut svg, "  @media (prefers-color-scheme: dark) {");
+    for style in ["text { fill: #e6edf3 }", ".panel { fill: #0d1117 }"].into_iter().chain(dark.lines()) {
+        line(&mut svg, &format!("    {}", style.trim()));
+    }
+    line(&mut svg, "  }");
+    line(&mut svg, "</style>");
+    line(&mut svg, &format!("<rect class=\"panel\" width=\"{width}\" height=\"{height}\" rx=\"8\"/>"));
+    svg
+}
 
 pub fn text(svg: &mut String, x: f64, y: f64, class: &str, anchor: &str, words: &str) {
     line(
