@@ -1,29 +1,63 @@
 -- The claims of specs/Claims.antt, proved.
 use mathlib.Core.Path.{_≡_, refl, sym, _∙_, subst}
-use mathlib.Core.Bool.{Bool, true, false}
+use mathlib.Core.Bool.{Bool, true, false, cond}
 use mathlib.Core.List.{List}
-use Prim.Native.Nat.{ℕ, zero, suc, _-_}
+use Prim.Native.Nat.{ℕ, zero, suc, _+_, _-_, _^_, _≤_, _<_}
 use native.Mathlib.Omega.{arith}
-use lib.Dec.{eqb}
+use lib.Dec.{eqb, ltb}
 use borrow.Author.Tests.{eqb-true, ltb-true}
 use Rattle.sets.specs.Sets.{has}
 use Rattle.bools.proofs.BoolLaws.{clash}
-use Rattle.quorums.specs.declared.Kind.the-variants.{Write}
+use Rattle.quorums.specs.declared.Kind.the-variants.{Read, Write}
 use Rattle.bytes.specs.Bytes.{part}
 use Rattle.fields.specs.Layout
-use Rattle.fields.specs.Layout.{usedOf, nameOf, rowsEnd}
+use Rattle.fields.specs.Layout.{usedOf, nameOf, versionOf, rowsEnd}
 use Rattle.table.specs.Chain.{orderOf}
-use Rattle.table.specs.WellFormed.{wellFormed}
-use Rattle.table.proofs.FormLaws.{well-formed-of}
-use Rattle.protocol.specs.Polls.{inForce}
+use Rattle.table.specs.WellFormed.{limit, wellFormed}
+use Rattle.table.proofs.FormLaws.{formed, well-formed-of}
+use Rattle.protocol.specs.Polls.{highestEpoch, inForce}
 use Rattle.protocol.specs.Calls
 use Rattle.protocol.specs.Calls.{Call, founding, read, write, send, check, firstNo, questions, done, outcome, answers, workSet, namesIn}
 use Rattle.protocol.specs.Claims
 use Rattle.protocol.proofs.PollLaws.{worked-in}
-use Rattle.protocol.proofs.QuestionLaws.{refusal-is, when-done, when-refused, write-yes, send-yes, CheckYes, check-yes}
-use Rattle.protocol.proofs.DoneLaws.{Leaves, writeTable, write-leaves, sendTable, send-leaves, checkTable, check-leaves}
+use Rattle.protocol.proofs.QuestionLaws.{result-refusal, result-value, refusal-is, when-done, when-refused, read-yes, write-yes, send-yes, CheckYes, check-yes}
+use Rattle.protocol.proofs.DoneLaws.{version-small, epoch-small, Leaves, writeTable, write-leaves, sendTable, send-leaves, checkTable, check-leaves}
 use Rattle.protocol.proofs.KeepLaws.{write-formed, send-formed}
 use Rattle.protocol.proofs.FoundedLaws.{founds-of, founded-formed}
+
+-- ---- the questions' numbers, in their order
+pub put-in-order : Claims.PutInOrder
+unfolding Claims.PutInOrder Claims.numbersPut questions Calls.byCoordinator
+put-in-order t (founding capacity file names) = refl
+put-in-order t (read c r offset count buffer) = refl
+put-in-order t (write c r offset patch) = refl
+put-in-order t (send f to r) = refl
+put-in-order t (check c r) = refl
+
+-- ---- the result tells refusal and value
+small-done : (t : List ℕ) (k : Call) → firstNo (questions t k) ≡ 0 → done t k .value ≤ limit
+unfolding done limit workSet versionOf
+small-done t (founding capacity file names) h = let f = founds-of t capacity file names h in omega (arith, f .room, f .most)
+small-done t (read c r offset count buffer) h =
+    version-small t c r (read-yes t c r offset count buffer h .first) (workSet Read t c r) (worked-in Read (orderOf t) (answers t r) c (nameOf t c) (has r))
+small-done t (write c r offset patch) h = omega (arith, write-yes t c r offset patch h .room)
+small-done t (send f to r) h = let y = send-yes t f to r h in formed t (y .formed) .rows f (y .from-used) .small-version
+small-done t (check c r) h = go (eqb r (inForce (answers t r) (has r))) refl
+  where
+    y : CheckYes t c r
+    y = check-yes t c r h
+
+    go : (b : Bool) → eqb r (inForce (answers t r) (has r)) ≡ b → cond b (highestEpoch (answers t r) (has r)) (highestEpoch (answers t r) (has r) + 1) ≤ limit
+    go true q = epoch-small t c r (y .first) (has r) (λ i m. m)
+    go false q = let room : ltb (highestEpoch (answers t r) (has r)) limit ≡ true = rw q at (y .room) in omega (arith, ltb-true)
+
+pub result-tells : Claims.ResultTells
+unfolding Claims.ResultTells limit
+result-tells t k = let s = go (outcome t k .refusal) refl in record { small = s; refusal = result-refusal (outcome t k) s; value = result-value (outcome t k) s }
+  where
+    go : (x : ℕ) → outcome t k .refusal ≡ x → outcome t k .value < 2 ^ 32
+    go zero q = let z = small-done t k (sym (refusal-is t k) ∙ q) in rw (when-done t k q) (omega arith)
+    go (suc x) q = rw (when-refused t k (λ z. omega arith) .0) (omega arith)
 
 -- ---- demand 1: a refusal
 pub refusal-alters-nothing : Claims.RefusalAltersNothing

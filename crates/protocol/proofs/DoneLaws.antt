@@ -13,18 +13,18 @@ use Rattle.sets.specs.Upto.{Within}
 use Rattle.sets.specs.Sets.{has}
 use Rattle.quorums.specs.declared.Kind.the-variants.{Write}
 use Rattle.bytes.specs.Bytes.{put}
-use Rattle.fields.specs.Layout.{get, name, link, contents, rowLength, rowBytes, usedOf, fileOf, nameOf, versionOf, contentsOf}
+use Rattle.fields.specs.Layout.{get, name, link, contents, rowLength, rowBytes, usedOf, fileOf, nameOf, epochOf, versionOf, contentsOf}
 use Rattle.table.specs.Chain.{orderOf}
 use Rattle.table.specs.WellFormed.{limit}
-use Rattle.table.proofs.FormLaws.{Formed, formed, header-facts, rows-room}
+use Rattle.table.proofs.FormLaws.{RowFacts, Formed, formed, header-facts, rows-room}
 use Rattle.protocol.specs.Polls.{Poll, polled, highestEpoch, goodVersion, good}
 use Rattle.protocol.specs.Rows.{refreshedRow, withRow, withRows, wroteRow, checkedRow}
 use Rattle.protocol.specs.Calls.{answers, workSet}
 use Rattle.protocol.proofs.RowLaws.{fieldAt, Becomes, fieldsOf, changed, unchanged, marked-row, patched-row, then-enrolled, refreshed-row}
 use Rattle.protocol.proofs.TableLaws.{row-long, Changed, one-row, many-rows}
-use Rattle.protocol.proofs.PollLaws.{worked-in, version-under}
+use Rattle.protocol.proofs.PollLaws.{worked-in, version-under, epoch-under}
 use Rattle.protocol.proofs.FrameLaws.{Frame, frame-of}
-use Rattle.protocol.proofs.QuestionLaws.{answered-used, WriteYes, SendYes, CheckYes}
+use Rattle.protocol.proofs.QuestionLaws.{ByCoordinator, answered-used, WriteYes, SendYes, CheckYes}
 
 -- rows of a well-formed table are long enough for their head
 module _ (t : List ℕ) (w : Formed t) where
@@ -34,6 +34,19 @@ module _ (t : List ℕ) (w : Formed t) where
 
   long-row : (i : ℕ) → Within (usedOf t) i → 32 ≤ length (rowBytes t i)
   long-row i u = omega (arith, row-length i u)
+
+-- what a poll of R says of a set within R is within the limit
+module _ (t : List ℕ) (c r : ℕ) (B : ByCoordinator t c r) (s : ℕ → Bool) (sub : (i : ℕ) → s i ≡ true → has r i ≡ true) where
+  facts : (i : ℕ) → s i ≡ true → RowFacts (usedOf t) i (rowBytes t i)
+  facts i m = formed t (B .formed) .rows i (answered-used t c r [] B i (sub i m))
+
+  pub version-small : goodVersion (answers t r) s ≤ limit
+  unfolding answers polled versionOf
+  version-small = version-under (answers t r) s limit (λ i m. rw (sub i m) (facts i m .small-version))
+
+  pub epoch-small : highestEpoch (answers t r) s ≤ limit
+  unfolding answers polled epochOf
+  epoch-small = epoch-under (answers t r) s limit (λ i m. rw (sub i m) (facts i m .small-epoch))
 
 -- a table after a call: u is t with the rows of s changed; names and links stay
 pub record Leaves (t u : List ℕ) (s : ℕ → Bool) : Type 0 where
@@ -174,14 +187,8 @@ module _ (t : List ℕ) (c r : ℕ) (y : CheckYes t c r) (room : highestEpoch (a
   ce : ℕ
   ce = highestEpoch (answers t r) (has r) + 1
 
-  -- the good version is that of a row
   pub check-version : goodVersion (answers t r) (has r) ≤ limit
-  unfolding answers polled versionOf
-  check-version = version-under (answers t r) (has r) limit (λ i m. masked i (has r i) m)
-    where
-      masked : (i : ℕ) (b : Bool) → has r i ≡ true → cond b (versionOf t i) 0 ≤ limit
-      masked i true m = cw .rows i (answered-used t c r [] (y .first) i m) .small-version
-      masked i false m = omega arith
+  check-version = version-small t c r (y .first) (has r) (λ i m. m)
 
   unfoldable pub checkTable : List ℕ
   checkTable = withRows t (has r) (checkedRow (good (answers t r) (has r)) (goodVersion (answers t r) (has r)) (highestEpoch (answers t r) (has r) + 1) r) (usedOf t)

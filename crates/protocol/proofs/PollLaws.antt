@@ -31,6 +31,10 @@ module _ (p : Poll) (s : ℕ → Bool) where
   unfolding highestEpoch
   epoch-le = most-le 64 s (p .epoch)
 
+  pub epoch-under : (c : ℕ) → ((i : ℕ) → s i ≡ true → p .epoch i ≤ c) → highestEpoch p s ≤ c
+  unfolding highestEpoch
+  epoch-under c f = most-under 64 s (p .epoch) c (λ i w h. f i h)
+
   -- the lowest row of the highest epoch
   leader : ℕ
   leader = lowest 64 (λ i. s i && eqb (p .epoch i) (highestEpoch p s))

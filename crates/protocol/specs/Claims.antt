@@ -1,14 +1,34 @@
 -- What is claimed of every call, as statements; the proofs are in proofs/.
 use mathlib.Core.Path.{_≡_}
 use mathlib.Core.Bool.{true, false}
-use mathlib.Core.List.{List}
-use Prim.Native.Nat.{ℕ}
+use mathlib.Core.List.{List, [], _∷_, map}
+use Prim.Native.Nat.{ℕ, _/_, _%_, _^_, _<_}
 use lib.ListN.{length, take, drop}
 use Rattle.sets.specs.Upto.{Within}
 use Rattle.sets.specs.Sets.{has}
 use Rattle.fields.specs.Layout.{usedOf, nameOf, linkOf, rowsEnd, rowBytes}
 use Rattle.table.specs.WellFormed.{wellFormed}
-use Rattle.protocol.specs.Calls.{Call, founding, read, write, send, check, Outcome, lent, outcome}
+use Rattle.protocol.specs.Calls.{Call, founding, read, write, send, check, Outcome, resultOf, Question, questions, lent, outcome}
+
+-- "In this order, each to the calls it names (2 and 3 to all but founding)": the numbers of the questions put to a call
+unfoldable pub numbersPut : Call → List ℕ
+numbersPut (founding capacity file names) = 11 ∷ 12 ∷ []
+numbersPut (read c r offset count buffer) = 1 ∷ 2 ∷ 3 ∷ 4 ∷ 5 ∷ 6 ∷ 7 ∷ []
+numbersPut (write c r offset patch) = 1 ∷ 2 ∷ 3 ∷ 4 ∷ 6 ∷ 7 ∷ 8 ∷ []
+numbersPut (send f t r) = 1 ∷ 2 ∷ 3 ∷ 9 ∷ 10 ∷ []
+numbersPut (check c r) = 1 ∷ 2 ∷ 3 ∷ 6 ∷ 7 ∷ 8 ∷ []
+
+unfoldable pub PutInOrder : Type 0
+PutInOrder = (t : List ℕ) (k : Call) → map (λ (q : Question). q .ask) (questions t k) ≡ numbersPut k
+
+-- the value leaves room for the refusal, so that both can be read off the result
+pub record Told (o : Outcome) : Type 0 where
+  pub small : o .value < 2 ^ 32
+  pub refusal : resultOf o / 2 ^ 32 ≡ o .refusal
+  pub value : resultOf o % 2 ^ 32 ≡ o .value
+
+unfoldable pub ResultTells : Type 0
+ResultTells = (t : List ℕ) (k : Call) → Told (outcome t k)
 
 -- "A refusal leaves every byte of both unaltered"; "has value 0"
 pub record Untouched (t : List ℕ) (k : Call) (o : Outcome) : Type 0 where
