@@ -1,229 +1,25 @@
--- The walk of document 01 and short histories that expose wrong readings, computed over bytes: one list, one statement.
-use mathlib.Core.Path.{_≡_, refl}
-use mathlib.Core.Bool.{Bool, true, false, _&&_}
-use mathlib.Core.List.{List, [], _∷_}
-use Prim.Native.Nat.{ℕ, _+_, _*_}
-use lib.Dec.{eqb}
-use lib.ListN.{replicate}
+-- The histories and the cases, computed over bytes.
+use mathlib.Core.Path.{_≡_, refl, subst}
+use mathlib.Core.Bool.{Bool, true, false}
+use Prim.Native.Nat.{ℕ, zero, suc, _^_}
+use native.Mathlib.Omega.{arith}
 use Rattle.sets.specs.Upto
+use Rattle.sets.specs.Upto.{Within}
 use Rattle.sets.specs.Sets
+use Rattle.sets.proofs.SetLaws.{has-within}
 use Rattle.grid.specs.Sizes
 use Rattle.quorums.specs.Quorums
 use Rattle.bytes.specs.Bytes
 use Rattle.fields.specs.Layout
-use Rattle.fields.specs.Layout.{rowBytes}
 use Rattle.table.specs.Chain
 use Rattle.table.specs.WellFormed
 use Rattle.protocol.specs.Lists
 use Rattle.protocol.specs.Polls
 use Rattle.protocol.specs.Rows
 use Rattle.protocol.specs.Calls
-use Rattle.protocol.specs.Calls.{Call, founding, read, write, send, check, outcome, zeros}
-
-pub data Step : Type 0 where
-  -- a call is made: its refusal, value and buffer
-  Made : Call → (refusal value : ℕ) (buffer : List ℕ) → Step
-  -- these are the bytes of row i
-  Row : (i : ℕ) (bytes : List ℕ) → Step
-
-pub record History : Type 0 where
-  pub capacity : ℕ
-  pub file : ℕ
-  pub names : List ℕ
-  pub steps : List Step
-
-pub same : List ℕ → List ℕ → Bool
-same [] [] = true
-same [] (y ∷ ys) = false
-same (x ∷ xs) [] = false
-same (x ∷ xs) (y ∷ ys) = eqb x y && same xs ys
-
-pub stepsHold : List ℕ → List Step → Bool
-stepsHold t [] = true
-stepsHold t (Made k refusal value buffer ∷ ss) =
-    let o = outcome t k in
-    eqb (o .refusal) refusal && eqb (o .value) value && same (o .buffer) buffer && stepsHold (o .table) ss
-stepsHold t (Row i bytes ∷ ss) = same (rowBytes t i) bytes && stepsHold t ss
-
--- the founding is made on a table of ones, which leave no trace
-pub replays : History → Bool
-replays h =
-    let o = outcome (replicate (16 + h .capacity * (32 + h .file)) 1) (founding (h .capacity) (h .file) (h .names)) in
-    eqb (o .refusal) 0 && stepsHold (o .table) (h .steps)
-
-pub allReplay : List History → Bool
-allReplay [] = true
-allReplay (h ∷ hs) = replays h && allReplay hs
-
-pub histories : List History
-histories =
-    -- the walk of document 01
-    record {
-      capacity = 4;
-      file = 4;
-      names = 1 ∷ 0 ∷ 2 ∷ 0 ∷ 3 ∷ 0 ∷ 4 ∷ 0 ∷ [];
-      steps =
-          Made (write 1 7 0 (9 ∷ [])) 0 1 [] ∷
-          Made (read 4 12 0 1 (0 ∷ [])) 0 1 (9 ∷ []) ∷
-          Made (write 2 11 0 (8 ∷ [])) 0 2 [] ∷
-          Made (read 4 12 0 1 (0 ∷ [])) 7 0 (0 ∷ []) ∷
-          Made (send 3 4 12) 10 0 [] ∷
-          Made (check 1 11) 0 1 [] ∷
-          Made (write 3 4 0 (7 ∷ [])) 6 0 [] ∷
-          [];
-    }
-    -- the desired-version test: a read that meets only rows left behind; row bytes
-    ∷ record {
-      capacity = 5;
-      file = 3;
-      names = 10 ∷ 0 ∷ 20 ∷ 0 ∷ 30 ∷ 0 ∷ 40 ∷ 0 ∷ [];
-      steps =
-          Made (write 1 7 1 (7 ∷ 8 ∷ [])) 0 1 [] ∷
-          Made (write 1 11 0 (9 ∷ [])) 0 2 [] ∷
-          Row 1 (10 ∷ 0 ∷ 2 ∷ 0 ∷ 2 ∷ 0 ∷ 0 ∷ 0 ∷ 0 ∷ 0 ∷ 0 ∷ 0 ∷ 0 ∷ 0 ∷ 0 ∷ 0 ∷ 15 ∷ 0 ∷ 0 ∷ 0 ∷ 0 ∷ 0 ∷ 0 ∷ 0 ∷ 0 ∷ 0 ∷ 0 ∷ 0 ∷ 0 ∷ 0 ∷ 0 ∷ 0 ∷ 9 ∷ 7 ∷ 8 ∷ []) ∷
-          Row 3 (30 ∷ 0 ∷ 4 ∷ 0 ∷ 1 ∷ 0 ∷ 0 ∷ 0 ∷ 0 ∷ 0 ∷ 0 ∷ 0 ∷ 0 ∷ 0 ∷ 0 ∷ 0 ∷ 15 ∷ 0 ∷ 0 ∷ 0 ∷ 0 ∷ 0 ∷ 0 ∷ 0 ∷ 0 ∷ 0 ∷ 0 ∷ 0 ∷ 0 ∷ 0 ∷ 0 ∷ 0 ∷ 0 ∷ 7 ∷ 8 ∷ []) ∷
-          Row 4 (40 ∷ 0 ∷ 0 ∷ 1 ∷ 0 ∷ 0 ∷ 0 ∷ 0 ∷ 2 ∷ 0 ∷ 0 ∷ 0 ∷ 0 ∷ 0 ∷ 0 ∷ 0 ∷ 15 ∷ 0 ∷ 0 ∷ 0 ∷ 0 ∷ 0 ∷ 0 ∷ 0 ∷ 0 ∷ 0 ∷ 0 ∷ 0 ∷ 0 ∷ 0 ∷ 0 ∷ 0 ∷ 0 ∷ 0 ∷ 0 ∷ []) ∷
-          Made (read 3 12 0 1 (5 ∷ [])) 7 0 (5 ∷ []) ∷
-          Made (read 2 15 0 3 (0 ∷ 0 ∷ 0 ∷ [])) 0 2 (9 ∷ 7 ∷ 8 ∷ []) ∷
-          [];
-    }
-    -- a send wants the desired version too; a good send; its value
-    ∷ record {
-      capacity = 4;
-      file = 2;
-      names = 10 ∷ 0 ∷ 20 ∷ 0 ∷ 30 ∷ 0 ∷ 40 ∷ 0 ∷ [];
-      steps =
-          Made (write 1 7 0 (1 ∷ [])) 0 1 [] ∷
-          Made (write 1 11 1 (2 ∷ [])) 0 2 [] ∷
-          Made (send 3 4 12) 10 0 [] ∷
-          Made (read 3 12 0 2 (0 ∷ 0 ∷ [])) 7 0 (0 ∷ 0 ∷ []) ∷
-          Made (send 3 1 5) 10 0 [] ∷
-          Made (send 1 4 9) 0 2 [] ∷
-          Row 4 (40 ∷ 0 ∷ 0 ∷ 0 ∷ 2 ∷ 0 ∷ 0 ∷ 0 ∷ 0 ∷ 0 ∷ 0 ∷ 0 ∷ 0 ∷ 0 ∷ 0 ∷ 0 ∷ 15 ∷ 0 ∷ 0 ∷ 0 ∷ 0 ∷ 0 ∷ 0 ∷ 0 ∷ 0 ∷ 0 ∷ 0 ∷ 0 ∷ 0 ∷ 0 ∷ 0 ∷ 0 ∷ 1 ∷ 2 ∷ []) ∷
-          Made (send 1 4 9) 10 0 [] ∷
-          Made (send 4 4 8) 2 0 [] ∷
-          Made (send 1 4 1) 3 0 [] ∷
-          Made (read 3 12 0 2 (0 ∷ 0 ∷ [])) 0 2 (1 ∷ 2 ∷ []) ∷
-          [];
-    }
-    -- a check marks the rows that are not good
-    ∷ record {
-      capacity = 4;
-      file = 2;
-      names = 10 ∷ 0 ∷ 20 ∷ 0 ∷ 30 ∷ 0 ∷ 40 ∷ 0 ∷ [];
-      steps =
-          Made (check 1 7) 0 1 [] ∷
-          Made (write 1 3 0 (4 ∷ [])) 0 1 [] ∷
-          Made (check 2 14) 0 2 [] ∷
-          Row 3 (30 ∷ 0 ∷ 4 ∷ 1 ∷ 0 ∷ 0 ∷ 0 ∷ 0 ∷ 1 ∷ 0 ∷ 0 ∷ 0 ∷ 2 ∷ 0 ∷ 0 ∷ 0 ∷ 14 ∷ 0 ∷ 0 ∷ 0 ∷ 0 ∷ 0 ∷ 0 ∷ 0 ∷ 0 ∷ 0 ∷ 0 ∷ 0 ∷ 0 ∷ 0 ∷ 0 ∷ 0 ∷ 0 ∷ 0 ∷ []) ∷
-          Row 2 (20 ∷ 0 ∷ 3 ∷ 0 ∷ 1 ∷ 0 ∷ 0 ∷ 0 ∷ 0 ∷ 0 ∷ 0 ∷ 0 ∷ 2 ∷ 0 ∷ 0 ∷ 0 ∷ 14 ∷ 0 ∷ 0 ∷ 0 ∷ 0 ∷ 0 ∷ 0 ∷ 0 ∷ 0 ∷ 0 ∷ 0 ∷ 0 ∷ 0 ∷ 0 ∷ 0 ∷ 0 ∷ 4 ∷ 0 ∷ []) ∷
-          Made (read 3 12 0 1 (0 ∷ [])) 7 0 (0 ∷ []) ∷
-          Made (check 2 14) 0 2 [] ∷
-          [];
-    }
-    -- the own choice: P is {1, 2}, so row 3 does not take the write
-    ∷ record {
-      capacity = 3;
-      file = 1;
-      names = 10 ∷ 0 ∷ 20 ∷ 0 ∷ 30 ∷ 0 ∷ [];
-      steps =
-          Made (check 1 3) 0 1 [] ∷
-          Made (write 1 7 0 (6 ∷ [])) 0 1 [] ∷
-          Row 3 (30 ∷ 0 ∷ 0 ∷ 0 ∷ 0 ∷ 0 ∷ 0 ∷ 0 ∷ 0 ∷ 0 ∷ 0 ∷ 0 ∷ 0 ∷ 0 ∷ 0 ∷ 0 ∷ 7 ∷ 0 ∷ 0 ∷ 0 ∷ 0 ∷ 0 ∷ 0 ∷ 0 ∷ 0 ∷ 0 ∷ 0 ∷ 0 ∷ 0 ∷ 0 ∷ 0 ∷ 0 ∷ 0 ∷ []) ∷
-          Made (write 3 6 0 (1 ∷ [])) 6 0 [] ∷
-          [];
-    }
-    -- m rows are not wanted of a short column
-    ∷ record {
-      capacity = 3;
-      file = 1;
-      names = 10 ∷ 0 ∷ 20 ∷ 0 ∷ 30 ∷ 0 ∷ [];
-      steps =
-          Made (write 1 3 0 (5 ∷ [])) 0 1 [] ∷
-          Made (read 1 3 0 1 (0 ∷ [])) 0 1 (5 ∷ []) ∷
-          Made (read 1 5 0 1 (0 ∷ [])) 6 0 (0 ∷ []) ∷
-          [];
-    }
-    -- the list in force answers, and a read is refused all the same
-    ∷ record {
-      capacity = 4;
-      file = 1;
-      names = 1 ∷ 0 ∷ 2 ∷ 0 ∷ 3 ∷ 0 ∷ 4 ∷ 0 ∷ [];
-      steps =
-          Made (write 1 7 0 (1 ∷ [])) 0 1 [] ∷
-          Made (write 1 11 0 (2 ∷ [])) 0 2 [] ∷
-          Made (check 1 13) 0 1 [] ∷
-          Made (write 2 14 0 (3 ∷ [])) 0 3 [] ∷
-          Made (read 1 13 0 1 (0 ∷ [])) 7 0 (0 ∷ []) ∷
-          [];
-    }
-    -- the early questions, in their order; ranges at the end of the file
-    ∷ record {
-      capacity = 2;
-      file = 2;
-      names = 2 ∷ 1 ∷ 3 ∷ 2 ∷ [];
-      steps =
-          Made (read 3 3 0 1 (0 ∷ [])) 2 0 (0 ∷ []) ∷
-          Made (read 1 7 0 1 (0 ∷ [])) 2 0 (0 ∷ []) ∷
-          Made (read 1 2 0 1 (0 ∷ [])) 3 0 (0 ∷ []) ∷
-          Made (read 1 3 1 2 (0 ∷ [])) 4 0 (0 ∷ []) ∷
-          Made (read 1 3 0 0 (0 ∷ [])) 4 0 (0 ∷ []) ∷
-          Made (read 1 3 0 1 (0 ∷ 0 ∷ [])) 5 0 (0 ∷ 0 ∷ []) ∷
-          Made (write 1 3 2 (1 ∷ [])) 4 0 [] ∷
-          Made (write 2 3 1 (3 ∷ [])) 0 1 [] ∷
-          Made (read 2 3 1 1 (0 ∷ [])) 0 1 (3 ∷ []) ∷
-          Row 2 (3 ∷ 2 ∷ 0 ∷ 0 ∷ 1 ∷ 0 ∷ 0 ∷ 0 ∷ 0 ∷ 0 ∷ 0 ∷ 0 ∷ 0 ∷ 0 ∷ 0 ∷ 0 ∷ 3 ∷ 0 ∷ 0 ∷ 0 ∷ 0 ∷ 0 ∷ 0 ∷ 0 ∷ 0 ∷ 0 ∷ 0 ∷ 0 ∷ 0 ∷ 0 ∷ 0 ∷ 0 ∷ 0 ∷ 3 ∷ []) ∷
-          Made (write 1 3 0 []) 4 0 [] ∷
-          Made (check 1 3) 0 0 [] ∷
-          [];
-    }
-    -- six machines whose names are not their indexes: choices go by the name
-    ∷ record {
-      capacity = 6;
-      file = 1;
-      names = 9 ∷ 0 ∷ 10 ∷ 0 ∷ 12 ∷ 0 ∷ 16 ∷ 0 ∷ 20 ∷ 0 ∷ 25 ∷ 0 ∷ [];
-      steps =
-          Made (write 1 63 0 (1 ∷ [])) 0 1 [] ∷
-          Row 1 (9 ∷ 0 ∷ 2 ∷ 0 ∷ 1 ∷ 0 ∷ 0 ∷ 0 ∷ 0 ∷ 0 ∷ 0 ∷ 0 ∷ 0 ∷ 0 ∷ 0 ∷ 0 ∷ 63 ∷ 0 ∷ 0 ∷ 0 ∷ 0 ∷ 0 ∷ 0 ∷ 0 ∷ 0 ∷ 0 ∷ 0 ∷ 0 ∷ 0 ∷ 0 ∷ 0 ∷ 0 ∷ 1 ∷ []) ∷
-          Row 2 (10 ∷ 0 ∷ 3 ∷ 0 ∷ 0 ∷ 0 ∷ 0 ∷ 0 ∷ 0 ∷ 0 ∷ 0 ∷ 0 ∷ 0 ∷ 0 ∷ 0 ∷ 0 ∷ 63 ∷ 0 ∷ 0 ∷ 0 ∷ 0 ∷ 0 ∷ 0 ∷ 0 ∷ 0 ∷ 0 ∷ 0 ∷ 0 ∷ 0 ∷ 0 ∷ 0 ∷ 0 ∷ 0 ∷ []) ∷
-          Row 3 (12 ∷ 0 ∷ 4 ∷ 0 ∷ 0 ∷ 0 ∷ 0 ∷ 0 ∷ 0 ∷ 0 ∷ 0 ∷ 0 ∷ 0 ∷ 0 ∷ 0 ∷ 0 ∷ 63 ∷ 0 ∷ 0 ∷ 0 ∷ 0 ∷ 0 ∷ 0 ∷ 0 ∷ 0 ∷ 0 ∷ 0 ∷ 0 ∷ 0 ∷ 0 ∷ 0 ∷ 0 ∷ 0 ∷ []) ∷
-          Row 4 (16 ∷ 0 ∷ 5 ∷ 0 ∷ 1 ∷ 0 ∷ 0 ∷ 0 ∷ 0 ∷ 0 ∷ 0 ∷ 0 ∷ 0 ∷ 0 ∷ 0 ∷ 0 ∷ 63 ∷ 0 ∷ 0 ∷ 0 ∷ 0 ∷ 0 ∷ 0 ∷ 0 ∷ 0 ∷ 0 ∷ 0 ∷ 0 ∷ 0 ∷ 0 ∷ 0 ∷ 0 ∷ 1 ∷ []) ∷
-          Row 5 (20 ∷ 0 ∷ 6 ∷ 0 ∷ 1 ∷ 0 ∷ 0 ∷ 0 ∷ 0 ∷ 0 ∷ 0 ∷ 0 ∷ 0 ∷ 0 ∷ 0 ∷ 0 ∷ 63 ∷ 0 ∷ 0 ∷ 0 ∷ 0 ∷ 0 ∷ 0 ∷ 0 ∷ 0 ∷ 0 ∷ 0 ∷ 0 ∷ 0 ∷ 0 ∷ 0 ∷ 0 ∷ 1 ∷ []) ∷
-          Row 6 (25 ∷ 0 ∷ 0 ∷ 0 ∷ 1 ∷ 0 ∷ 0 ∷ 0 ∷ 0 ∷ 0 ∷ 0 ∷ 0 ∷ 0 ∷ 0 ∷ 0 ∷ 0 ∷ 63 ∷ 0 ∷ 0 ∷ 0 ∷ 0 ∷ 0 ∷ 0 ∷ 0 ∷ 0 ∷ 0 ∷ 0 ∷ 0 ∷ 0 ∷ 0 ∷ 0 ∷ 0 ∷ 1 ∷ []) ∷
-          Made (read 2 63 0 1 (0 ∷ [])) 0 1 (1 ∷ []) ∷
-          Made (write 5 63 0 (2 ∷ [])) 0 2 [] ∷
-          Row 4 (16 ∷ 0 ∷ 5 ∷ 0 ∷ 1 ∷ 0 ∷ 0 ∷ 0 ∷ 0 ∷ 0 ∷ 0 ∷ 0 ∷ 0 ∷ 0 ∷ 0 ∷ 0 ∷ 63 ∷ 0 ∷ 0 ∷ 0 ∷ 0 ∷ 0 ∷ 0 ∷ 0 ∷ 0 ∷ 0 ∷ 0 ∷ 0 ∷ 0 ∷ 0 ∷ 0 ∷ 0 ∷ 1 ∷ []) ∷
-          Row 5 (20 ∷ 0 ∷ 6 ∷ 0 ∷ 1 ∷ 0 ∷ 0 ∷ 0 ∷ 0 ∷ 0 ∷ 0 ∷ 0 ∷ 0 ∷ 0 ∷ 0 ∷ 0 ∷ 63 ∷ 0 ∷ 0 ∷ 0 ∷ 0 ∷ 0 ∷ 0 ∷ 0 ∷ 0 ∷ 0 ∷ 0 ∷ 0 ∷ 0 ∷ 0 ∷ 0 ∷ 0 ∷ 1 ∷ []) ∷
-          Row 6 (25 ∷ 0 ∷ 0 ∷ 0 ∷ 2 ∷ 0 ∷ 0 ∷ 0 ∷ 0 ∷ 0 ∷ 0 ∷ 0 ∷ 0 ∷ 0 ∷ 0 ∷ 0 ∷ 63 ∷ 0 ∷ 0 ∷ 0 ∷ 0 ∷ 0 ∷ 0 ∷ 0 ∷ 0 ∷ 0 ∷ 0 ∷ 0 ∷ 0 ∷ 0 ∷ 0 ∷ 0 ∷ 2 ∷ []) ∷
-          [];
-    }
-    -- a marked row is no sender
-    ∷ record {
-      capacity = 4;
-      file = 1;
-      names = 10 ∷ 0 ∷ 20 ∷ 0 ∷ 30 ∷ 0 ∷ 40 ∷ 0 ∷ [];
-      steps =
-          Made (write 4 15 0 (1 ∷ [])) 0 1 [] ∷
-          Made (check 2 11) 0 1 [] ∷
-          Made (write 2 7 0 (2 ∷ [])) 0 2 [] ∷
-          Made (write 3 15 0 (3 ∷ [])) 0 3 [] ∷
-          Row 3 (30 ∷ 0 ∷ 4 ∷ 1 ∷ 1 ∷ 0 ∷ 0 ∷ 0 ∷ 3 ∷ 0 ∷ 0 ∷ 0 ∷ 0 ∷ 0 ∷ 0 ∷ 0 ∷ 15 ∷ 0 ∷ 0 ∷ 0 ∷ 0 ∷ 0 ∷ 0 ∷ 0 ∷ 0 ∷ 0 ∷ 0 ∷ 0 ∷ 0 ∷ 0 ∷ 0 ∷ 0 ∷ 1 ∷ []) ∷
-          Row 4 (40 ∷ 0 ∷ 0 ∷ 1 ∷ 0 ∷ 0 ∷ 0 ∷ 0 ∷ 1 ∷ 0 ∷ 0 ∷ 0 ∷ 1 ∷ 0 ∷ 0 ∷ 0 ∷ 11 ∷ 0 ∷ 0 ∷ 0 ∷ 0 ∷ 0 ∷ 0 ∷ 0 ∷ 0 ∷ 0 ∷ 0 ∷ 0 ∷ 0 ∷ 0 ∷ 0 ∷ 0 ∷ 0 ∷ []) ∷
-          Made (send 3 4 12) 9 0 [] ∷
-          [];
-    }
-    -- a check wants a write quorum
-    ∷ record {
-      capacity = 4;
-      file = 1;
-      names = 10 ∷ 0 ∷ 20 ∷ 0 ∷ 30 ∷ 0 ∷ 40 ∷ 0 ∷ [];
-      steps =
-          Made (check 1 3) 6 0 [] ∷
-          Made (read 1 3 0 1 (9 ∷ [])) 0 0 (0 ∷ []) ∷
-          Made (check 1 7) 0 1 [] ∷
-          [];
-    }
-    ∷ []
+use Rattle.protocol.specs.Claims
+use Rattle.protocol.proofs.Histories
+use Rattle.protocol.proofs.Cases
 
 -- a test's answer as a type, so that a test that fails is computed once
 IsTrue : Bool → Type 0
@@ -235,9 +31,41 @@ unfolding IsTrue
 so true x = x
 so false x = absurd x
 
-replayed : IsTrue (allReplay histories)
-unfolding IsTrue same stepsHold replays allReplay histories Upto.every Upto.some Upto.count Upto.lowest Upto.most Sets.has Sets.isRow Sets.noRow Sets.firstRows Sets.gaining Sets.losing Sets.cutTo Sizes.root Sizes.rootUp Sizes.published Sizes.noGrid Sizes.spare Sizes.rowOf Sizes.columnOf Sizes.height Quorums.touches Quorums.covers Quorums.readQuorum Quorums.writeQuorum Quorums.quorum Quorums.isPosition Quorums.readChoice Quorums.writeChoice Quorums.choice Bytes.number Bytes.bytesOf Bytes.part Bytes.put Bytes.allZero Layout.get Layout.store Layout.form Layout.capacity Layout.used Layout.first Layout.fileLength Layout.name Layout.link Layout.epoch Layout.members Layout.mark Layout.version Layout.desired Layout.reserved Layout.contents Layout.storeContents Layout.rowLength Layout.rowsEnd Layout.rowBytes Layout.capacityOf Layout.usedOf Layout.firstOf Layout.fileOf Layout.nameOf Layout.linkOf Layout.epochOf Layout.membersOf Layout.staleOf Layout.versionOf Layout.desiredOf Layout.contentsOf Chain.chain Chain.orderOf Chain.among Chain.risesFrom WellFormed.between WellFormed.limit WellFormed.onlyRows WellFormed.headerValues WellFormed.rowValues WellFormed.lengthRight WellFormed.visitsEach WellFormed.namesRise WellFormed.unusedZero WellFormed.numbersSmall WellFormed.desiredRight WellFormed.listRight WellFormed.rowRight WellFormed.listsAgree WellFormed.wellFormed Lists.size Lists.gridOf Lists.keep Lists.seats Lists.atSeat Lists.listQuorum Lists.listChoice Polls.polled Polls.highestEpoch Polls.inForce Polls.unmarked Polls.marked Polls.goodVersion Polls.good Polls.current Polls.quorumHeld Polls.ownTry Polls.workedOn Rows.markedRow Rows.patchedRow Rows.enrolledRow Rows.refreshedRow Rows.withRow Rows.withRows Rows.wroteRow Rows.checkedRow Calls.resultOf Calls.firstNo Calls.upTo Calls.isUsed Calls.inFile Calls.answers Calls.workSet Calls.namesIn Calls.namesRise Calls.zeros Calls.foundedHeader Calls.foundedRow Calls.foundedRows Calls.founded Calls.byCoordinator Calls.questions Calls.done Calls.lent Calls.refused Calls.outcome
-replayed = refl
+-- equal at rows 1 and 2; equal at row 1, which the set 1 has alone
+at-two : {A : Type 0} (f g : ℕ → A) → f 1 ≡ g 1 → f 2 ≡ g 2 → (i : ℕ) → Within 2 i → f i ≡ g i
+at-two f g a b zero w = absurd (omega arith)
+at-two f g a b (suc zero) w = a
+at-two f g a b (suc (suc zero)) w = b
+at-two f g a b (suc (suc (suc k))) w = absurd (omega arith)
 
-pub histories-replay : allReplay histories ≡ true
-histories-replay = so (allReplay histories) replayed
+at-one : {A : Type 0} (f g : ℕ → A) → f 1 ≡ g 1 → (i : ℕ) → Sets.has 1 i ≡ true → f i ≡ g i
+at-one f g a i m = let w = has-within 1 1 i (omega arith) m in subst (λ (j : ℕ). f j ≡ g j) {x = 1} {y = i} (omega arith) a
+
+computed : IsTrue (Histories.allReplay Histories.histories) × IsTrue (Cases.allHold Cases.cases) × IsTrue Cases.allDiffer × Claims.EqualIn 1 Cases.pair Cases.other
+unfolding IsTrue Histories.same Histories.stepsHold Histories.replays Histories.allReplay Histories.histories Cases.allHold Cases.pair Cases.row1 Cases.row2 Cases.row3 Cases.set Cases.single Cases.third Cases.malformed Cases.formed Cases.twoBytes Cases.founds Cases.cases Cases.other Cases.differ Cases.allDiffer Upto.upward Upto.every Upto.some Upto.count Upto.lowest Upto.most Sets.has Sets.isRow Sets.noRow Sets.firstRows Sets.gaining Sets.losing Sets.cutTo Sizes.root Sizes.rootUp Sizes.published Sizes.noGrid Sizes.spare Sizes.rowOf Sizes.columnOf Sizes.height Quorums.touches Quorums.covers Quorums.readQuorum Quorums.writeQuorum Quorums.quorum Quorums.isPosition Quorums.readChoice Quorums.writeChoice Quorums.choice Bytes.number Bytes.bytesOf Bytes.part Bytes.put Bytes.allZero Layout.get Layout.store Layout.form Layout.capacity Layout.used Layout.first Layout.fileLength Layout.name Layout.link Layout.epoch Layout.members Layout.mark Layout.version Layout.desired Layout.reserved Layout.contents Layout.storeContents Layout.rowLength Layout.rowsEnd Layout.rowBytes Layout.capacityOf Layout.usedOf Layout.firstOf Layout.fileOf Layout.nameOf Layout.linkOf Layout.epochOf Layout.membersOf Layout.staleOf Layout.versionOf Layout.desiredOf Layout.contentsOf Chain.chain Chain.orderOf Chain.among Chain.risesFrom WellFormed.between WellFormed.limit WellFormed.onlyRows WellFormed.headerValues WellFormed.rowValues WellFormed.lengthRight WellFormed.visitsEach WellFormed.namesRise WellFormed.unusedZero WellFormed.numbersSmall WellFormed.desiredRight WellFormed.listRight WellFormed.rowRight WellFormed.listsAgree WellFormed.wellFormed Lists.size Lists.gridOf Lists.keep Lists.seats Lists.atSeat Lists.listQuorum Lists.listChoice Polls.polled Polls.highestEpoch Polls.inForce Polls.unmarked Polls.marked Polls.goodVersion Polls.good Polls.current Polls.quorumHeld Polls.ownTry Polls.workedOn Rows.markedRow Rows.patchedRow Rows.enrolledRow Rows.refreshedRow Rows.withRow Rows.withRows Rows.wroteRow Rows.checkedRow Calls.resultOf Calls.firstNo Calls.upTo Calls.isUsed Calls.inFile Calls.answers Calls.workSet Calls.namesIn Calls.namesRise Calls.zeros Calls.foundedHeader Calls.foundedRow Calls.foundedRows Calls.founded Calls.byCoordinator Calls.questions Calls.done Calls.lent Calls.refused Calls.outcome
+computed = (
+  refl,
+  refl,
+  refl,
+  record {
+    formed = refl;
+    formed-too = refl;
+    header = refl;
+    names = at-two (Layout.nameOf Cases.pair) (Layout.nameOf Cases.other) refl refl;
+    links = at-two (Layout.linkOf Cases.pair) (Layout.linkOf Cases.other) refl refl;
+    rows = at-one (Layout.rowBytes Cases.pair) (Layout.rowBytes Cases.other) refl;
+  },
+)
+
+pub histories-replay : Histories.allReplay Histories.histories ≡ true
+histories-replay = so (Histories.allReplay Histories.histories) (computed .0)
+
+pub cases-hold : Cases.allHold Cases.cases ≡ true
+cases-hold = so (Cases.allHold Cases.cases) (computed .1)
+
+-- two tables equal in R = {1}, with every field of row 2 unequal but name and link
+pub equal-in-one : Claims.EqualIn 1 Cases.pair Cases.other
+equal-in-one = computed .3
+
+pub unequal-in-two : Cases.allDiffer ≡ true
+unequal-in-two = so Cases.allDiffer (computed .2)

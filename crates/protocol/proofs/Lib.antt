@@ -9,4 +9,6 @@ pub mod KeepLaws
 pub mod FoundedLaws
 pub mod Claimed
 pub mod Unanswered
+pub mod Histories
+pub mod Cases
 pub mod Computed

@@ -1,0 +1,189 @@
+-- Single calls on tables that no founding leads to, and foundings: what the histories do not reach.
+use mathlib.Core.Bool.{Bool, true, not, _&&_}
+use mathlib.Core.List.{List, [], _∷_, _++_}
+use Prim.Native.Nat.{ℕ, _+_, _-_, _*_}
+use lib.Dec.{eqb}
+use lib.ListN.{take, replicate}
+use Rattle.sets.specs.Upto.{upward}
+use Rattle.bytes.specs.Bytes.{bytesOf, put}
+use Rattle.fields.specs.Layout.{Field, get, mark, version, desired, epoch, members, rowBytes, contentsOf}
+use Rattle.protocol.specs.Calls.{Call, founding, read, write, check, outcome, zeros}
+use Rattle.protocol.proofs.Histories.{Made, same, stepsHold}
+
+-- on these bytes a call has this refusal, value and buffer
+pub data Case : Type 0 where
+  On : (table : List ℕ) (call : Call) (refusal value : ℕ) (buffer : List ℕ) → Case
+
+unfoldable pub allHold : List Case → Bool
+allHold [] = true
+allHold (On t k refusal value buffer ∷ cs) = stepsHold t (Made k refusal value buffer ∷ []) && allHold cs
+
+-- ---- tables
+-- two used rows of three; row 1 alone is the list in force
+unfoldable pub pair : List ℕ
+pair =
+    (1 ∷ 3 ∷ 2 ∷ 1 ∷ 1 ∷ 0 ∷ zeros 10)
+    ++ ((10 ∷ 0 ∷ 2 ∷ 0 ∷ 0 ∷ 0 ∷ 0 ∷ 0 ∷ 0 ∷ 0 ∷ 0 ∷ 0 ∷ 1 ∷ 0 ∷ 0 ∷ 0 ∷ 1 ∷ 0 ∷ 0 ∷ 0 ∷ 0 ∷ 0 ∷ 0 ∷ 0 ∷ 0 ∷ 0 ∷ 0 ∷ 0 ∷ 0 ∷ 0 ∷ 0 ∷ 0 ∷ 5 ∷ [])
+    ++ ((20 ∷ 0 ∷ 0 ∷ 0 ∷ 0 ∷ 0 ∷ 0 ∷ 0 ∷ 0 ∷ 0 ∷ 0 ∷ 0 ∷ 0 ∷ 0 ∷ 0 ∷ 0 ∷ 3 ∷ 0 ∷ 0 ∷ 0 ∷ 0 ∷ 0 ∷ 0 ∷ 0 ∷ 0 ∷ 0 ∷ 0 ∷ 0 ∷ 0 ∷ 0 ∷ 0 ∷ 0 ∷ 5 ∷ [])
+    ++ zeros 33))
+
+-- where its rows start
+unfoldable pub row1 : ℕ
+row1 = 16
+
+unfoldable pub row2 : ℕ
+row2 = 49
+
+unfoldable pub row3 : ℕ
+row3 = 82
+
+-- a table with the bytes from a place on put to a number, so many bytes wide
+unfoldable pub set : (place width value : ℕ) → List ℕ → List ℕ
+set place width value t = put place (bytesOf width value) t
+
+-- one used row, of a capacity and a file length
+unfoldable pub single : (capacity file : ℕ) → List ℕ
+single capacity file =
+    (1 ∷ capacity ∷ 1 ∷ 1 ∷ bytesOf 2 file) ++ (zeros 10
+    ++ ((10 ∷ 0 ∷ zeros 14) ++ ((1 ∷ zeros 15) ++ (replicate file 5 ++ zeros ((capacity - 1) * (32 + file))))))
+
+-- pair with a third row, at an epoch; its list is itself
+unfoldable pub third : ℕ → List ℕ
+third e = set 2 1 3 (set (row2 + 2) 1 3 (set row3 2 30 (set (row3 + 12) 4 e (set (row3 + 16) 8 4 pair))))
+
+-- ---- calls
+-- a read that is done wherever question 1 is passed: row 1 holds 5 at version 0
+unfoldable pub malformed : List ℕ → Case
+malformed t = On t (read 1 1 0 1 (9 ∷ [])) 1 0 (9 ∷ [])
+
+unfoldable pub formed : List ℕ → Case
+formed t = On t (read 1 1 0 1 (9 ∷ [])) 0 0 (5 ∷ [])
+
+-- a founding on so many bytes, by names below 256
+unfoldable pub twoBytes : List ℕ → List ℕ
+twoBytes [] = []
+twoBytes (x ∷ xs) = x ∷ 0 ∷ twoBytes xs
+
+unfoldable pub founds : (length capacity file : ℕ) (names : List ℕ) (refusal value : ℕ) → Case
+founds length capacity file names refusal value = On (zeros length) (founding capacity file names) refusal value []
+
+unfoldable pub cases : List Case
+cases =
+    -- ---- question 1: each rule broken, beside what is nearest to it and passes
+    -- form
+    formed pair
+    ∷ malformed (set 0 1 0 pair)
+    ∷ malformed (set 0 1 2 pair)
+    -- capacity
+    ∷ malformed (set 1 1 0 pair)
+    ∷ formed (single 64 1)
+    ∷ malformed (single 65 1)
+    -- rows used
+    ∷ malformed (set 2 1 0 pair)
+    ∷ formed (set 1 1 2 (take 82 pair))
+    ∷ malformed (set 1 1 2 (set 2 1 3 (take 82 pair)))
+    ∷ malformed (set 1 1 1 (take 49 pair))
+    -- first row
+    ∷ malformed (set 3 1 0 pair)
+    ∷ malformed (set 3 1 3 pair)
+    -- file length
+    ∷ malformed (single 1 0)
+    ∷ formed (single 1 1)
+    ∷ formed (single 1 4_096)
+    ∷ malformed (single 1 4_097)
+    -- the rest of the header
+    ∷ malformed (set 6 1 1 pair)
+    ∷ malformed (set 15 1 1 pair)
+    -- the table's length
+    ∷ malformed (pair ++ (0 ∷ []))
+    ∷ malformed (take 114 pair)
+    ∷ malformed (take 16 pair)
+    ∷ malformed []
+    -- names
+    ∷ malformed (set row1 2 0 pair)
+    ∷ formed (set row1 2 1 pair)
+    ∷ formed (set row2 2 65_535 pair)
+    ∷ malformed (set row2 2 9 pair)
+    ∷ malformed (set row2 2 10 pair)
+    ∷ formed (set row2 2 11 pair)
+    -- links: above the used rows, a ring, an end too early; the other way round
+    ∷ malformed (set (row2 + 2) 1 3 pair)
+    ∷ malformed (set (row2 + 2) 1 1 pair)
+    ∷ malformed (set (row2 + 2) 1 2 pair)
+    ∷ malformed (set (row1 + 2) 1 0 pair)
+    ∷ malformed (set 3 1 2 pair)
+    ∷ formed (set 3 1 2 (set (row1 + 2) 1 0 (set row2 2 5 (set (row2 + 2) 1 1 pair))))
+    -- mark and desired version
+    ∷ malformed (set (row2 + 3) 1 2 pair)
+    ∷ malformed (set (row2 + 3) 1 1 pair)
+    ∷ formed (set (row2 + 3) 1 1 (set (row2 + 8) 4 1 pair))
+    ∷ malformed (set (row2 + 8) 4 1 pair)
+    ∷ malformed (set (row2 + 3) 1 1 (set (row2 + 4) 4 2 (set (row2 + 8) 4 2 pair)))
+    ∷ formed (set (row2 + 3) 1 1 (set (row2 + 4) 4 2 (set (row2 + 8) 4 3 pair)))
+    -- the three numbers
+    ∷ formed (set (row2 + 4) 4 1_000_000 pair)
+    ∷ malformed (set (row2 + 4) 4 1_000_001 pair)
+    ∷ formed (set (row2 + 3) 1 1 (set (row2 + 8) 4 1_000_000 pair))
+    ∷ malformed (set (row2 + 3) 1 1 (set (row2 + 8) 4 1_000_001 pair))
+    ∷ formed (set (row1 + 12) 4 1_000_000 pair)
+    ∷ malformed (set (row1 + 12) 4 1_000_001 pair)
+    -- lists: a row that is not used, the own row missing, two lists in one epoch
+    ∷ malformed (set (row2 + 16) 8 7 pair)
+    ∷ malformed (set (row2 + 16) 8 1 pair)
+    ∷ formed (set (row2 + 16) 8 2 pair)
+    ∷ malformed (set (row1 + 12) 4 0 pair)
+    -- zeros of a row; its contents; an unused row
+    ∷ malformed (set (row1 + 24) 1 1 pair)
+    ∷ malformed (set (row2 + 31) 1 1 pair)
+    ∷ formed (set (row2 + 32) 1 1 pair)
+    ∷ malformed (set row3 1 1 pair)
+    ∷ malformed (set (row3 + 32) 1 1 pair)
+    -- ---- a read copies from the good row of lowest index
+    ∷ On (set (row2 + 32) 1 6 pair) (read 2 3 0 1 (9 ∷ [])) 0 0 (5 ∷ [])
+    -- ---- question 8, of a write and of a check that changes the list; one that does not is done
+    ∷ On (set (row1 + 4) 4 999_999 pair) (write 1 1 0 (7 ∷ [])) 0 1_000_000 []
+    ∷ On (set (row1 + 4) 4 1_000_000 pair) (write 1 1 0 (7 ∷ [])) 8 0 []
+    ∷ On (set (row1 + 12) 4 999_999 pair) (check 1 3) 0 1_000_000 []
+    ∷ On (set (row1 + 12) 4 1_000_000 pair) (check 1 3) 8 0 []
+    ∷ On (set (row1 + 12) 4 1_000_000 pair) (check 1 1) 0 1_000_000 []
+    -- ---- a check may leave a table that question 1 turns down: row 3, which did not answer, has the new epoch with another list
+    ∷ formed (third 2)
+    ∷ On (third 2) (check 1 3) 0 2 []
+    ∷ malformed (outcome (third 2) (check 1 3) .table)
+    ∷ On (outcome (third 3) (check 1 3) .table) (read 1 3 0 1 (9 ∷ [])) 0 0 (5 ∷ [])
+    -- ---- question 11: 1 to 64 names, strictly rising, none 0, two bytes each
+    ∷ founds 49 1 1 [] 11 0
+    ∷ founds 49 1 1 (10 ∷ []) 11 0
+    ∷ founds 49 1 1 (10 ∷ 0 ∷ []) 0 1
+    ∷ founds 49 1 1 (10 ∷ 0 ∷ 20 ∷ []) 11 0
+    ∷ founds 2_128 64 1 (twoBytes (upward 64 1)) 0 64
+    ∷ founds 2_128 64 1 (twoBytes (upward 65 1)) 11 0
+    ∷ founds 49 1 1 (0 ∷ 0 ∷ []) 11 0
+    ∷ founds 82 2 1 (10 ∷ 0 ∷ 9 ∷ 0 ∷ []) 11 0
+    ∷ founds 82 2 1 (10 ∷ 0 ∷ 10 ∷ 0 ∷ []) 11 0
+    -- ---- question 12; the value is the rows used, not the capacity
+    ∷ founds 82 2 1 (10 ∷ 0 ∷ 11 ∷ 0 ∷ []) 0 2
+    ∷ founds 115 3 1 (10 ∷ 0 ∷ 11 ∷ 0 ∷ []) 0 2
+    ∷ founds 49 1 1 (10 ∷ 0 ∷ 11 ∷ 0 ∷ []) 12 0
+    ∷ founds 16 0 1 (10 ∷ 0 ∷ []) 12 0
+    ∷ founds 2_161 65 1 (10 ∷ 0 ∷ []) 12 0
+    ∷ founds 48 1 0 (10 ∷ 0 ∷ []) 12 0
+    ∷ founds 4_144 1 4_096 (10 ∷ 0 ∷ []) 0 1
+    ∷ founds 4_145 1 4_097 (10 ∷ 0 ∷ []) 12 0
+    ∷ founds 48 1 1 (10 ∷ 0 ∷ []) 12 0
+    ∷ founds 50 1 1 (10 ∷ 0 ∷ []) 12 0
+    -- ---- 11 before 12
+    ∷ founds 0 0 0 [] 11 0
+    ∷ []
+
+-- ---- pair with every field of row 2 changed but name and link
+unfoldable pub other : List ℕ
+other = set (row2 + 3) 1 1 (set (row2 + 4) 4 1 (set (row2 + 8) 4 2 (set (row2 + 12) 4 2 (set (row2 + 16) 8 2 (set (row2 + 32) 1 6 pair)))))
+
+-- the fields differ in row 2
+unfoldable pub differ : List Field → Bool
+differ [] = true
+differ (f ∷ fs) = not (eqb (get f (rowBytes pair 2)) (get f (rowBytes other 2))) && differ fs
+
+unfoldable pub allDiffer : Bool
+allDiffer = differ (mark ∷ version ∷ desired ∷ epoch ∷ members ∷ []) && not (same (contentsOf pair 2) (contentsOf other 2))
