@@ -2,11 +2,11 @@
 use mathlib.Core.Path.{_≡_, refl, sym, _∙_, ap}
 use mathlib.Core.Bool.{Bool, true, false, cond}
 use mathlib.Core.List.{List, [], _∷_}
-use Prim.Native.Nat.{ℕ, _-_}
+use Prim.Native.Nat.{ℕ, _-_, _≤_}
 use native.Mathlib.Omega.{arith}
 use lib.Dec.{eqb, ltb}
 use lib.ListN.{length}
-use borrow.Author.Tests.{lt-ltb}
+use borrow.Author.Tests.{lt-ltb, le-ltb}
 use Rattle.sets.specs.Upto.{lowest}
 use Rattle.sets.specs.Sets.{has}
 use Rattle.quorums.specs.declared.Kind.{Kind}
@@ -19,7 +19,7 @@ use Rattle.protocol.specs.Polls.{inForce, goodVersion, good, current, quorumHel
 use Rattle.protocol.specs.Calls.{Call, founding, read, write, send, check, firstNo, upTo, inFile, questions, done, outcome, answers, workSet}
 use Rattle.protocol.proofs.ListLaws.{reads}
 use Rattle.protocol.proofs.PollLaws.{lowest-good}
-use Rattle.protocol.proofs.QuestionLaws.{refusal-is, when-done, yes-first, ByCoordinator, early-passed, read-yes}
+use Rattle.protocol.proofs.QuestionLaws.{refusal-is, when-done, yes-first, no-first, ByCoordinator, early-passed, read-yes}
 use Rattle.history.specs.Book.{Book, order, holdsQuorum, someHasAll}
 use Rattle.history.specs.Demand3.{verdict, ReadGives, RefusedRight, Right}
 use Rattle.history.proofs.Invariant.{version-is}
@@ -73,10 +73,12 @@ module _ (t : List ℕ) (b : Book) (e : ℕ) (S : State t b e) where
         bytes = ap (part offset count) (contents-now Read c r (y .first) (y .quorum) (y .current));
       })
 
-  read-refused : (c r offset count : ℕ) (buffer : List ℕ) → RefusedRight t b (read c r offset count buffer) Read r (outcome t (read c r offset count buffer))
-  unfolding RefusedRight questions upTo firstNo
-  read-refused c r offset count buffer h l =
-      let a = early-passed t c r _ h in
+  -- however many writes were done
+  pub read-refused : (c r offset count : ℕ) (buffer : List ℕ) → firstNo (upTo 5 (questions t (read c r offset count buffer))) ≡ 0
+      → outcome t (read c r offset count buffer) .refusal ≡ verdict b Read r
+  unfolding questions upTo firstNo
+  read-refused c r offset count buffer h =
+      let a = early-passed t c r _ 5 (omega arith) h in
       let d = yes-first 3 (inFile t offset count) (record { ask = 5; yes = eqb (length buffer) count } ∷ []) (a .1) in
       let f = yes-first 4 (eqb (length buffer) count) [] (d .1) in
       refusal-is t (read c r offset count buffer) ∙ a .2 ∙ rw (d .0, f .0) (six-seven Read c r (a .0))
@@ -85,7 +87,7 @@ module _ (t : List ℕ) (b : Book) (e : ℕ) (S : State t b e) where
   write-refused : (c r offset : ℕ) (patch : List ℕ) → RefusedRight t b (write c r offset patch) Write r (outcome t (write c r offset patch))
   unfolding RefusedRight questions upTo firstNo limit
   write-refused c r offset patch h l =
-      let a = early-passed t c r _ h in
+      let a = early-passed t c r _ 5 (omega arith) h in
       let d = yes-first 3 (inFile t offset (length patch)) [] (a .1) in
       refusal-is t (write c r offset patch) ∙ a .2
       ∙ rw (d .0) (go (a .0) (quorumHeld Write (orderOf t) (answers t r) (workSet Write t c r)) refl (current (answers t r) (workSet Write t c r)) refl ∙ six-seven Write c r (a .0))
@@ -96,10 +98,30 @@ module _ (t : List ℕ) (b : Book) (e : ℕ) (S : State t b e) where
       go B true p false q = refl
       go B false p y q = refl
 
+  -- what passes the questions up to 7 has only 8 left
+  passed-seven : (c r offset : ℕ) (patch : List ℕ) → firstNo (upTo 7 (questions t (write c r offset patch))) ≡ 0
+      → ByCoordinator t c r × (quorumHeld Write (orderOf t) (answers t r) (workSet Write t c r) ≡ true) × (current (answers t r) (workSet Write t c r) ≡ true)
+      × (firstNo (questions t (write c r offset patch)) ≡ firstNo (record { ask = 8; yes = ltb (goodVersion (answers t r) (workSet Write t c r)) limit } ∷ []))
+  unfolding questions upTo
+  passed-seven c r offset patch h =
+      let a = early-passed t c r _ 7 (omega arith) h in
+      let d = yes-first 3 (inFile t offset (length patch)) _ (a .1) in
+      let q = yes-first 5 (quorumHeld Write (orderOf t) (answers t r) (workSet Write t c r)) _ (d .1) in
+      let m = yes-first 6 (current (answers t r) (workSet Write t c r)) [] (q .1) in
+      (a .0, q .0, m .0, a .2 ∙ no-first 4 _ _ (d .0) ∙ no-first 6 _ _ (q .0) ∙ no-first 7 _ _ (m .0))
+
+  pub write-full : b .writes ≡ 1_000_000 → (c r offset : ℕ) (patch : List ℕ) → firstNo (upTo 7 (questions t (write c r offset patch))) ≡ 0
+      → outcome t (write c r offset patch) .refusal ≡ 8
+  unfolding firstNo limit
+  write-full w c r offset patch h =
+      let a = passed-seven c r offset patch h in
+      let none : limit ≤ goodVersion (answers t r) (workSet Write t c r) = omega (arith, version-now Write c r (a .0) (a .1) (a .2)) in
+      refusal-is t (write c r offset patch) ∙ a .3 ∙ rw (le-ltb (goodVersion (answers t r) (workSet Write t c r)) limit none)
+
   pub right : (k : Call) → Right t b k (outcome t k)
-  unfolding Right
+  unfolding Right RefusedRight
   right (founding capacity file names) = tt
-  right (read c r offset count buffer) = (read-gives c r offset count buffer, read-refused c r offset count buffer)
+  right (read c r offset count buffer) = (read-gives c r offset count buffer, λ h l. read-refused c r offset count buffer h)
   right (write c r offset patch) = write-refused c r offset patch
   right (send f to r) = tt
   right (check c r) = tt

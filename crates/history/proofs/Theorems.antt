@@ -1,13 +1,14 @@
 -- Demand 3, for any list of calls; and what else holds of every founded history.
 use mathlib.Core.Path.{_≡_, refl, sym, _∙_}
 use mathlib.Core.Bool.{Bool, true, false, cond, _&&_, _||_}
-use mathlib.Core.List.{List, [], _∷_}
+use mathlib.Core.List.{List, [], _∷_, _++_}
 use Prim.Native.Nat.{ℕ, zero, suc, _-_}
 use native.Mathlib.Omega.{arith}
 use lib.Dec.{eqb, ltb, eqb·suc-zero}
 use borrow.Author.Tests.{eqb-true, ltb-true}
 use Rattle.sets.specs.Sets.{has}
-use Rattle.quorums.specs.declared.Kind.the-variants.{Write}
+use Rattle.quorums.specs.declared.Kind.{Kind}
+use Rattle.quorums.specs.declared.Kind.the-variants.{Read, Write}
 use Rattle.fields.specs.Layout.{usedOf}
 use Rattle.table.specs.Chain.{orderOf}
 use Rattle.table.specs.WellFormed.{limit, onlyRows, wellFormed}
@@ -18,10 +19,10 @@ use Rattle.protocol.proofs.QuestionLaws.{yes-first, ByCoordinator, passed-first
 use Rattle.protocol.proofs.FoundedLaws.{founds-of}
 use Rattle.protocol.proofs.DoneLaws.{writeTable, sendTable, checkTable}
 use Rattle.history.specs.Book.{Book, opened, holdsQuorum, someHasAll, entered, agreed}
-use Rattle.history.specs.Demand3.{AllRight, Demand3}
-use Rattle.history.specs.Claims.{tableAfter, bookAfter, AlwaysWellFormed, ChecksByBook}
+use Rattle.history.specs.Demand3.{verdict, RefusedRight, Right, AllRight, Demand3}
+use Rattle.history.specs.Claims.{tableAfter, bookAfter, Reached, after, AlwaysWellFormed, ChecksByBook, Asks, aRead, aWrite, BelowTheLimit, AtTheLimit}
 use Rattle.history.proofs.State.{State, six-check, seven-check}
-use Rattle.history.proofs.Answers.{right}
+use Rattle.history.proofs.Answers.{read-refused, write-full, right}
 use Rattle.history.proofs.Next.{next-write, next-send, next-same, next-check}
 use Rattle.history.proofs.Founded.{founded-state}
 
@@ -82,10 +83,12 @@ later t b e S [] = (e, S)
 later t b e S (k ∷ ks) =
     let n = next t b e S k in later (outcome t k .table) (entered b k (eqb (outcome t k .refusal) 0)) (n .0) (n .1) ks
 
+reached : (t : List ℕ) (b : Book) → Reached t b → (e : ℕ) × State t b e
+reached t b (after t₀ capacity file names ks h) = later (outcome t₀ (founding capacity file names) .table) (opened file (namesIn names)) 0 (opens t₀ capacity file names h) ks
+
 pub always-well-formed : AlwaysWellFormed
 unfolding AlwaysWellFormed
-always-well-formed t capacity file names ks h =
-    well-formed-of _ (later (outcome t (founding capacity file names) .table) (opened file (namesIn names)) 0 (opens t capacity file names h) ks .1 .formed)
+always-well-formed t b x = well-formed-of t (reached t b x .1 .formed)
 
 -- ---- checks
 module _ (t : List ℕ) (b : Book) (e : ℕ) (S : State t b e) (c r : ℕ) where
@@ -110,6 +113,35 @@ module _ (t : List ℕ) (b : Book) (e : ℕ) (S : State t b e) (c r : ℕ) where
 
 pub checks-by-book : ChecksByBook
 unfolding ChecksByBook
-checks-by-book t capacity file names ks c r h =
-    let l = later (outcome t (founding capacity file names) .table) (opened file (namesIn names)) 0 (opens t capacity file names h) ks in
-    check-right _ _ (l .0) (l .1) c r
+checks-by-book t b x c r = let l = reached t b x in check-right t b (l .0) (l .1) c r
+
+-- ---- 1,000,000 from both sides
+-- the claim of a list, for the call after it
+last-right : (t : List ℕ) (b : Book) (ks : List Call) (k : Call) → AllRight t b (ks ++ (k ∷ [])) → Right (tableAfter t ks) (bookAfter t b ks) k (outcome (tableAfter t ks) k)
+unfolding AllRight tableAfter bookAfter
+last-right t b [] k a = a .0
+last-right t b (x ∷ ks) k a = last-right (outcome t x .table) (entered b x (eqb (outcome t x .refusal) 0)) ks k (a .1)
+
+-- by demand 3 itself
+pub below-the-limit : BelowTheLimit
+unfolding BelowTheLimit Demand3 Right RefusedRight
+below-the-limit t b (after t₀ capacity file names ks h) w k kind r x p =
+    go k kind r x (last-right (outcome t₀ (founding capacity file names) .table) (opened file (namesIn names)) ks k (demand-3 t₀ capacity file names (ks ++ (k ∷ [])) h)) p
+  where
+    go : (k : Call) (kind : Kind) (r : ℕ) → Asks k kind r → Right t b k (outcome t k) → firstNo (upTo 5 (questions t k)) ≡ 0 → outcome t k .refusal ≡ verdict b kind r
+    go k kind r aRead a p = a .1 p (omega arith)
+    go k kind r aWrite a p = a p (omega arith)
+
+pub at-the-limit : AtTheLimit
+unfolding AtTheLimit
+at-the-limit t b x w = let l = reached t b x in record {
+  writes = λ k r y p. full k r (l .0) (l .1) y p;
+  reads = λ k r y p. same k r (l .0) (l .1) y p;
+  gives = right t b (l .0) (l .1);
+}
+  where
+    full : (k : Call) (r e : ℕ) → State t b e → Asks k Write r → firstNo (upTo 7 (questions t k)) ≡ 0 → outcome t k .refusal ≡ 8
+    full k r e S aWrite p = write-full t b e S w _ _ _ _ p
+
+    same : (k : Call) (r e : ℕ) → State t b e → Asks k Read r → firstNo (upTo 5 (questions t k)) ≡ 0 → outcome t k .refusal ≡ verdict b Read r
+    same k r e S aRead p = read-refused t b e S _ _ _ _ _ p

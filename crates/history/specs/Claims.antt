@@ -5,10 +5,12 @@ use mathlib.Core.List.{List, [], _∷_}
 use Prim.Native.Nat.{ℕ}
 use lib.Dec.{eqb}
 use Rattle.sets.specs.Sets.{has}
-use Rattle.quorums.specs.declared.Kind.the-variants.{Write}
+use Rattle.quorums.specs.declared.Kind.{Kind}
+use Rattle.quorums.specs.declared.Kind.the-variants.{Read, Write}
 use Rattle.table.specs.WellFormed.{wellFormed}
-use Rattle.protocol.specs.Calls.{Call, founding, check, firstNo, upTo, questions, outcome, namesIn}
+use Rattle.protocol.specs.Calls.{Call, founding, read, write, check, firstNo, upTo, questions, outcome, namesIn}
 use Rattle.history.specs.Book.{Book, opened, holdsQuorum, someHasAll, entered}
+use Rattle.history.specs.Demand3.{verdict, Right}
 
 -- the table after a list of calls, and the book after it
 unfoldable pub tableAfter : List ℕ → List Call → List ℕ
@@ -19,15 +21,36 @@ unfoldable pub bookAfter : List ℕ → Book → List Call → Book
 bookAfter t b [] = b
 bookAfter t b (k ∷ ks) = bookAfter (outcome t k .table) (entered b k (eqb (outcome t k .refusal) 0)) ks
 
+-- a table, and the book, after a done founding and any list of calls
+pub data Reached : List ℕ → Book → Type 0 where
+  after : (t : List ℕ) (capacity file : ℕ) (names : List ℕ) (ks : List Call) → outcome t (founding capacity file names) .refusal ≡ 0
+      → Reached (tableAfter (outcome t (founding capacity file names) .table) ks) (bookAfter (outcome t (founding capacity file names) .table) (opened file (namesIn names)) ks)
+
 -- "after a founding this never happens": question 1 turns no table down
 unfoldable pub AlwaysWellFormed : Type 0
-AlwaysWellFormed = (t : List ℕ) (capacity file : ℕ) (names : List ℕ) (ks : List Call) → outcome t (founding capacity file names) .refusal ≡ 0
-    → wellFormed (tableAfter (outcome t (founding capacity file names) .table) ks) ≡ true
+AlwaysWellFormed = (t : List ℕ) (b : Book) → Reached t b → wellFormed t ≡ true
 
 -- a check that passes 1 to 3 meets 6 and 7 by the book: a write quorum of the list in force; R that list, or a row of R with every done write
 unfoldable pub ChecksByBook : Type 0
-ChecksByBook = (t : List ℕ) (capacity file : ℕ) (names : List ℕ) (ks : List Call) (c r : ℕ) → outcome t (founding capacity file names) .refusal ≡ 0
-    → let now = tableAfter (outcome t (founding capacity file names) .table) ks in
-    let b = bookAfter (outcome t (founding capacity file names) .table) (opened file (namesIn names)) ks in
-    firstNo (upTo 3 (questions now (check c r))) ≡ 0
-    → firstNo (upTo 7 (questions now (check c r))) ≡ cond (holdsQuorum b Write (has r)) (cond (eqb r (b .inForce) || someHasAll b (has r)) 0 7) 6
+ChecksByBook = (t : List ℕ) (b : Book) → Reached t b → (c r : ℕ) → firstNo (upTo 3 (questions t (check c r))) ≡ 0
+    → firstNo (upTo 7 (questions t (check c r))) ≡ cond (holdsQuorum b Write (has r)) (cond (eqb r (b .inForce) || someHasAll b (has r)) 0 7) 6
+
+-- ---- 1,000,000 from both sides
+-- k is a read or a write, with the answering set R
+pub data Asks : Call → Kind → ℕ → Type 0 where
+  aRead : {c r offset count : ℕ} {buffer : List ℕ} → Asks (read c r offset count buffer) Read r
+  aWrite : {c r offset : ℕ} {patch : List ℕ} → Asks (write c r offset patch) Write r
+
+-- "After fewer than 1,000,000 done writes": after 999,999 too, reads and writes are refused by the book
+unfoldable pub BelowTheLimit : Type 0
+BelowTheLimit = (t : List ℕ) (b : Book) → Reached t b → b .writes ≡ 999_999 → (k : Call) (kind : Kind) (r : ℕ) → Asks k kind r
+    → firstNo (upTo 5 (questions t k)) ≡ 0 → outcome t k .refusal ≡ verdict b kind r
+
+-- after 1,000,000 a write that passes 1 to 7 is refused by 8, while reads are refused by the book and give the file
+pub record Full (t : List ℕ) (b : Book) : Type 0 where
+  pub writes : (k : Call) (r : ℕ) → Asks k Write r → firstNo (upTo 7 (questions t k)) ≡ 0 → outcome t k .refusal ≡ 8
+  pub reads : (k : Call) (r : ℕ) → Asks k Read r → firstNo (upTo 5 (questions t k)) ≡ 0 → outcome t k .refusal ≡ verdict b Read r
+  pub gives : (k : Call) → Right t b k (outcome t k)
+
+unfoldable pub AtTheLimit : Type 0
+AtTheLimit = (t : List ℕ) (b : Book) → Reached t b → b .writes ≡ 1_000_000 → Full t b

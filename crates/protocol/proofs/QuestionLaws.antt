@@ -7,7 +7,7 @@ use native.Mathlib.Omega.{arith}
 use lib.Dec.{eqb, leb, ltb, eqb·suc-zero}
 use lib.ListN.{length}
 use lib.Pow.{high, low}
-use borrow.Author.Tests.{eqb-false, eq-eqb, ltb-true, leb-true, not-true}
+use borrow.Author.Tests.{eqb-false, eq-eqb, ltb-true, leb-true, le-leb, not-true}
 use Rattle.sets.specs.Upto.{Within}
 use Rattle.sets.specs.Sets.{has}
 use Rattle.bools.proofs.BoolLaws.{and-l, and-r}
@@ -87,7 +87,9 @@ unfolding onlyRows
 only-is n s h = ltb-true s (2 ^ n) h
 
 module _ (t : List ℕ) (c r : ℕ) (qs : List Calls.Question) where
-  pub passed-first : Calls.firstNo (Calls.byCoordinator t c r qs) ≡ 0 → ByCoordinator t c r × (Calls.firstNo qs ≡ 0)
+  -- what passes 1 to 3 and then qs; of any questions in their place it meets the first no
+  pub passed-first : Calls.firstNo (Calls.byCoordinator t c r qs) ≡ 0
+      → ByCoordinator t c r × (Calls.firstNo qs ≡ 0) × ((rs : List Calls.Question) → Calls.firstNo (Calls.byCoordinator t c r rs) ≡ Calls.firstNo rs)
   unfolding Calls.byCoordinator
   passed-first h =
       let a = yes-first 0 (wellFormed t) _ h in
@@ -100,29 +102,22 @@ module _ (t : List ℕ) (c r : ℕ) (qs : List Calls.Question) where
           answered = d .0;
         },
         d .1,
+        λ rs. no-first 1 (wellFormed t) _ (a .0) ∙ no-first 2 (Calls.isUsed t c && onlyRows (usedOf t) r) _ (b .0) ∙ no-first 3 (has r c) rs (d .0),
       )
 
-  -- what passes the questions up to 5, and then meets those after
-  pub early-passed : Calls.firstNo (Calls.upTo 5 (Calls.byCoordinator t c r qs)) ≡ 0
-      → ByCoordinator t c r × (Calls.firstNo (Calls.upTo 5 qs) ≡ 0) × (Calls.firstNo (Calls.byCoordinator t c r qs) ≡ Calls.firstNo qs)
+  -- the first n of them, 1 to 3 included
+  early-is : (n : ℕ) → 3 ≤ n → Calls.upTo n (Calls.byCoordinator t c r qs) ≡ Calls.byCoordinator t c r (Calls.upTo n qs)
   unfolding Calls.byCoordinator Calls.upTo
-  early-passed h =
-      let a = yes-first 0 (wellFormed t) _ h in
-      let b = yes-first 1 (Calls.isUsed t c && onlyRows (usedOf t) r) _ (a .1) in
-      let d = yes-first 2 (has r c) (Calls.upTo 5 qs) (b .1) in (
-        record {
-          formed = a .0;
-          coordinator = used-is t c (and-l _ _ (b .0));
-          rows = only-is (usedOf t) r (and-r (Calls.isUsed t c) _ (b .0));
-          answered = d .0;
-        },
-        d .1,
-        no-first 1 (wellFormed t) _ (a .0) ∙ no-first 2 (Calls.isUsed t c && onlyRows (usedOf t) r) _ (b .0) ∙ no-first 3 (has r c) qs (d .0),
-      )
+  early-is n h = rw (le-leb 1 n (omega arith), le-leb 2 n (omega arith), le-leb 3 n h)
 
   -- rows that answered are used rows
   pub answered-used : ByCoordinator t c r → (i : ℕ) → has r i ≡ true → Within (usedOf t) i
   answered-used b i m = has-within (usedOf t) r i (b .rows) m
+
+-- what passes the questions up to n, and then meets those after
+pub early-passed : (t : List ℕ) (c r : ℕ) (qs : List Calls.Question) (n : ℕ) → 3 ≤ n → Calls.firstNo (Calls.upTo n (Calls.byCoordinator t c r qs)) ≡ 0
+    → ByCoordinator t c r × (Calls.firstNo (Calls.upTo n qs) ≡ 0) × (Calls.firstNo (Calls.byCoordinator t c r qs) ≡ Calls.firstNo qs)
+early-passed t c r qs n l h = let a = passed-first t c r (Calls.upTo n qs) (rw (early-is t c r qs n l) at h) in (a .0, a .1, a .2 qs)
 
 pub record ReadYes (t : List ℕ) (c r offset count : ℕ) (buffer : List ℕ) : Type 0 where
   pub first : ByCoordinator t c r
