@@ -51,9 +51,9 @@ computed = (
     formed = refl;
     formed-too = refl;
     header = refl;
-    names = at-two (Layout.nameOf Cases.pair) (Layout.nameOf Cases.other) refl refl;
-    links = at-two (Layout.linkOf Cases.pair) (Layout.linkOf Cases.other) refl refl;
-    rows = at-one (Layout.rowBytes Cases.pair) (Layout.rowBytes Cases.other) refl;
+    names = at-two _ _ refl refl;
+    links = at-two _ _ refl refl;
+    rows = at-one _ _ refl;
   },
 )
 
