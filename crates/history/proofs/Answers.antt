@@ -93,13 +93,13 @@ module _ (t : List ℕ) (b : Book) (e : ℕ) (S : State t b e) where
       ∙ rw (d .0) (go (a .0) (quorumHeld Write (orderOf t) (answers t r) (workSet Write t c r)) refl (current (answers t r) (workSet Write t c r)) refl ∙ six-seven Write c r (a .0))
     where
       go : ByCoordinator t c r → (x : Bool) → quorumHeld Write (orderOf t) (answers t r) (workSet Write t c r) ≡ x → (y : Bool) → current (answers t r) (workSet Write t c r) ≡ y
-          → _≡_ {A = ℕ} (cond x (cond y (cond (ltb (goodVersion (answers t r) (workSet Write t c r)) 1_000_000) 0 8) 7) 6) (cond x (cond y 0 7) 6)
-      go B true p true q = rw (lt-ltb (goodVersion (answers t r) (workSet Write t c r)) 1_000_000 (omega (arith, version-now Write c r B p q)))
+          → _≡_ {A = ℕ} (cond x (cond y (cond (ltb (goodVersion (answers t r) (workSet Write t c r)) limit) 0 8) 7) 6) (cond x (cond y 0 7) 6)
+      go B true p true q = rw (lt-ltb (goodVersion (answers t r) (workSet Write t c r)) limit (omega (arith, version-now Write c r B p q)))
       go B true p false q = refl
       go B false p y q = refl
 
   -- what passes the questions up to 7 has only 8 left
-  passed-seven : (c r offset : ℕ) (patch : List ℕ) → firstNo (upTo 7 (questions t (write c r offset patch))) ≡ 0
+  pub passed-seven : (c r offset : ℕ) (patch : List ℕ) → firstNo (upTo 7 (questions t (write c r offset patch))) ≡ 0
       → ByCoordinator t c r × (quorumHeld Write (orderOf t) (answers t r) (workSet Write t c r) ≡ true) × (current (answers t r) (workSet Write t c r) ≡ true)
       × (firstNo (questions t (write c r offset patch)) ≡ firstNo (record { ask = 8; yes = ltb (goodVersion (answers t r) (workSet Write t c r)) limit } ∷ []))
   unfolding questions upTo

@@ -5,3 +5,4 @@ pub mod Answers
 pub mod Next
 pub mod Founded
 pub mod Theorems
+pub mod Reach

@@ -48,7 +48,7 @@ module _ (t : List ℕ) (b : Book) (e : ℕ) (S : State t b e) where
           (suc e, rw q (next-check t b e S c r y (ltb-true _ _ room) cur))
 
   -- after any call
-  next : (k : Call) → (e′ : ℕ) × State (outcome t k .table) (entered b k (eqb (outcome t k .refusal) 0)) e′
+  pub next : (k : Call) → (e′ : ℕ) × State (outcome t k .table) (entered b k (eqb (outcome t k .refusal) 0)) e′
   unfolding entered
   next k = go (outcome t k .refusal) refl
     where
@@ -65,7 +65,7 @@ all-right t b e S (k ∷ ks) =
     (right t b e S k, all-right (outcome t k .table) (entered b k (eqb (outcome t k .refusal) 0)) (n .0) (n .1) ks)
 
 -- the state after a done founding
-opens : (t : List ℕ) (capacity file : ℕ) (names : List ℕ) → outcome t (founding capacity file names) .refusal ≡ 0
+pub opens : (t : List ℕ) (capacity file : ℕ) (names : List ℕ) → outcome t (founding capacity file names) .refusal ≡ 0
     → State (outcome t (founding capacity file names) .table) (opened file (namesIn names)) 0
 unfolding done
 opens t capacity file names h =

@@ -2,7 +2,7 @@
 use mathlib.Core.Path.{_≡_}
 use mathlib.Core.Bool.{true, cond, _||_}
 use mathlib.Core.List.{List, [], _∷_}
-use Prim.Native.Nat.{ℕ}
+use Prim.Native.Nat.{ℕ, _≤_}
 use lib.Dec.{eqb}
 use Rattle.sets.specs.Sets.{has}
 use Rattle.quorums.specs.declared.Kind.{Kind}
@@ -54,3 +54,17 @@ pub record Full (t : List ℕ) (b : Book) : Type 0 where
 
 unfoldable pub AtTheLimit : Type 0
 AtTheLimit = (t : List ℕ) (b : Book) → Reached t b → b .writes ≡ 1_000_000 → Full t b
+
+-- both are met with: there is a history with n done writes, after which a write passes 1 to 7
+pub record WithWrites (n : ℕ) : Type 0 where
+  pub table : List ℕ
+  pub book : Book
+  pub reached : Reached table book
+  pub writes : book .writes ≡ n
+  pub call : Call
+  pub rows : ℕ
+  pub asks : Asks call Write rows
+  pub passes : firstNo (upTo 7 (questions table call)) ≡ 0
+
+unfoldable pub LimitReached : Type 0
+LimitReached = (n : ℕ) → n ≤ 1_000_000 → WithWrites n

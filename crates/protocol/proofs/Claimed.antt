@@ -10,7 +10,6 @@ use Rattle.sets.specs.Sets.{has}
 use Rattle.bools.proofs.BoolLaws.{clash}
 use Rattle.quorums.specs.declared.Kind.the-variants.{Read, Write}
 use Rattle.bytes.specs.Bytes.{part}
-use Rattle.fields.specs.Layout
 use Rattle.fields.specs.Layout.{usedOf, nameOf, versionOf, rowsEnd}
 use Rattle.table.specs.Chain.{orderOf}
 use Rattle.table.specs.WellFormed.{limit, wellFormed}

@@ -1,7 +1,7 @@
 -- The histories and the cases, computed over bytes.
 use mathlib.Core.Path.{_≡_, refl, subst}
 use mathlib.Core.Bool.{Bool, true, false}
-use Prim.Native.Nat.{ℕ, zero, suc, _^_}
+use Prim.Native.Nat.{ℕ, zero, suc}
 use native.Mathlib.Omega.{arith}
 use Rattle.sets.specs.Upto
 use Rattle.sets.specs.Upto.{Within}

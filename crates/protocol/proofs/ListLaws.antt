@@ -8,10 +8,13 @@ use native.Mathlib.Omega.{arith}
 use lib.Dec.{leb}
 use lib.ListN.{length, getD}
 use borrow.Author.Tests.{leb-true}
+use Rattle.sets.specs.Upto.{every, some, count}
 use Rattle.sets.specs.Sets.{has}
 use Rattle.bools.proofs.BoolLaws.{and-l, and-r, and-i}
 use Rattle.quorums.specs.declared.Kind.{Kind}
 use Rattle.quorums.specs.declared.Kind.the-variants.{Read, Write}
+use Rattle.grid.specs.Sizes.{root, rootUp, published, columnOf}
+use Rattle.quorums.specs.Quorums.{touches, covers, readQuorum, writeQuorum, quorum}
 use Rattle.quorums.proofs.QuorumLaws as Q
 use Rattle.protocol.specs.Lists.{size, gridOf, keep, seats, atSeat, listQuorum}
 
@@ -68,3 +71,8 @@ module _ (order : List ℕ) (v : ℕ) where
   unfolding listQuorum atSeat
   grows kind s t sub h = Q.grows (gridOf v) (size v) (atSeat (seats order v) s) (atSeat (seats order v) t) (λ k w e.
       and-i (leb 1 k && leb k (length (seats order v))) _ (and-l _ _ e) (sub _ (and-r (leb 1 k && leb k (length (seats order v))) _ e))) kind h
+
+-- a list of one row, which is there
+pub one-holds : listQuorum Write (1 ∷ []) 1 (has 1) ≡ true
+unfolding listQuorum gridOf size seats keep atSeat has count every some root rootUp published columnOf touches covers readQuorum writeQuorum quorum
+one-holds = refl

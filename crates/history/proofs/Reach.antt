@@ -1,0 +1,142 @@
+-- One machine writes over and over: every number of done writes up to 1,000,000 is reached.
+use mathlib.Core.Path.{_≡_, refl, sym, _∙_, ap, subst}
+use mathlib.Core.Bool.{Bool, true, false, cond, _&&_, _||_}
+use mathlib.Core.List.{List, [], _∷_}
+use Prim.Native.Nat.{ℕ, zero, suc, _+_, _-_, _<_, _≤_}
+use native.Mathlib.Decide.{ℕ-discrete}
+use native.Mathlib.Omega.{arith}
+use lib.Dec.{eqb}
+use lib.ListN.{length, replicate}
+use borrow.Author.Tests.{eq-eqb, lt-ltb}
+use Rattle.sets.specs.Upto.{Within, every, upward}
+use Rattle.sets.specs.Sets.{has, cutTo}
+use Rattle.bools.proofs.BoolLaws.{and-l, and-r, or-l, or-r}
+use Rattle.sets.proofs.UptoLaws.{every-at, every-of, some-at, some-of}
+use Rattle.sets.proofs.SetLaws.{has-within}
+use Rattle.quorums.specs.declared.Kind.the-variants.{Write}
+use Rattle.bytes.proofs.ByteLaws.{length-put}
+use Rattle.fields.specs.Layout.{usedOf, fileOf}
+use Rattle.table.specs.Chain.{orderOf}
+use Rattle.table.specs.WellFormed.{between, limit, onlyRows}
+use Rattle.table.proofs.FormLaws.{well-formed-of}
+use Rattle.protocol.specs.Lists.{listChoice}
+use Rattle.protocol.specs.Polls.{goodVersion, current, quorumHeld}
+use Rattle.protocol.specs.Calls.{Call, founding, write, firstNo, upTo, isUsed, inFile, byCoordinator, questions, outcome, answers, workSet, namesIn, namesRise, zeros}
+use Rattle.protocol.proofs.ListLaws.{one-holds}
+use Rattle.protocol.proofs.PollLaws.{cut-in}
+use Rattle.protocol.proofs.QuestionLaws.{refusal-is, ByCoordinator}
+use Rattle.history.specs.Book.{Book, opened, order, nameIn, hasAll, holdsQuorum, someHasAll, writeSet, written, entered}
+use Rattle.history.specs.Claims.{tableAfter, bookAfter, after, aWrite, LimitReached}
+use Rattle.history.proofs.State.{State, six-is, seven-is}
+use Rattle.history.proofs.Answers.{version-now, passed-seven}
+use Rattle.history.proofs.Theorems.{next, opens}
+
+-- the machine writes the only byte of its file
+unfoldable again : Call
+again = write 1 1 0 (7 ∷ [])
+
+-- the book of a file of one byte on one machine
+record Lone (b : Book) : Type 0 where
+  pub names : b .names ≡ 10 ∷ []
+  pub list : b .inForce ≡ 1
+  pub file : length (b .file) ≡ 1
+  pub all : hasAll b 1 ≡ true
+
+module _ (b : Book) (L : Lone b) where
+  holds : holdsQuorum b Write (has 1) ≡ true
+  unfolding holdsQuorum order upward
+  holds = rw (L .names, L .list) one-holds
+
+  someone : someHasAll b (has 1) ≡ true
+  unfolding someHasAll has
+  someone = some-of 64 _ 1 (omega arith) (L .all)
+
+  -- the set of its write has row 1
+  takes : writeSet b 1 1 1 ≡ true
+  unfolding writeSet someHasAll has
+  takes = go (holdsQuorum b Write tried && someHasAll b tried) refl
+    where
+      tried : ℕ → Bool
+      tried = cutTo (listChoice Write (order b) (b .own 1) (nameIn b 1)) (has 1)
+
+      go : (x : Bool) → (holdsQuorum b Write tried && someHasAll b tried) ≡ x → cond x tried (has 1) 1 ≡ true
+      go true h =
+          let w = some-at 64 _ (and-r (holdsQuorum b Write tried) _ h) in
+          let m : tried (w .0) ≡ true = and-l _ _ (w .2) in
+          let u = has-within 1 1 (w .0) (omega arith) (cut-in (listChoice Write (order b) (b .own 1) (nameIn b 1)) (has 1) (w .0) m) in
+          subst (λ (i : ℕ). tried i ≡ true) {x = w .0} {y = 1} (omega arith) m
+      go false h = refl
+
+  -- the book after it
+  more : Lone (entered b again true)
+  unfolding again entered written hasAll
+  more = record {
+    names = L .names;
+    list = L .list;
+    file = length-put (b .file) 0 (7 ∷ []) (omega (arith, L .file)) ∙ L .file;
+    all = every-of (b .writes + 1) _ (λ k w. has-it k w (ℕ-discrete k (b .writes + 1)));
+  }
+    where
+      has-it : (k : ℕ) → Within (b .writes + 1) k → Dec (k ≡ b .writes + 1) → (b .hasWrite 1 k || (writeSet b 1 1 1 && hasAll b 1 && eqb k (b .writes + 1))) ≡ true
+      has-it k w (yes e) = or-r (b .hasWrite 1 k) _ (rw (takes, L .all) (eq-eqb k (b .writes + 1) e))
+      has-it k w (no d) = or-l _ _ (every-at (b .writes) (b .hasWrite 1) (L .all) k (omega arith))
+
+  -- ---- on its table
+  module _ (t : List ℕ) (e : ℕ) (S : State t b e) where
+    by-one : ByCoordinator t 1 1
+    unfolding has
+    by-one =
+        let u : usedOf t ≡ 1 = S .used ∙ ap length (L .names) in
+        record { formed = well-formed-of t (S .formed); coordinator = omega arith; rows = rw u (omega arith); answered = refl }
+
+    seven : firstNo (upTo 7 (questions t again)) ≡ 0
+    unfolding again questions upTo byCoordinator firstNo isUsed between onlyRows inFile has
+    seven =
+        let u : usedOf t ≡ 1 = S .used ∙ ap length (L .names) in
+        let f : fileOf t ≡ 1 = sym (S .file) ∙ L .file in
+        let six : quorumHeld Write (orderOf t) (answers t 1) (workSet Write t 1 1) ≡ true = six-is t b e S 1 Write 1 by-one ∙ holds in
+        let cur : current (answers t 1) (workSet Write t 1 1) ≡ true = seven-is t b e S 1 Write 1 by-one holds ∙ someone in
+        rw (well-formed-of t (S .formed), u, f, six, cur)
+
+    is-done : b .writes < 1_000_000 → outcome t again .refusal ≡ 0
+    unfolding again firstNo limit
+    is-done l =
+        let a = passed-seven t b e S 1 1 0 (7 ∷ []) seven in
+        refusal-is t again ∙ a .3 ∙ rw (lt-ltb (goodVersion (answers t 1) (workSet Write t 1 1)) limit (omega (arith, version-now t b e S Write 1 1 (a .0) (a .1) (a .2))))
+
+founds : outcome (zeros 49) (founding 1 1 (10 ∷ 0 ∷ [])) .refusal ≡ 0
+unfolding zeros questions firstNo namesIn namesRise between
+founds = refusal-is (zeros 49) (founding 1 1 (10 ∷ 0 ∷ []))
+
+first : Lone (opened 1 (namesIn (10 ∷ 0 ∷ [])))
+unfolding opened namesIn zeros hasAll every
+first = record { names = refl; list = refl; file = refl; all = refl }
+
+-- m writes more
+many : (m : ℕ) (t : List ℕ) (b : Book) (e : ℕ) → State t b e → Lone b → b .writes + m ≤ 1_000_000
+    → let c = bookAfter t b (replicate m again) in (c .writes ≡ b .writes + m) × (firstNo (upTo 7 (questions (tableAfter t (replicate m again)) again)) ≡ 0)
+unfolding again tableAfter bookAfter entered written
+many zero t b e S L h = (omega arith, seven b L t e S)
+many (suc m) t b e S L h =
+    let d : outcome t again .refusal ≡ 0 = is-done b L t e S (omega arith) in
+    let n = next t b e S again in
+    let S′ : State (outcome t again .table) (entered b again true) (n .0) = rw d at (n .1) in
+    let r = many m (outcome t again .table) (entered b again true) (n .0) S′ (more b L) (omega arith) in
+    let w : bookAfter (outcome t again .table) (entered b again (eqb (outcome t again .refusal) 0)) (replicate m again) .writes ≡ b .writes + 1 + m =
+    ap (λ (x : ℕ). bookAfter (outcome t again .table) (entered b again (eqb x 0)) (replicate m again) .writes) d ∙ r .0 in
+    (w ∙ omega arith, r .1)
+
+pub limit-reached : LimitReached
+unfolding LimitReached again opened
+limit-reached n h =
+    let r = many n (outcome (zeros 49) (founding 1 1 (10 ∷ 0 ∷ [])) .table) (opened 1 (namesIn (10 ∷ 0 ∷ []))) 0 (opens (zeros 49) 1 1 (10 ∷ 0 ∷ []) founds) first (omega arith) in
+    record {
+      table = _;
+      book = _;
+      reached = after (zeros 49) 1 1 (10 ∷ 0 ∷ []) (replicate n again) founds;
+      writes = r .0 ∙ omega arith;
+      call = again;
+      rows = 1;
+      asks = aWrite;
+      passes = r .1;
+    }
