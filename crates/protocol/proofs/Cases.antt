@@ -52,12 +52,12 @@ unfoldable pub third : ℕ → List ℕ
 third e = set 2 1 3 (set (row2 + 2) 1 3 (set row3 2 30 (set (row3 + 12) 4 e (set (row3 + 16) 8 4 pair))))
 
 -- ---- calls
--- a read that is done wherever question 1 is passed: row 1 holds 5 at version 0
+-- a check by row 0: refused by 1, or by 2 where question 1 is passed
 unfoldable pub malformed : List ℕ → Case
-malformed t = On t (read 1 1 0 1 (9 ∷ [])) 1 0 (9 ∷ [])
+malformed t = On t (check 0 0) 1 0 []
 
 unfoldable pub formed : List ℕ → Case
-formed t = On t (read 1 1 0 1 (9 ∷ [])) 0 0 (5 ∷ [])
+formed t = On t (check 0 0) 2 0 []
 
 -- a founding on so many bytes, by names below 256
 unfoldable pub twoBytes : List ℕ → List ℕ
@@ -150,7 +150,7 @@ cases =
     ∷ formed (third 2)
     ∷ On (third 2) (check 1 3) 0 2 []
     ∷ malformed (outcome (third 2) (check 1 3) .table)
-    ∷ On (outcome (third 3) (check 1 3) .table) (read 1 3 0 1 (9 ∷ [])) 0 0 (5 ∷ [])
+    ∷ formed (outcome (third 3) (check 1 3) .table)
     -- ---- question 11: 1 to 64 names, strictly rising, none 0, two bytes each
     ∷ founds 49 1 1 [] 11 0
     ∷ founds 49 1 1 (10 ∷ []) 11 0
