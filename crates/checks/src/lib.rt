@@ -4,25 +4,59 @@ use questions::coordinator_asked;
 use questions::result;
 use quorums::Kind;
 use rows::RowSet;
-use verdicts::Verdict;
+use verdicts::asked;
+use verdicts::list_of;
+use verdicts::tally_of;
 ghost use mathlib.Core.Path.{_≡_};
 ghost use mathlib.Core.Bool.{true};
 ghost use Prim.Native.Nat.{_^_, _<_};
-ghost use Rattle.sets.specs.Sets.{has};
-ghost use Rattle.quorums.specs.declared.Kind.the-variants.{Write};
 ghost use Rattle.fields.specs.Layout.{usedOf};
 ghost use Rattle.table.specs.WellFormed.{wellFormed};
 ghost use Rattle.protocol.specs.Calls.{resultOf, outcome, check};
-ghost use Rattle.verdicts.specs.Judged.{Judged};
+ghost use Rattle.checks.specs.Examined.{Examined};
+
+// Of the rows that answered: the first no among questions 6 and 7 (0: none), the good ones, their version, the highest epoch and its list V.
+struct Verdict {
+    refusal: u32,
+    good: RowSet,
+    version: u32,
+    epoch: u32,
+    list: RowSet,
+}
 
 // What an epoch check finds of the rows that answered, by one poll.
 fn examine(t: &[u8], answering: RowSet) -> Verdict
     requires { ⌜ (wellFormed (now t) ≡ true) × (answering .bits < 2 ^ usedOf (now t)) ⌝ }
-    ensures { λ r. ⌜ Judged Write (now (t .entry)) (answering .bits) (has (answering .bits)) r ⌝ }
+    ensures { λ r. ⌜ Examined (now (t .entry)) (answering .bits) r ⌝ }
 {
     let order = chain::chain_order(t);
     let poll = polls::gather(t, answering);
-    verdicts::judge(Kind::Write, t, order, poll, answering, answering)
+    let count = order.count;
+    let stale = poll.stale;
+    let whole = tally_of(
+        stale,
+        &poll.versions,
+        &poll.desired,
+        &poll.epochs,
+        answering,
+    );
+    let good = whole.good;
+    let leaders = whole.leaders;
+    let list = list_of(t, leaders);
+    Verdict {
+        refusal: asked(
+            Kind::Write,
+            &order.rows,
+            count,
+            list,
+            answering,
+            whole.current,
+        ),
+        good: good,
+        version: whole.version,
+        epoch: whole.epoch,
+        list: list,
+    }
 }
 
 // An epoch check: the rows that answered become the list of a new epoch, unless they are the list in force.

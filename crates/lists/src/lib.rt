@@ -5,18 +5,36 @@ use quorums::Kind;
 use rows::RowSet;
 ghost use mathlib.Core.Path.{_≡_};
 ghost use mathlib.Core.Bool.{_&&_, cond};
-ghost use Prim.Native.Nat.{ℕ, _+_, _≤_, _<_};
+ghost use Prim.Native.Nat.{ℕ, _+_, _<_};
 ghost use lib.Dec.{eqb};
-ghost use lib.ListN.{length, take};
-ghost use Rattle.sets.specs.Upto.{some};
-ghost use Rattle.sets.specs.Sets.{has};
-ghost use Rattle.lists.specs.Seats.{Seat};
+ghost use lib.ListN.{length, getD, take};
+ghost use Rattle.sets.specs.Upto.{Within, some};
+ghost use Rattle.sets.specs.Sets.{has, gaining};
+ghost use Rattle.table.specs.Contracts.{Listed};
 ghost use Rattle.protocol.specs.Lists.{seats, atSeat, listQuorum, listChoice};
 
-fn wide(x: u8) -> usize
-    ensures { λ r. ⌜ r ≡ x ⌝ }
+fn one(wanted: bool) -> u64
+    ensures { λ r. ⌜ r ≡ cond wanted 1 0 ⌝ }
 {
-    x as usize
+    if wanted { 1 } else { 0 }
+}
+
+// Is the row at place k, counted from 0, in a set? A walk along the chain asks this of rows only, and so needs no guard.
+fn at(set: RowSet, k: usize) -> bool
+    requires { ⌜ k < 64 ⌝ }
+    ensures { λ r. ⌜ r ≡ has (set .bits) (k + 1) ⌝ }
+{
+    (set.bits >> k) % 2 == 1
+}
+
+// The set with the row at place k where it is wanted.
+fn add(set: RowSet, k: usize, wanted: bool) -> RowSet
+    requires { ⌜ k < 64 ⌝ }
+    ensures { λ r. ⌜ has (r .bits) ≡ cond wanted (gaining (has (set .bits)) (k + 1)) (has (set .bits)) ⌝ }
+{
+    RowSet {
+        bits: set.bits | one(wanted) << k,
+    }
 }
 
 // One more where it counts.
@@ -27,39 +45,27 @@ fn step(n: usize, counts: bool) -> usize
     if counts { n + 1 } else { n }
 }
 
-// What a walk along the chain order finds of its next row, and the seats taken with it.
-struct Next {
-    row: usize,
-    member: bool,
-    seat: usize,
-}
-
-// The row at place j of the order, after n seats.
-fn next_row(order: &[u8; 64], j: usize, list: RowSet, n: usize) -> Next
-    requires { ⌜ (length (now order) ≡ 64) × (j < 64) × (n < 64) ⌝ }
-    ensures { λ r. ⌜ Seat (now (order .entry)) (list .bits) j n (r .row) (r .seat) (r .member) ⌝ }
+// The place, from 0, of the row that stands at j in the order.
+fn place_at(order: &[u8; 64], j: usize) -> usize
+    requires { ⌜ (length (now order) ≡ 64) × (j < 64) × Within 64 (getD (now order) j 0) ⌝ }
+    ensures { λ r. ⌜ r + 1 ≡ getD (now (order .entry)) j 0 ⌝ }
 {
-    let row = wide(order[j]);
-    let member = list.has(row);
-    Next {
-        row: row,
-        member: member,
-        seat: step(n, member),
-    }
+    order[j] as usize - 1
 }
 
 // The positions of a list that a set of rows holds.
 pub fn held(order: &[u8; 64], count: usize, list: RowSet, set: RowSet) -> RowSet
-    requires { ⌜ (length (now order) ≡ 64) × (count ≤ 64) ⌝ }
+    requires { ⌜ Listed 64 (now order) count ⌝ }
     ensures { λ r. ⌜ has (r .bits) ≡ atSeat (seats (take count (now (order .entry))) (list .bits)) (has (set .bits)) ⌝ }
 {
+    let shared = list.cut(set);
     let mut positions = RowSet::EMPTY;
-    let mut seat = 0;
+    let mut seats = 0;
     let mut j = 0;
     while j < count {
-        let next = next_row(order, j, list, seat);
-        seat = next.seat;
-        positions = positions.gain(seat, both(next.member, set.has(next.row)));
+        let place = place_at(order, j);
+        positions = add(positions, seats, at(shared, place));
+        seats = step(seats, at(list, place));
         j += 1;
     }
     positions
@@ -67,16 +73,17 @@ pub fn held(order: &[u8; 64], count: usize, list: RowSet, set: RowSet) -> RowSet
 
 // The rows of a list that stand at some positions.
 pub fn standing(order: &[u8; 64], count: usize, list: RowSet, positions: RowSet) -> RowSet
-    requires { ⌜ (length (now order) ≡ 64) × (count ≤ 64) ⌝ }
+    requires { ⌜ Listed 64 (now order) count ⌝ }
     ensures { λ r. ⌜ has (r .bits) ≡ (λ (i : ℕ). some 64 (λ k. has (positions .bits) k && atSeat (seats (take count (now (order .entry))) (list .bits)) (eqb i) k)) ⌝ }
 {
     let mut rows = RowSet::EMPTY;
-    let mut seat = 0;
+    let mut seats = 0;
     let mut j = 0;
     while j < count {
-        let next = next_row(order, j, list, seat);
-        seat = next.seat;
-        rows = rows.gain(next.row, both(next.member, positions.has(seat)));
+        let place = place_at(order, j);
+        let member = at(list, place);
+        rows = add(rows, place, both(member, at(positions, seats)));
+        seats = step(seats, member);
         j += 1;
     }
     rows
@@ -84,7 +91,7 @@ pub fn standing(order: &[u8; 64], count: usize, list: RowSet, positions: RowSet)
 
 // Does a set of rows hold a quorum of the list?
 pub fn quorum(kind: Kind, order: &[u8; 64], count: usize, list: RowSet, set: RowSet) -> bool
-    requires { ⌜ (length (now order) ≡ 64) × (count ≤ 64) ⌝ }
+    requires { ⌜ Listed 64 (now order) count ⌝ }
     ensures { λ r. ⌜ r ≡ listQuorum kind (take count (now (order .entry))) (list .bits) (has (set .bits)) ⌝ }
 {
     let length = list.size();
@@ -98,7 +105,7 @@ pub fn quorum(kind: Kind, order: &[u8; 64], count: usize, list: RowSet, set: Row
 
 // The rows that a name chooses over the list.
 pub fn choice(kind: Kind, order: &[u8; 64], count: usize, list: RowSet, name: u16) -> RowSet
-    requires { ⌜ (length (now order) ≡ 64) × (count ≤ 64) ⌝ }
+    requires { ⌜ Listed 64 (now order) count ⌝ }
     ensures { λ r. ⌜ has (r .bits) ≡ listChoice kind (take count (now (order .entry))) (list .bits) name ⌝ }
 {
     let length = list.size();

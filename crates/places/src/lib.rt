@@ -1,65 +1,58 @@
 // Arrays with a place for each of the 64 rows: what the rows of a set have.
-use bools::any;
-use bools::both;
 use rows::RowSet;
 ghost use mathlib.Core.Path.{_≡_};
 ghost use mathlib.Core.Bool.{_&&_, cond};
-ghost use Prim.Native.Nat.{ℕ, max};
+ghost use Prim.Native.Nat.{max};
 ghost use lib.Dec.{eqb, ltb};
-ghost use Rattle.sets.specs.Upto.{some, most};
-ghost use Rattle.sets.specs.Sets.{has};
-ghost use Rattle.places.specs.Places.{placed};
+ghost use Rattle.sets.specs.Upto.{some};
+ghost use Rattle.sets.specs.Sets.{has, joining};
+ghost use Rattle.places.specs.Places.{placed, Tops};
 
-// The larger of m and v, where v counts.
-fn larger(m: u32, v: u32, counts: bool) -> u32
-    ensures { λ r. ⌜ r ≡ max m (cond counts v 0) ⌝ }
-{
-    if counts {
-        if m < v {
-            return v;
-        }
-    }
-    m
+// The highest value, and the rows that have it.
+pub struct Top {
+    pub value: u32,
+    pub rows: RowSet,
 }
 
-// The highest value over the rows of a set; 0 where it is empty.
-pub fn highest(values: &[u32; 64], s: RowSet) -> u32
-    ensures { λ r. ⌜ r ≡ most 64 (has (s .bits)) (placed (now (values .entry))) ⌝ }
+// The best of some rows and of one row more, which has v.
+fn better(b: Top, v: u32, one: RowSet) -> Top
+    ensures { λ r. ⌜ (r .value ≡ max (b .value) v) × (has (r .rows .bits) ≡ cond (ltb (b .value) v) (has (one .bits)) (cond (eqb v (b .value)) (joining (has (b .rows .bits)) (has (one .bits))) (has (b .rows .bits)))) ⌝ }
 {
-    let end = s.highest();
-    let mut m = 0;
-    let mut k = 0;
-    while k < end {
-        m = larger(m, values[k], s.has(k + 1));
-        k += 1;
+    if b.value < v {
+        return Top {
+            value: v,
+            rows: one,
+        };
     }
-    m
+    if v == b.value {
+        return Top {
+            value: v,
+            rows: b.rows.joined(one),
+        };
+    }
+    b
 }
 
-// The rows of a set that have a value.
-pub fn having(values: &[u32; 64], s: RowSet, v: u32) -> RowSet
-    ensures { λ r. ⌜ has (r .bits) ≡ (λ (i : ℕ). has (s .bits) i && eqb (placed (now (values .entry)) i) v) ⌝ }
+// The highest value over the rows of a set, and its rows that have it; 0 where it is empty.
+pub fn best(values: &[u32; 64], s: RowSet) -> Top
+    ensures { λ r. ⌜ Tops (has (s .bits)) (placed (now (values .entry))) r ⌝ }
 {
-    let end = s.highest();
-    let mut set = RowSet::EMPTY;
-    let mut k = 0;
-    while k < end {
-        set = set.gain(k + 1, both(s.has(k + 1), values[k] == v));
-        k += 1;
+    let mut b = Top {
+        value: 0,
+        rows: RowSet::EMPTY,
+    };
+    let mut left = s;
+    while !left.is_empty() {
+        let rest = left.rest();
+        b = better(b, values[left.lowest() - 1], left.outside(rest));
+        left = rest;
     }
-    set
+    b
 }
 
 // Has some row of a set more than v?
 pub fn above(values: &[u32; 64], s: RowSet, v: u32) -> bool
     ensures { λ r. ⌜ r ≡ some 64 (λ i. has (s .bits) i && ltb v (placed (now (values .entry)) i)) ⌝ }
 {
-    let end = s.highest();
-    let mut found = false;
-    let mut k = 0;
-    while k < end {
-        found = any(found, both(s.has(k + 1), v < values[k]));
-        k += 1;
-    }
-    found
+    v < best(values, s).value
 }

@@ -19,8 +19,8 @@ use Rattle.protocol.specs.Polls.{goodVersion, good, current, quorumHeld}
 use Rattle.protocol.specs.Calls.{Outcome, read, firstNo, questions, answers, workSet, done, outcome, resultOf}
 use Rattle.protocol.proofs.PollLaws.{lowest-good, worked-in}
 use Rattle.protocol.proofs.QuestionLaws.{read-yes, refusal-is, when-done}
-use Rattle.verdicts.specs.declared.Verdict.{Verdict}
-use Rattle.verdicts.specs.Judged.{Judged}
+use Rattle.settle.specs.declared.Settled.{Settled}
+use Rattle.settle.specs.Works.{Works}
 use Rattle.questions.specs.Stages.{toRange}
 use Rattle.questions.proofs.QuestionLaws.{after-range, before-range, Refused, refused-is}
 
@@ -44,12 +44,12 @@ module _ (t : List ℕ) (c r offset count : ℕ) (buffer : List ℕ) where
         (after-four ∙ ap (λ (b : Bool). cond b (cond (quorumHeld Read (orderOf t) (answers t r) (workSet Read t c r)) (cond (current (answers t r) (workSet Read t c r)) 0 7) 6) 5) (ne-eqb (length buffer) count d))
         (omega arith)
 
-    module _ (l : length buffer ≡ count) (s : ℕ → Bool) (v : Verdict) (e : s ≡ workSet Read t c r) (j : Judged Read t r s v) where
+    module _ (l : length buffer ≡ count) (v : Settled) (j : Works Read t c r v) where
       after-poll : firstNo (questions t (read c r offset count buffer)) ≡ v .refusal
       after-poll =
           after-four
           ∙ ap (λ (b : Bool). cond b (cond (quorumHeld Read (orderOf t) (answers t r) (workSet Read t c r)) (cond (current (answers t r) (workSet Read t c r)) 0 7) 6) 5) (eq-eqb (length buffer) count l)
-          ∙ sym (j .refusal ∙ ap (λ (x : ℕ → Bool). cond (quorumHeld Read (orderOf t) (answers t r) x) (cond (current (answers t r) x) 0 7) 6) e)
+          ∙ sym (j .refusal)
 
       -- refused by 6 or 7
       pub read-no : 1 ≤ v .refusal
@@ -57,7 +57,7 @@ module _ (t : List ℕ) (c r offset count : ℕ) (buffer : List ℕ) where
       read-no h = refused-is t (read c r offset count buffer) (v .refusal) after-poll h
 
       good-is : lowest 64 (has (v .good .bits)) ≡ lowest 64 (good (answers t r) (workSet Read t c r))
-      good-is = ap (lowest 64) (j .good ∙ ap (good (answers t r)) e)
+      good-is = ap (lowest 64) (j .good)
 
       module _ (z : v .refusal ≡ 0) where
         pub source-used : Within (usedOf t) (lowest 64 (has (v .good .bits)))
@@ -77,7 +77,7 @@ module _ (t : List ℕ) (c r offset count : ℕ) (buffer : List ℕ) where
         unfolding done resultOf contentsOf
         read-done =
             let o = when-done t (read c r offset count buffer) (refusal-is t (read c r offset count buffer) ∙ after-poll ∙ z) in (
-              ap (λ (x : ℕ). 0 * 2 ^ 32 + x) (j .version ∙ ap (goodVersion (answers t r)) e) ∙ sym (ap resultOf o),
+              ap (λ (x : ℕ). 0 * 2 ^ 32 + x) (j .version) ∙ sym (ap resultOf o),
               sym (ap (λ (x : Outcome). x .table) o),
               ap₂ (λ (n i : ℕ). part offset n (contents (rowBytes t i))) l good-is ∙ sym (ap (λ (x : Outcome). x .buffer) o),
             )

@@ -19,10 +19,10 @@ pub fn read(t: &[u8], c: usize, r: u64, offset: usize, count: usize, buffer: &mu
         return result(5, 0);
     }
     let s = settle::settle(Kind::Read, t, c, answering);
-    if s.verdict.refusal != 0 {
-        return result(s.verdict.refusal, 0);
+    if s.refusal != 0 {
+        return result(s.refusal, 0);
     }
-    let source = s.verdict.good.lowest();
+    let source = s.good.lowest();
     fields::copy_out(table::row_of(t, source), offset, buffer);
-    result(0, s.verdict.version)
+    result(0, s.version)
 }

@@ -1,8 +1,9 @@
 // A set of rows: bit i - 1 for row i, rows 1 to 64. Positions and columns of a grid count the same way.
 ghost use mathlib.Core.Path.{_≡_};
 ghost use mathlib.Core.Bool.{cond, not};
-ghost use Rattle.sets.specs.Upto.{every, some, count, lowest, most};
-ghost use Rattle.sets.specs.Sets.{has, firstRows, gaining, losing, cutTo, leftOf};
+ghost use Prim.Native.Nat.{_-_, _≤_};
+ghost use Rattle.sets.specs.Upto.{every, some, count, lowest};
+ghost use Rattle.sets.specs.Sets.{has, firstRows, gaining, losing, cutTo, leftOf, joining};
 
 pub struct RowSet {
     pub bits: u64,
@@ -93,13 +94,6 @@ impl RowSet {
         u64::trailing_zeros(self.bits) as usize + 1
     }
 
-    // Its highest member; 0 where it has none.
-    pub fn highest(self) -> usize
-        ensures { λ r. ⌜ r ≡ most 64 (has (self .bits)) (λ i. i) ⌝ }
-    {
-        64 - u64::leading_zeros(self.bits) as usize
-    }
-
     // The set with row i where `wanted` says so: a loop that gathers a set needs no branch.
     pub fn gain(self, i: usize, wanted: bool) -> RowSet
         ensures { λ r. ⌜ has (r .bits) ≡ cond wanted (gaining (has (self .bits)) i) (has (self .bits)) ⌝ }
@@ -124,6 +118,27 @@ impl RowSet {
     {
         RowSet {
             bits: self.bits ^ (self.bits & other.bits),
+        }
+    }
+
+    // The members of either set.
+    pub fn joined(self, other: RowSet) -> RowSet
+        ensures { λ r. ⌜ has (r .bits) ≡ joining (has (self .bits)) (has (other .bits)) ⌝ }
+    {
+        RowSet {
+            bits: self.bits | other.bits,
+        }
+    }
+
+    // The set without its lowest member; a smaller number, where it has one.
+    pub fn rest(self) -> RowSet
+        ensures { λ r. ⌜ (has (r .bits) ≡ losing (has (self .bits)) (lowest 64 (has (self .bits)))) × (r .bits ≤ self .bits - 1) ⌝ }
+    {
+        if self.bits == 0 {
+            return self;
+        }
+        RowSet {
+            bits: self.bits & (self.bits - 1),
         }
     }
 

@@ -1,55 +1,82 @@
 // The set that a call works on: P or R.
-use chain::Order;
-use polls::Poll;
 use quorums::Kind;
 use rows::RowSet;
-use verdicts::Verdict;
-use verdicts::judge;
+use verdicts::Tally;
+use verdicts::asked;
+use verdicts::list_of;
+use verdicts::tally_of;
 ghost use mathlib.Core.Path.{_≡_};
 ghost use mathlib.Core.Bool.{true};
 ghost use Prim.Native.Nat.{_^_, _<_};
 ghost use Rattle.sets.specs.Sets.{has};
 ghost use Rattle.fields.specs.Layout.{usedOf};
 ghost use Rattle.table.specs.WellFormed.{wellFormed};
-ghost use Rattle.protocol.specs.Calls.{workSet};
-ghost use Rattle.verdicts.specs.Judged.{Gathered, Judged};
+ghost use Rattle.settle.specs.Works.{Works};
 
-// The set that a call works on, and what is found of it.
+// The set that a call works on: the first no among questions 6 and 7 (0: none), its good rows and their version.
 pub struct Settled {
     pub rows: RowSet,
-    pub verdict: Verdict,
+    pub refusal: u32,
+    pub good: RowSet,
+    pub version: u32,
 }
 
-// P, the coordinator's own choice cut down to the rows that answered, if questions 6 and 7 are yes for it; otherwise all of them.
-fn decide(kind: Kind, t: &[u8], o: Order, p: Poll, answering: RowSet, c: usize) -> Settled
-    requires { ⌜ Gathered (now t) (o .rows) (o .count) p (answering .bits) × (has (answering .bits) c ≡ true) ⌝ }
-    ensures { λ r. ⌜ (has (r .rows .bits) ≡ workSet kind (now (t .entry)) c (answering .bits)) × Judged kind (now (t .entry)) (answering .bits) (has (r .rows .bits)) (r .verdict) ⌝ }
+fn settled_on(rows: RowSet, refusal: u32, found: Tally) -> Settled
+    ensures { λ r. ⌜ r ≡ record { rows = rows; refusal = refusal; good = found .good; version = found .version } ⌝ }
 {
+    let good = found.good;
+    Settled {
+        rows: rows,
+        refusal: refusal,
+        good: good,
+        version: found.version,
+    }
+}
+
+// The set that a read or a write works on, found by one poll: P, the coordinator's own choice cut down to the rows that answered,
+// if questions 6 and 7 are yes for it; otherwise all of them.
+pub fn settle(kind: Kind, t: &[u8], c: usize, answering: RowSet) -> Settled
+    requires { ⌜ (wellFormed (now t) ≡ true) × (answering .bits < 2 ^ usedOf (now t)) × (has (answering .bits) c ≡ true) ⌝ }
+    ensures { λ r. ⌜ Works kind (now (t .entry)) c (answering .bits) r ⌝ }
+{
+    let order = chain::chain_order(t);
+    let poll = polls::gather(t, answering);
+    let count = order.count;
     let row = table::row_of(t, c);
     let own = RowSet {
         bits: fields::members(row),
     };
-    let count = o.count;
-    let tried = lists::choice(kind, &o.rows, count, own, fields::name(row)).cut(answering);
-    let verdict = judge(kind, t, o, p, answering, tried);
-    if verdict.refusal == 0 {
-        return Settled {
-            rows: tried,
-            verdict: verdict,
-        };
+    let tried = lists::choice(kind, &order.rows, count, own, fields::name(row)).cut(answering);
+    // read here, and not where the poll is gathered: so the compiler need not copy the poll
+    let stale = poll.stale;
+    let part = tally_of(stale, &poll.versions, &poll.desired, &poll.epochs, tried);
+    let leaders = part.leaders;
+    let no = asked(
+        kind,
+        &order.rows,
+        count,
+        list_of(t, leaders),
+        tried,
+        part.current,
+    );
+    if no == 0 {
+        return settled_on(tried, no, part);
     }
-    Settled {
-        rows: answering,
-        verdict: judge(kind, t, o, p, answering, answering),
-    }
-}
-
-// The set that a read or a write works on, found by one poll.
-pub fn settle(kind: Kind, t: &[u8], c: usize, answering: RowSet) -> Settled
-    requires { ⌜ (wellFormed (now t) ≡ true) × (answering .bits < 2 ^ usedOf (now t)) × (has (answering .bits) c ≡ true) ⌝ }
-    ensures { λ r. ⌜ (has (r .rows .bits) ≡ workSet kind (now (t .entry)) c (answering .bits)) × Judged kind (now (t .entry)) (answering .bits) (has (r .rows .bits)) (r .verdict) ⌝ }
-{
-    let order = chain::chain_order(t);
-    let poll = polls::gather(t, answering);
-    decide(kind, t, order, poll, answering, c)
+    let whole = tally_of(
+        stale,
+        &poll.versions,
+        &poll.desired,
+        &poll.epochs,
+        answering,
+    );
+    let latest = whole.leaders;
+    let all_no = asked(
+        kind,
+        &order.rows,
+        count,
+        list_of(t, latest),
+        answering,
+        whole.current,
+    );
+    settled_on(answering, all_no, whole)
 }

@@ -1,6 +1,6 @@
 -- The walk along the chain.
 use mathlib.Core.Path.{_≡_, refl, sym, _∙_, ap, ap₂, fun-ext}
-use mathlib.Core.Bool.{Bool, true, false, _&&_, _||_, and-true}
+use mathlib.Core.Bool.{Bool, true, false, _&&_, _||_, and-true, and-false, or-false}
 use mathlib.Core.Logic.{_⊎_, inl, inr}
 use mathlib.Core.List.{List, [], _∷_, _++_, append-nil}
 use Prim.Native.Nat.{ℕ, zero, suc, _+_, _-_, _≤_, _<_}
@@ -8,20 +8,20 @@ use native.Mathlib.Nat.{zero-add}
 use native.Mathlib.Numerals.{add-one}
 use native.Mathlib.Decide.{decLe}
 use native.Mathlib.Omega.{arith}
-use lib.Dec.{eqb, ltb}
-use lib.ListN.{length, getD, take, drop, set, replicate, length-set, length-append}
-use lib.Seq.{take-all, take-suc, take-suc-set, append-snoc, drop-cons, drop-length, getD-set-same, getD-set-other, length-take-le}
-use borrow.Author.Tests.{eqb-true, eq-eqb, ne-eqb}
+use lib.Dec.{eqb}
+use lib.ListN.{length, take, set, replicate, length-set, length-take}
+use lib.Seq.{take-all, take-suc-set, append-snoc, getD-set-same, getD-set-other}
+use borrow.Author.Tests.{eqb-true, eq-eqb, ne-eqb, lt-ltb, le-ltb}
 use borrow.Author.Count.{below-more}
 use Rattle.sets.specs.Upto.{Within, every}
-use Rattle.sets.specs.Sets.{gaining}
-use Rattle.bools.proofs.BoolLaws.{and-l, and-r, clash, and-assoc}
+use Rattle.sets.specs.Sets.{has, gaining}
+use Rattle.bools.proofs.BoolLaws.{and-l, and-r}
 use Rattle.sets.proofs.UptoLaws.{every-at}
-use Rattle.sets.proofs.SetLaws.{gain-where}
+use Rattle.sets.proofs.SetLaws.{empty-at, gain-where}
 use Rattle.fields.specs.Layout.{usedOf, firstOf, linkOf, nameOf}
 use Rattle.table.specs.Chain.{chain, orderOf, among, risesFrom}
 use Rattle.table.specs.WellFormed.{visitsEach, namesRise, wellFormed}
-use Rattle.table.specs.Contracts.{Linked, Listed, Walked, Followed}
+use Rattle.table.specs.Contracts.{Linked, Listed}
 use Rattle.table.proofs.TestLaws.{eqb-swap}
 use Rattle.table.proofs.WellFormedLaws.{header, few-rows, link-in}
 
@@ -67,7 +67,13 @@ module _ (t : List ℕ) (e : wellFormed t ≡ true) where
   unfolding wellFormed namesRise
   order-rises = let n : namesRise t ≡ true = search (and-l, and-r) in rw order-path n
 
--- ---- walk
+-- ---- chain_order: the rows passed, and the row that comes next (0 where the chain has ended)
+pub record Walked (t rows : List ℕ) (count next : ℕ) : Type 0 where
+  pub listed : Listed (usedOf t) rows count
+  pub few : count ≤ usedOf t
+  pub on : next ≤ usedOf t
+  pub path : (m : ℕ) → take count rows ++ chain (linkOf t) m next ≡ chain (linkOf t) (count + m) (firstOf t)
+
 pub listed-in : {n m count : ℕ} {rows : List ℕ} → n ≤ m → Listed n rows count → Listed m rows count
 listed-in h l = record { places = l .places; few = l .few; each = λ k q. let w = l .each k q in omega arith }
 
@@ -101,103 +107,120 @@ module _ {t : List ℕ} (l : Linked t) where
             ∙ ap (λ (k : ℕ). chain (linkOf t) k (firstOf t)) (n ∙ ap (λ (k : ℕ). k + m) (add-one count)));
       }
 
--- ---- where it stops
-module _ {t rows : List ℕ} {count next : ℕ} (f : Followed t rows count next) where
-  nothing : (next ≡ 0) ⊎ (usedOf t ≤ count) → chain (linkOf t) (usedOf t - count) next ≡ []
-  unfolding chain
-  nothing (inl e) = ap (chain (linkOf t) (usedOf t - count)) e ∙ chain-zero (linkOf t) (usedOf t - count)
-  nothing (inr h) = let z : usedOf t - count ≡ 0 = omega arith in rw z
-
-  -- its rows are the order
-  pub order-is : take count rows ≡ orderOf t
-  unfolding orderOf
-  order-is =
-      let n : count + (usedOf t - count) ≡ usedOf t = omega (arith, f .walked .few) in
-      sym (append-nil (take count rows)) ∙ ap (λ (xs : List ℕ). take count rows ++ xs) (sym (nothing (f .stop)))
-      ∙ f .walked .path (usedOf t - count) ∙ ap (λ (k : ℕ). chain (linkOf t) k (firstOf t)) n
-
-  -- the chain with one step more than rows are used
-  path-is : take count rows ++ chain (linkOf t) (suc (usedOf t) - count) next ≡ chain (linkOf t) (suc (usedOf t)) (firstOf t)
-  path-is =
-      let n : count + (suc (usedOf t) - count) ≡ suc (usedOf t) = omega (arith, f .walked .few) in
-      f .walked .path (suc (usedOf t) - count) ∙ ap (λ (k : ℕ). chain (linkOf t) k (firstOf t)) n
-
-  count-is : length (take count rows) ≡ count
-  count-is = length-take-le count rows (omega (arith, f .walked .listed .places, f .walked .listed .few))
-
-  -- of a chain that has ended they are all
-  path-ends : next ≡ 0 → chain (linkOf t) (suc (usedOf t)) (firstOf t) ≡ take count rows
-  path-ends e =
-      sym path-is
-      ∙ ap (λ (xs : List ℕ). take count rows ++ xs) (ap (chain (linkOf t) (suc (usedOf t) - count)) e ∙ chain-zero (linkOf t) (suc (usedOf t) - count))
-      ∙ append-nil (take count rows)
-
-  visits-are : next ≡ 0 → visitsEach t ≡ (eqb count (usedOf t) && every (usedOf t) (among (take count rows)))
-  unfolding visitsEach
-  visits-are e = rw (path-ends e, count-is)
-
-  pub visits-few : next ≡ 0 → (count ≡ usedOf t → ⊥) → false ≡ visitsEach t
-  visits-few e d = sym (visits-are e ∙ rw (ne-eqb count (usedOf t) d))
-
-  pub visits-all : next ≡ 0 → count ≡ usedOf t → every (usedOf t) (among (take count rows)) ≡ visitsEach t
-  visits-all e q = sym (visits-are e ∙ rw (eq-eqb count (usedOf t) q))
-
-  -- of one that goes on they are too few
-  pub visits-not : 1 ≤ next → false ≡ visitsEach t
-  unfolding visitsEach chain
-  visits-not p = go (f .stop)
-    where
-      go : (next ≡ 0) ⊎ (usedOf t ≤ count) → false ≡ visitsEach t
-      go (inl e) = absurd (omega arith)
-      go (inr h) =
-          let one : suc (usedOf t) - count ≡ 1 = omega (arith, f .walked .few) in
-          let rest : chain (linkOf t) (suc (usedOf t) - count) next ≡ next ∷ [] =
-          ap (λ (k : ℕ). chain (linkOf t) k next) one ∙ chain-suc (linkOf t) 0 next p in
-          let path : chain (linkOf t) (suc (usedOf t)) (firstOf t) ≡ take count rows ++ (next ∷ []) =
-          sym path-is ∙ ap (λ (xs : List ℕ). take count rows ++ xs) rest in
-          let n : length (take count rows ++ (next ∷ [])) ≡ count + 1 = length-append (take count rows) (next ∷ []) ∙ ap (λ (k : ℕ). k + 1) count-is in
-          rw (path, n, ne-eqb (count + 1) (usedOf t) (λ q. omega (arith, f .walked .few)))
-
-  pub path-passed : visitsEach t ≡ true → chain (linkOf t) (suc (usedOf t)) (firstOf t) ≡ take count rows
-  path-passed v = go (decLe 1 next)
-    where
-      go : Dec (1 ≤ next) → chain (linkOf t) (suc (usedOf t)) (firstOf t) ≡ take count rows
-      go (yes p) = absurd (clash (visits-not p ∙ v))
-      go (no p) = path-ends (omega arith)
-
--- ---- visited: the first k rows, and one more
-among-more : (xs : List ℕ) (y j : ℕ) → among (xs ++ (y ∷ [])) j ≡ (among xs j || eqb y j)
-unfolding among
-among-more [] y j = refl
-among-more (x ∷ xs) y j = rw (among-more xs y j) (swap (among xs j) (eqb y j) (eqb x j))
+-- where the chain ends, or as many rows are passed as are used, these are the order
+order-at : {t rows : List ℕ} {count next : ℕ} → Walked t rows count next → (next ≡ 0) ⊎ (usedOf t ≤ count) → take count rows ≡ orderOf t
+unfolding orderOf chain
+order-at {t} {rows} {count} {next} w stop =
+    let n : count + (usedOf t - count) ≡ usedOf t = omega (arith, w .few) in
+    sym (append-nil (take count rows)) ∙ ap (λ (xs : List ℕ). take count rows ++ xs) (sym (nothing stop))
+    ∙ w .path (usedOf t - count) ∙ ap (λ (k : ℕ). chain (linkOf t) k (firstOf t)) n
   where
-    swap : (a b c : Bool) → ((a || b) || c) ≡ ((a || c) || b)
-    swap true b c = refl
-    swap false true true = refl
-    swap false true false = refl
-    swap false false true = refl
-    swap false false false = refl
+    nothing : (next ≡ 0) ⊎ (usedOf t ≤ count) → chain (linkOf t) (usedOf t - count) next ≡ []
+    nothing (inl e) = ap (chain (linkOf t) (usedOf t - count)) e ∙ chain-zero (linkOf t) (usedOf t - count)
+    nothing (inr h) = let z : usedOf t - count ≡ 0 = omega arith in rw z
 
-pub visited-turn : (rows : List ℕ) (k : ℕ) (s : ℕ → Bool) → k < length rows → Within 64 (getD rows k 0) → s ≡ among (take k rows)
-    → gaining s (getD rows k 0) ≡ among (take (k + 1) rows)
-visited-turn rows k s h w e =
-    gain-where s (getD rows k 0) true w
-    ∙ fun-ext (λ j.
-    ap₂ (λ (f : ℕ → Bool) (b : Bool). f j || b) e (eqb-swap j (getD rows k 0))
-    ∙ sym (ap (λ (n : ℕ). among (take n rows) j) (add-one k) ∙ ap (λ (xs : List ℕ). among xs j) (take-suc rows k 0 h)
-    ∙ among-more (take k rows) (getD rows k 0) j))
+pub order-is : {t rows : List ℕ} {count next : ℕ} → Walked t rows count next → usedOf t ≤ count → take count rows ≡ orderOf t
+order-is w h = order-at w (inr h)
 
--- ---- names_rise: what was seen so far, and the rest
-module _ (f : ℕ → ℕ) (path : List ℕ) (k low : ℕ) (ok : Bool) (so-far : (ok && risesFrom low f (drop k path)) ≡ risesFrom 0 f path) where
-  pub rise-turn : (x : ℕ) (r : Bool) → k < length path → x ≡ f (getD path k 0) → r ≡ (ok && ltb low x)
-      → (r && risesFrom x f (drop (k + 1) path)) ≡ risesFrom 0 f path
-  unfolding risesFrom
-  rise-turn x r h e d =
-      rw (d, e, add-one k) (and-assoc ok (ltb low (f (getD path k 0))) (risesFrom (f (getD path k 0)) f (drop (suc k) path)))
-      ∙ ap (λ (xs : List ℕ). ok && risesFrom low f xs) (sym (drop-cons path k 0 h)) ∙ so-far
+-- before that the chain goes on
+pub row-next : {t rows : List ℕ} {count next : ℕ} → wellFormed t ≡ true → Walked t rows count next → count < usedOf t → 1 ≤ next
+row-next {t} {rows} {count} {next} e w h = go (decLe 1 next)
+  where
+    go : Dec (1 ≤ next) → 1 ≤ next
+    go (yes p) = p
+    go (no p) =
+        let z : next ≡ 0 = omega arith in
+        let whole : length (take count rows) ≡ usedOf t = ap length (order-at w (inl z)) ∙ order-length t e in
+        absurd (omega (arith, whole, length-take count rows))
 
-  pub rise-end : k ≡ length path → ok ≡ risesFrom 0 f path
-  unfolding risesFrom
-  rise-end e =
-      let z : drop k path ≡ [] = ap (λ (n : ℕ). drop n path) e ∙ drop-length path in
-      sym (and-true ok) ∙ ap (λ (xs : List ℕ). ok && risesFrom low f xs) (sym z) ∙ so-far
+-- ---- chain_right: the chain with one step more than rows are used, and what is left of it behind the rows passed
+abbrev path : List ℕ → List ℕ
+path t = chain (linkOf t) (suc (usedOf t)) (firstOf t)
+
+abbrev rest : List ℕ → ℕ → ℕ → List ℕ
+rest t count next = chain (linkOf t) (suc (usedOf t) - count) next
+
+-- `count` rows were passed, `seen` are they, their names rise to `low`
+pub record Passed (t : List ℕ) (seen : ℕ → Bool) (low count next : ℕ) : Type 0 where
+  pub few : count ≤ usedOf t
+  pub on : next ≤ usedOf t
+  pub lengths : length (path t) ≡ count + length (rest t count next)
+  pub members : among (path t) ≡ (λ (i : ℕ). seen i || among (rest t count next) i)
+  pub rising : risesFrom 0 (nameOf t) (path t) ≡ risesFrom low (nameOf t) (rest t count next)
+
+module _ {t : List ℕ} (l : Linked t) where
+  pub pass-start : (next : ℕ) → next ≡ firstOf t → Passed t (has 0) 0 0 next
+  pass-start next e =
+      let z : suc (usedOf t) - 0 ≡ suc (usedOf t) = omega arith in
+      let all : path t ≡ rest t 0 next = sym (ap₂ (chain (linkOf t)) z e) in
+      record {
+        few = omega arith;
+        on = omega (arith, header (l .sized .header) .first);
+        lengths = omega (arith, ap length all);
+        members = fun-ext (λ i. rw (empty-at i) (ap (λ (xs : List ℕ). among xs i) all));
+        rising = ap (risesFrom 0 (nameOf t)) all;
+      }
+
+  pub pass-turn : {seen : ℕ → Bool} {low count next : ℕ} → Passed t seen low count next
+      → (more : ℕ → Bool) (name after : ℕ) → count < usedOf t → 1 ≤ next → more ≡ gaining seen next → name ≡ nameOf t next → low < name → after ≡ linkOf t next
+      → Passed t more name (count + 1) after
+  unfolding among risesFrom
+  pass-turn {seen} {low} {count} {next} w more name after h p g d up e =
+      let n : suc (usedOf t) - count ≡ suc (suc (usedOf t) - (count + 1)) = omega arith in
+      let step : rest t count next ≡ next ∷ rest t (count + 1) after =
+      ap (λ (k : ℕ). chain (linkOf t) k next) n ∙ chain-suc (linkOf t) _ next p
+      ∙ ap (λ (k : ℕ). next ∷ chain (linkOf t) (suc (usedOf t) - (count + 1)) k) (sym e) in
+      record {
+        few = omega arith;
+        on = rw e (link-in l next (p, w .on));
+        lengths = omega (arith, w .lengths, ap length step);
+        members = fun-ext (λ i.
+            ap (λ (q : ℕ → Bool). q i) (w .members) ∙ ap (λ (xs : List ℕ). seen i || among xs i) step
+            ∙ swap (seen i) (among (rest t (count + 1) after) i) (eqb next i)
+            ∙ ap (λ (b : Bool). (seen i || b) || among (rest t (count + 1) after) i) (eqb-swap next i)
+            ∙ ap (λ (q : ℕ → Bool). q i || among (rest t (count + 1) after) i) (sym (g ∙ gain-where seen next true (omega (arith, w .on, few-rows (l .sized))))));
+        rising = w .rising ∙ ap (risesFrom low (nameOf t)) step ∙ rw (← d, lt-ltb low name up);
+      }
+    where
+      swap : (a b c : Bool) → (a || (b || c)) ≡ ((a || c) || b)
+      swap true b c = refl
+      swap false true true = refl
+      swap false true false = refl
+      swap false false c = sym (or-false c)
+
+-- each way out
+module _ {t : List ℕ} {seen : ℕ → Bool} {low count next : ℕ} (w : Passed t seen low count next) where
+  ended : next ≡ 0 → rest t count next ≡ []
+  ended e = ap (chain (linkOf t) (suc (usedOf t) - count)) e ∙ chain-zero (linkOf t) (suc (usedOf t) - count)
+
+  goes-on : 1 ≤ next → rest t count next ≡ next ∷ chain (linkOf t) (usedOf t - count) (linkOf t next)
+  goes-on p =
+      let n : suc (usedOf t) - count ≡ suc (usedOf t - count) = omega (arith, w .few) in
+      ap (λ (k : ℕ). chain (linkOf t) k next) n ∙ chain-suc (linkOf t) (usedOf t - count) next p
+
+  -- the chain has not as many rows as are used
+  miscounted : (length (path t) ≡ usedOf t → ⊥) → false ≡ (visitsEach t && namesRise t)
+  unfolding visitsEach
+  miscounted d = sym (rw (ne-eqb (length (path t)) (usedOf t) d))
+
+  pub pass-short : next ≡ 0 → count < usedOf t → false ≡ (visitsEach t && namesRise t)
+  pass-short e h = miscounted (λ q. omega (arith, w .lengths, ap length (ended e)))
+
+  pub pass-falls : 1 ≤ next → nameOf t next ≤ low → false ≡ (visitsEach t && namesRise t)
+  unfolding namesRise risesFrom
+  pass-falls p h =
+      let f : namesRise t ≡ false = w .rising ∙ ap (risesFrom low (nameOf t)) (goes-on p) ∙ rw (le-ltb low (nameOf t next) h) in
+      sym (rw f (and-false (visitsEach t)))
+
+  pub pass-all : count ≡ usedOf t → (eqb next 0 && every (usedOf t) seen) ≡ (visitsEach t && namesRise t)
+  unfolding visitsEach namesRise among risesFrom
+  pass-all e = go (decLe 1 next)
+    where
+      go : Dec (1 ≤ next) → (eqb next 0 && every (usedOf t) seen) ≡ (visitsEach t && namesRise t)
+      go (yes p) = rw (ne-eqb next 0 (λ q. omega arith)) (miscounted (λ q. omega (arith, w .lengths, ap length (goes-on p))))
+      go (no p) =
+          let z : next ≡ 0 = omega arith in
+          let n : length (path t) ≡ usedOf t = omega (arith, w .lengths, ap length (ended z)) in
+          let m : among (path t) ≡ seen = w .members ∙ fun-ext (λ i. ap (λ (xs : List ℕ). seen i || among xs i) (ended z) ∙ or-false (seen i)) in
+          let r : risesFrom 0 (nameOf t) (path t) ≡ true = w .rising ∙ ap (risesFrom low (nameOf t)) (ended z) in
+          rw (eq-eqb next 0 z, eq-eqb (length (path t)) (usedOf t) n, m, r) (sym (and-true (every (usedOf t) seen)))

@@ -1,36 +1,60 @@
-// Questions 6 and 7 about a set of rows that answered.
+// What is found of a set of rows that answered: its good rows, the list in force, and questions 6 and 7.
 use bools::both;
-use chain::Order;
-use polls::Poll;
 use quorums::Kind;
 use rows::RowSet;
 ghost use mathlib.Core.Path.{_≡_};
 ghost use mathlib.Core.Bool.{true, cond, _&&_};
-ghost use Prim.Native.Nat.{ℕ, _≤_};
-ghost use lib.ListN.{length, take};
-ghost use Rattle.sets.specs.Upto.{some, most};
+ghost use Prim.Native.Nat.{ℕ};
+ghost use lib.ListN.{take};
+ghost use Rattle.sets.specs.Upto.{Within, some, lowest};
 ghost use Rattle.sets.specs.Sets.{has};
+ghost use Rattle.fields.specs.Layout.{usedOf};
+ghost use Rattle.table.specs.Contracts.{Sized, Listed};
 ghost use Rattle.protocol.specs.Lists.{listQuorum};
-ghost use Rattle.protocol.specs.Polls.{inForce};
-ghost use Rattle.protocol.specs.Calls.{answers};
-ghost use Rattle.places.specs.Places.{placed};
-ghost use Rattle.verdicts.specs.Judged.{Gathered, Judged};
+ghost use Rattle.protocol.specs.Polls.{Poll};
+ghost use Rattle.polls.specs.Shows.{Shows};
+ghost use Rattle.verdicts.specs.Tallied.{listOf, pollOf, Tallied};
 
-// Of a set: the first no among questions 6 and 7 (0: none), its good rows, their version, the highest epoch and its list V.
-pub struct Verdict {
-    pub refusal: u32,
+// Of a set, by the poll: its good rows, their version, is it current, the highest epoch, the rows that have it.
+pub struct Tally {
     pub good: RowSet,
     pub version: u32,
+    pub current: bool,
     pub epoch: u32,
-    pub list: RowSet,
+    pub leaders: RowSet,
 }
 
-// V: the list of the highest epoch in a set of rows that answered.
-fn list_in_force(t: &[u8], o: Order, p: Poll, answering: RowSet, s: RowSet, epoch: u32) -> RowSet
-    requires { ⌜ Gathered (now t) (o .rows) (o .count) p (answering .bits) × ((i : ℕ) → has (s .bits) i ≡ true → has (answering .bits) i ≡ true) × (epoch ≡ most 64 (has (s .bits)) (placed (p .epochs))) ⌝ }
-    ensures { λ r. ⌜ r .bits ≡ inForce (answers (now (t .entry)) (answering .bits)) (has (s .bits)) ⌝ }
+// What a poll says of a set of rows. The arrays are those of the poll.
+pub fn tally_of<'a>(
+    stale: RowSet,
+    versions: &'a [u32; 64],
+    desired: &'a [u32; 64],
+    epochs: &'a [u32; 64],
+    s: RowSet,
+) -> Tally
+    ensures { λ r. ⌜ ((p : Poll) → Shows (pollOf stale (now (versions .entry)) (now (desired .entry)) (now (epochs .entry))) p → Tallied p (has (s .bits)) r) ⌝ }
 {
-    let leader = places::having(&p.epochs, s, epoch).lowest();
+    let best = places::best(versions, s.outside(stale));
+    let passed = places::above(desired, s.cut(stale), best.value);
+    let good = best.rows;
+    let lacking = good.is_empty();
+    let latest = places::best(epochs, s);
+    let leaders = latest.rows;
+    Tally {
+        good: good,
+        version: best.value,
+        current: both(!lacking, !passed),
+        epoch: latest.value,
+        leaders: leaders,
+    }
+}
+
+// The list of the lowest of some rows; the empty one where there is none.
+pub fn list_of(t: &[u8], leaders: RowSet) -> RowSet
+    requires { ⌜ Sized (now t) × ((i : ℕ) → has (leaders .bits) i ≡ true → Within (usedOf (now t)) i) ⌝ }
+    ensures { λ r. ⌜ r .bits ≡ listOf (now (t .entry)) (lowest 64 (has (leaders .bits))) ⌝ }
+{
+    let leader = leaders.lowest();
     if leader == 0 {
         return RowSet::EMPTY;
     }
@@ -40,49 +64,30 @@ fn list_in_force(t: &[u8], o: Order, p: Poll, answering: RowSet, s: RowSet, epoc
 }
 
 // Question 6: does a set hold a quorum of a list? An empty one does not.
-fn quorum_held(kind: Kind, o: Order, list: RowSet, s: RowSet) -> bool
-    requires { ⌜ (length (o .rows) ≡ 64) × (o .count ≤ 64) ⌝ }
-    ensures { λ r. ⌜ r ≡ (some 64 (has (s .bits)) && listQuorum kind (take (o .count) (o .rows)) (list .bits) (has (s .bits))) ⌝ }
+fn quorum_held(kind: Kind, order: &[u8; 64], count: usize, list: RowSet, s: RowSet) -> bool
+    requires { ⌜ Listed 64 (now order) count ⌝ }
+    ensures { λ r. ⌜ r ≡ (some 64 (has (s .bits)) && listQuorum kind (take count (now (order .entry))) (list .bits) (has (s .bits))) ⌝ }
 {
     if s.is_empty() {
         return false;
     }
-    let count = o.count;
-    lists::quorum(kind, &o.rows, count, list, s)
+    lists::quorum(kind, order, count, list, s)
 }
 
-// Questions 6 and 7 by their answers: the first no, 0 where there is none.
-fn refusal_of(held: bool, current: bool) -> u32
-    ensures { λ r. ⌜ r ≡ cond held (cond current 0 7) 6 ⌝ }
+// Questions 6 and 7 of a set, by the list in force and by whether the set is current: the first no, 0 where there is none.
+pub fn asked(
+    kind: Kind,
+    order: &[u8; 64],
+    count: usize,
+    list: RowSet,
+    s: RowSet,
+    current: bool,
+) -> u32
+    requires { ⌜ Listed 64 (now order) count ⌝ }
+    ensures { λ r. ⌜ r ≡ cond (some 64 (has (s .bits)) && listQuorum kind (take count (now (order .entry))) (list .bits) (has (s .bits))) (cond current 0 7) 6 ⌝ }
 {
-    if held {
-        if current {
-            return 0;
-        }
-        return 7;
+    if !quorum_held(kind, order, count, list, s) {
+        return 6;
     }
-    6
-}
-
-// Questions 6 and 7 about a set of rows that answered, and what is found on the way.
-pub fn judge(kind: Kind, t: &[u8], o: Order, p: Poll, answering: RowSet, s: RowSet) -> Verdict
-    requires { ⌜ Gathered (now t) (o .rows) (o .count) p (answering .bits) × ((i : ℕ) → has (s .bits) i ≡ true → has (answering .bits) i ≡ true) ⌝ }
-    ensures { λ r. ⌜ Judged kind (now (t .entry)) (answering .bits) (has (s .bits)) r ⌝ }
-{
-    let unmarked = s.outside(p.stale);
-    let marked = s.cut(p.stale);
-    let version = places::highest(&p.versions, unmarked);
-    let good = places::having(&p.versions, unmarked, version);
-    let passed = places::above(&p.desired, marked, version);
-    let lacking = good.is_empty();
-    let epoch = places::highest(&p.epochs, s);
-    let list = list_in_force(t, o, p, answering, s, epoch);
-    let held = quorum_held(kind, o, list, s);
-    Verdict {
-        refusal: refusal_of(held, both(!lacking, !passed)),
-        good: good,
-        version: version,
-        epoch: epoch,
-        list: list,
-    }
+    if current { 0 } else { 7 }
 }

@@ -16,8 +16,8 @@ use Rattle.protocol.specs.Polls.{goodVersion, good, current, quorumHeld}
 use Rattle.protocol.specs.Rows.{withRows, wroteRow}
 use Rattle.protocol.specs.Calls.{Outcome, write, firstNo, questions, answers, workSet, done, outcome, resultOf}
 use Rattle.protocol.proofs.QuestionLaws.{write-yes, refusal-is, when-done}
-use Rattle.verdicts.specs.declared.Verdict.{Verdict}
-use Rattle.verdicts.specs.Judged.{Judged}
+use Rattle.settle.specs.declared.Settled.{Settled}
+use Rattle.settle.specs.Works.{Works}
 use Rattle.questions.specs.Stages.{toRange}
 use Rattle.questions.proofs.QuestionLaws.{after-range, before-range, Refused, refused-is, no-in, yes-in}
 
@@ -27,27 +27,21 @@ module _ (t : List ℕ) (c r offset : ℕ) (patch : List ℕ) where
   unfolding questions
   write-early n e h = refused-is t (write c r offset patch) n (before-range t c r offset (length patch) _ n e h) h
 
-  module _ (p : firstNo (toRange t c r offset (length patch)) ≡ 0) (s : ℕ → Bool) (v : Verdict) (e : s ≡ workSet Write t c r) (j : Judged Write t r s v) where
-    verdict-is : v .refusal ≡ cond (quorumHeld Write (orderOf t) (answers t r) (workSet Write t c r)) (cond (current (answers t r) (workSet Write t c r)) 0 7) 6
-    verdict-is = j .refusal ∙ ap (λ (x : ℕ → Bool). cond (quorumHeld Write (orderOf t) (answers t r) x) (cond (current (answers t r) x) 0 7) 6) e
-
-    version-is : v .version ≡ goodVersion (answers t r) (workSet Write t c r)
-    version-is = j .version ∙ ap (goodVersion (answers t r)) e
-
+  module _ (p : firstNo (toRange t c r offset (length patch)) ≡ 0) (v : Settled) (j : Works Write t c r v) where
     after-four : firstNo (questions t (write c r offset patch))
         ≡ cond (quorumHeld Write (orderOf t) (answers t r) (workSet Write t c r)) (cond (current (answers t r) (workSet Write t c r)) (cond (ltb (v .version) limit) 0 8) 7) 6
     unfolding questions firstNo
     after-four =
         after-range t c r offset (length patch) _ p
-        ∙ ap (λ (n : ℕ). cond (quorumHeld Write (orderOf t) (answers t r) (workSet Write t c r)) (cond (current (answers t r) (workSet Write t c r)) (cond (ltb n limit) 0 8) 7) 6) (sym version-is)
+        ∙ ap (λ (n : ℕ). cond (quorumHeld Write (orderOf t) (answers t r) (workSet Write t c r)) (cond (current (answers t r) (workSet Write t c r)) (cond (ltb n limit) 0 8) 7) 6) (sym (j .version))
 
     -- refused by 6 or 7
     pub write-no : 1 ≤ v .refusal → Refused t (write c r offset patch) (v .refusal)
-    write-no h = refused-is t (write c r offset patch) (v .refusal) (after-four ∙ no-in (quorumHeld Write (orderOf t) (answers t r) (workSet Write t c r)) (current (answers t r) (workSet Write t c r)) (cond (ltb (v .version) limit) 0 8) (v .refusal) verdict-is h) h
+    write-no h = refused-is t (write c r offset patch) (v .refusal) (after-four ∙ no-in (quorumHeld Write (orderOf t) (answers t r) (workSet Write t c r)) (current (answers t r) (workSet Write t c r)) (cond (ltb (v .version) limit) 0 8) (v .refusal) (j .refusal) h) h
 
     module _ (z : v .refusal ≡ 0) where
       after-seven : firstNo (questions t (write c r offset patch)) ≡ cond (ltb (v .version) limit) 0 8
-      after-seven = after-four ∙ yes-in (quorumHeld Write (orderOf t) (answers t r) (workSet Write t c r)) (current (answers t r) (workSet Write t c r)) (cond (ltb (v .version) limit) 0 8) (v .refusal) verdict-is z
+      after-seven = after-four ∙ yes-in (quorumHeld Write (orderOf t) (answers t r) (workSet Write t c r)) (current (answers t r) (workSet Write t c r)) (cond (ltb (v .version) limit) 0 8) (v .refusal) (j .refusal) z
 
       -- refused by 8
       pub write-full : ltb (v .version) limit ≡ false → Refused t (write c r offset patch) 8
@@ -61,12 +55,12 @@ module _ (t : List ℕ) (c r offset : ℕ) (patch : List ℕ) where
         patch-in = omega (arith, row-length t, write-yes t c r offset patch all-yes .range)
 
         pub write-done : (0 * 2 ^ 32 + (v .version + 1) ≡ resultOf (outcome t (write c r offset patch)))
-            × (withRows t s (wroteRow (has (v .good .bits)) (v .version + 1) offset patch) (usedOf t) ≡ outcome t (write c r offset patch) .table)
+            × (withRows t (has (v .rows .bits)) (wroteRow (has (v .good .bits)) (v .version + 1) offset patch) (usedOf t) ≡ outcome t (write c r offset patch) .table)
         unfolding done resultOf
         write-done =
             let o = when-done t (write c r offset patch) (refusal-is t (write c r offset patch) ∙ all-yes) in (
-              ap (λ (x : ℕ). 0 * 2 ^ 32 + (x + 1)) version-is ∙ sym (ap resultOf o),
-              ap₂ (λ (x : ℕ → Bool) (g : ℕ → Bool). withRows t x (wroteRow g (v .version + 1) offset patch) (usedOf t)) e (j .good ∙ ap (good (answers t r)) e)
-                  ∙ ap (λ (n : ℕ). withRows t (workSet Write t c r) (wroteRow (good (answers t r) (workSet Write t c r)) (n + 1) offset patch) (usedOf t)) version-is
+              ap (λ (x : ℕ). 0 * 2 ^ 32 + (x + 1)) (j .version) ∙ sym (ap resultOf o),
+              ap₂ (λ (x : ℕ → Bool) (g : ℕ → Bool). withRows t x (wroteRow g (v .version + 1) offset patch) (usedOf t)) (j .rows) (j .good)
+                  ∙ ap (λ (n : ℕ). withRows t (workSet Write t c r) (wroteRow (good (answers t r) (workSet Write t c r)) (n + 1) offset patch) (usedOf t)) (j .version)
                   ∙ sym (ap (λ (x : Outcome). x .table) o),
             )

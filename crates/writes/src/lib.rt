@@ -17,13 +17,13 @@ pub fn write(t: &mut [u8], c: usize, r: u64, offset: usize, patch: &[u8]) -> u64
         return result(no, 0);
     }
     let s = settle::settle(Kind::Write, t, c, answering);
-    if s.verdict.refusal != 0 {
-        return result(s.verdict.refusal, 0);
+    if s.refusal != 0 {
+        return result(s.refusal, 0);
     }
-    if !below_limit(s.verdict.version) {
+    if !below_limit(s.version) {
         return result(8, 0);
     }
-    let version = s.verdict.version + 1;
-    store::write_rows(t, s.rows, s.verdict.good, version, offset, patch);
+    let version = s.version + 1;
+    store::write_rows(t, s.rows, s.good, version, offset, patch);
     result(0, version)
 }

@@ -1,28 +1,60 @@
+use mathlib.Core.Path.{_∙_}
 use borrow.Author.Needs.{needs}
-use Rattle.table.proofs.WellFormedLaws.{sized, linked}
+use Rattle.table.proofs.WellFormedLaws.{sized}
+use Rattle.quorums.specs.declared.Kind.the-variants.{Write}
 use Rattle.protocol.specs.Calls.{answers}
-use Rattle.verdicts.specs.Judged.{Gathered}
+use Rattle.sets.specs.Sets.{has}
+use Rattle.polls.specs.declared.Poll.{Poll}
+use Rattle.verdicts.specs.Tallied.{Gathered, Tallied}
+use Rattle.verdicts.proofs.ForceLaws.{gathered, leader-used, force-is, verdict-is}
 use Rattle.checks.proofs.examine.Statement.{statement}
 use Rattle.checks.proofs.examine.Tie as tie
 
-gathered : (c : tie.After-gather) → let a = c .before .before .before .args in let o = c .before .chain-order .result in Gathered (a .t .now) (o .rows) (o .count) (c .gather .result) (a .answering .bits)
-unfolding answers
-gathered c =
+-- the chain order and the poll
+polled-here : (c : tie.After-gather) → let a = c .before .before .before .args in
+    let o = c .before .chain-order .result in
+    Gathered (a .t .now) (o .rows) (o .count) (c .gather .result) (a .answering .bits)
+polled-here c =
     let s = c .before .before .before in
     let o = c .before .chain-order .ensures in
-    record { sized = sized (s .pre .0); places = o .0 .places; few = o .0 .few; order = o .1; poll = c .gather .ensures; used = s .pre .1 }
+    gathered (s .pre .0) (s .pre .1) (o .0) (o .1) (c .gather .ensures)
+
+-- what the poll says of the rows that answered
+found : (c : tie.After-tally-of) → let a = c .before .before .before .before .before .before .before .before .before .args in
+    Tallied (answers (a .t .now) (a .answering .bits)) (has (a .answering .bits)) (c .tally-of .result)
+found c = c .tally-of .ensures _ (polled-here (c .before .before .before .before .before .before) .poll)
 
 chain-order-requires : tie.Need-chain-order-requires
-chain-order-requires c κs = linked (c .before .pre .0)
+chain-order-requires c κs = c .before .pre .0
 
 gather-requires : tie.Need-gather-requires
 gather-requires c κs = let s = c .before .before in (sized (s .pre .0), s .pre .1)
 
-judge-requires : tie.Need-judge-requires
-judge-requires c κs = (gathered c, λ i h. h)
+tally-of-requires : tie.Need-tally-of-requires
+tally-of-requires c κs = search needs
+
+list-of-requires : tie.Need-list-of-requires
+list-of-requires c κs =
+    let t = c .before .before in
+    let g = polled-here (t .before .before .before .before .before .before) in
+    (g .sized, leader-used g (λ i h. h) (found t))
+
+asked-requires : tie.Need-asked-requires
+asked-requires c κs = polled-here (c .before .before .before .before .before .before .before .before .before .before .before) .listed
 
 returns : tie.Need-returns
-returns c = search needs
+returns c =
+    let l = c .before .before .before in
+    let t = l .before .before .before in
+    let g = polled-here (t .before .before .before .before .before .before) in
+    let f = found t in
+    record {
+      refusal = verdict-is g (λ i h. h) f Write _ _ (l .list-of .ensures) (c .asked .ensures);
+      good = f .good;
+      version = f .version;
+      epoch = f .epoch;
+      list = l .list-of .ensures ∙ force-is g (λ i h. h) f;
+    }
 
 pub examine-spec : {M : Type 1} → statement M
 examine-spec =
@@ -30,5 +62,7 @@ examine-spec =
     (tie.spec
     chain-order-requires
     gather-requires
-    judge-requires
+    tally-of-requires
+    list-of-requires
+    asked-requires
     returns)

@@ -1,39 +1,56 @@
-use mathlib.Core.Path.{_≡_, refl, _∙_}
-use Prim.Native.Nat.{_-_, _≤_, _<_}
+use mathlib.Core.Bool.{Bool, _&&_}
+use mathlib.Core.Path.{_≡_, refl, sym, ap, _∙_}
+use Prim.Native.Nat.{ℕ, _-_, _≤_, _<_}
 use native.Mathlib.Omega.{arith}
 use borrow.Author.Needs.{needs}
-use lib.ListN.{length, take}
+use lib.ListN.{length, getD, take}
 use Rattle.lists.proofs.SeatLaws.{seat-next, seat-few, held-next, none-held}
 use Rattle.protocol.specs.Lists.{keep, seats, atSeat}
 use Rattle.sets.proofs.SetLaws.{has-empty}
-use Rattle.sets.specs.Sets.{has}
+use Rattle.sets.specs.Sets.{has, cutTo}
 use Rattle.lists.proofs.held.Statement.{statement}
 use Rattle.lists.proofs.held.Tie as tie
 
 abbrev Inv-loop : tie.InvT-loop
-Inv-loop order count list set positions₀ seat₀ j₀ positions seat j = (j ≤ count) × (seat ≡ length (seats (take j order) (list .bits))) × (has (positions .bits) ≡ atSeat (seats (take j order) (list .bits)) (has (set .bits)))
+Inv-loop order count list shared positions₀ seats₀ j₀ positions taken j = (j ≤ count) × (taken ≡ length (seats (take j order) (list .bits)))
+    × ((s : ℕ → Bool) → has (shared .bits) ≡ cutTo (has (list .bits)) s → has (positions .bits) ≡ atSeat (seats (take j order) (list .bits)) s)
 
 abbrev μ-loop : tie.MeasureT-loop
-μ-loop order count list set positions₀ seat₀ j₀ positions seat j = count - j
+μ-loop order count list shared positions₀ seats₀ j₀ positions taken j = count - j
+
+-- there are fewer seats than 64 in a turn
+few : (c : tie.In-loop Inv-loop μ-loop) → c .before .loop .seats < 64
+few c =
+    let l = c .before .loop in
+    let s = c .before .before .before in
+    omega (arith, seat-few (s .args .order .now) (s .args .list .bits) (l .j) (s .pre .places) (omega (arith, s .pre .few)))
+
+-- and the row at hand has one of 64 places
+place : (c : tie.After-place-at Inv-loop μ-loop) → c .place-at .result < 64
+place c = let s = c .before .before .before .before in omega (arith, c .place-at .ensures, s .pre .each (c .before .before .loop .j) (omega arith))
+
+cut-requires : tie.Need-cut-requires Inv-loop μ-loop
+cut-requires c κs = search needs
 
 loop-holds : tie.Need-loop-holds Inv-loop μ-loop
 unfolding seats keep
-loop-holds c = (omega arith, refl, has-empty ∙ none-held (has (c .args .set .bits)))
+loop-holds c = (omega arith, refl, λ s e. has-empty ∙ none-held s)
 
-next-row-requires : tie.Need-next-row-requires Inv-loop μ-loop
-next-row-requires c κs =
-    let l = c .before .loop in
-    let s = c .before .before in
-    (s .pre .0, omega arith, omega (arith, seat-few (s .args .order .now) (s .args .list .bits) (l .j) (s .pre .0) (omega arith)))
+place-at-requires : tie.Need-place-at-requires Inv-loop μ-loop
+place-at-requires c κs =
+    let s = c .before .before .before in (s .pre .places, omega (arith, s .pre .few), s .pre .each (c .before .loop .j) (omega arith))
 
-has-requires : tie.Need-has-requires Inv-loop μ-loop
-has-requires c κs = search needs
+at-requires : tie.Need-at-requires Inv-loop μ-loop
+at-requires c κs = place c
 
-both-requires : tie.Need-both-requires Inv-loop μ-loop
-both-requires c κs = search needs
+add-requires : tie.Need-add-requires Inv-loop μ-loop
+add-requires c κs = few (c .before .before)
 
-gain-requires : tie.Need-gain-requires Inv-loop μ-loop
-gain-requires c κs = search needs
+at-requires-2 : tie.Need-at-requires-2 Inv-loop μ-loop
+at-requires-2 c κs = place (c .before .before)
+
+step-requires : tie.Need-step-requires Inv-loop μ-loop
+step-requires c κs = few (c .before .before .before .before)
 
 add-j : tie.Need-add-j Inv-loop μ-loop
 add-j c = search needs
@@ -42,19 +59,30 @@ loop-less : tie.Need-loop-less Inv-loop μ-loop
 loop-less c = search needs
 
 loop-again : tie.Need-loop-again Inv-loop μ-loop
+unfolding cutTo
 loop-again c =
-    let l = c .before .before .before .before .before .loop in
-    let s = c .before .before .before .before .before .before in
-    let a = s .args in
-    let w = c .before .before .before .next-row .ensures in
-    let inside : l .j < 64 = omega arith in (
+    let p = c .before .before .before .before in
+    let l = p .before .before .loop in
+    let cut = p .before .before .before in
+    let a = cut .before .args in
+    let places = cut .before .pre .places in
+    let inside : l .j < 64 = omega (arith, cut .before .pre .few) in
+    let row = getD (a .order .now) (l .j) 0 in
+    let shared = has (cut .cut .result .bits) in
+    let listed = c .before .at2 .ensures ∙ ap (has (a .list .bits)) (p .place-at .ensures) in (
       omega arith,
-      seat-next (a .order .now) (a .list .bits) (l .j) (s .pre .0) inside (l .inv .1) w,
-      c .gain .ensures ∙ held-next (a .order .now) (a .list .bits) (l .j) (s .pre .0) inside (l .inv .1) w (has (a .set .bits)) (has (l .positions .bits)) _ _ (l .inv .2) (c .before .before .has .ensures) (c .before .both .ensures),
+      c .step .ensures ∙ seat-next (a .order .now) (a .list .bits) (l .j) places inside (l .inv .1) listed,
+      λ s e. c .before .before .add .ensures
+          ∙ held-next (a .order .now) (a .list .bits) (l .j) places inside (l .inv .1) listed s (has (l .positions .bits)) _ (l .inv .2 s e)
+          (c .before .before .before .at .ensures ∙ ap shared (p .place-at .ensures) ∙ ap (λ (f : ℕ → Bool). f row) e ∙ ap (λ (x : Bool). x && s row) (sym listed)),
     )
 
 returns : tie.Need-returns Inv-loop μ-loop
-returns c = let l = c .before .loop in let e : l .j ≡ c .before .before .args .count = omega arith in rw e at (l .inv .2)
+returns c =
+    let l = c .before .loop in
+    let cut = c .before .before in
+    let e : l .j ≡ cut .before .args .count = omega arith in
+    rw e at (l .inv .2 (has (cut .before .args .set .bits)) (cut .cut .ensures))
 
 pub held-spec : {M : Type 1} → statement M
 held-spec =
@@ -62,11 +90,13 @@ held-spec =
     (tie.spec
     Inv-loop
     μ-loop
+    cut-requires
     loop-holds
-    next-row-requires
-    has-requires
-    both-requires
-    gain-requires
+    place-at-requires
+    at-requires
+    add-requires
+    at-requires-2
+    step-requires
     add-j
     loop-less
     loop-again

@@ -1,5 +1,5 @@
-use mathlib.Core.Bool.{_&&_}
-use mathlib.Core.Path.{_≡_, refl, _∙_}
+use mathlib.Core.Bool.{cond, _&&_}
+use mathlib.Core.Path.{_≡_, refl, ap, _∙_}
 use Prim.Native.Nat.{ℕ, _-_, _≤_, _<_}
 use native.Mathlib.Omega.{arith}
 use borrow.Author.Needs.{needs}
@@ -8,36 +8,51 @@ use lib.Dec.{eqb}
 use Rattle.lists.proofs.SeatLaws.{seat-next, seat-few, standing-next, none-standing}
 use Rattle.protocol.specs.Lists.{keep, seats, atSeat}
 use Rattle.sets.proofs.SetLaws.{has-empty}
-use Rattle.sets.specs.Sets.{has}
+use Rattle.sets.specs.Sets.{has, gaining}
 use Rattle.sets.specs.Upto.{some}
 use Rattle.lists.proofs.standing.Statement.{statement}
 use Rattle.lists.proofs.standing.Tie as tie
 
 abbrev Inv-loop : tie.InvT-loop
-Inv-loop order count list positions rows₀ seat₀ j₀ rows seat j = (j ≤ count) × (seat ≡ length (seats (take j order) (list .bits)))
+Inv-loop order count list positions rows₀ seats₀ j₀ rows taken j = (j ≤ count) × (taken ≡ length (seats (take j order) (list .bits)))
     × (has (rows .bits) ≡ (λ (i : ℕ). some 64 (λ k. has (positions .bits) k && atSeat (seats (take j order) (list .bits)) (eqb i) k)))
 
 abbrev μ-loop : tie.MeasureT-loop
-μ-loop order count list positions rows₀ seat₀ j₀ rows seat j = count - j
+μ-loop order count list positions rows₀ seats₀ j₀ rows taken j = count - j
+
+-- there are fewer seats than 64 in a turn
+few : (c : tie.In-loop Inv-loop μ-loop) → c .before .loop .seats < 64
+few c =
+    let l = c .before .loop in
+    let s = c .before .before in
+    omega (arith, seat-few (s .args .order .now) (s .args .list .bits) (l .j) (s .pre .places) (omega (arith, s .pre .few)))
+
+-- and the row at hand has one of 64 places
+place : (c : tie.After-place-at Inv-loop μ-loop) → c .place-at .result < 64
+place c = let s = c .before .before .before in omega (arith, c .place-at .ensures, s .pre .each (c .before .before .loop .j) (omega arith))
 
 loop-holds : tie.Need-loop-holds Inv-loop μ-loop
 unfolding seats keep
 loop-holds c = (omega arith, refl, has-empty ∙ none-standing (has (c .args .positions .bits)))
 
-next-row-requires : tie.Need-next-row-requires Inv-loop μ-loop
-next-row-requires c κs =
-    let l = c .before .loop in
-    let s = c .before .before in
-    (s .pre .0, omega arith, omega (arith, seat-few (s .args .order .now) (s .args .list .bits) (l .j) (s .pre .0) (omega arith)))
+place-at-requires : tie.Need-place-at-requires Inv-loop μ-loop
+place-at-requires c κs =
+    let s = c .before .before in (s .pre .places, omega (arith, s .pre .few), s .pre .each (c .before .loop .j) (omega arith))
 
-has-requires : tie.Need-has-requires Inv-loop μ-loop
-has-requires c κs = search needs
+at-requires : tie.Need-at-requires Inv-loop μ-loop
+at-requires c κs = place c
+
+at-requires-2 : tie.Need-at-requires-2 Inv-loop μ-loop
+at-requires-2 c κs = few (c .before .before)
 
 both-requires : tie.Need-both-requires Inv-loop μ-loop
 both-requires c κs = search needs
 
-gain-requires : tie.Need-gain-requires Inv-loop μ-loop
-gain-requires c κs = search needs
+add-requires : tie.Need-add-requires Inv-loop μ-loop
+add-requires c κs = place (c .before .before .before)
+
+step-requires : tie.Need-step-requires Inv-loop μ-loop
+step-requires c κs = few (c .before .before .before .before .before)
 
 add-j : tie.Need-add-j Inv-loop μ-loop
 add-j c = search needs
@@ -47,14 +62,19 @@ loop-less c = search needs
 
 loop-again : tie.Need-loop-again Inv-loop μ-loop
 loop-again c =
-    let l = c .before .before .before .before .before .loop in
-    let s = c .before .before .before .before .before .before in
+    let p = c .before .before .before .before .before in
+    let l = p .before .before .loop in
+    let s = p .before .before .before in
     let a = s .args in
-    let w = c .before .before .before .next-row .ensures in
-    let inside : l .j < 64 = omega arith in (
+    let inside : l .j < 64 = omega (arith, s .pre .few) in
+    let set = has (l .rows .bits) in
+    let b = c .before .before .both in
+    let listed = c .before .before .before .before .at .ensures ∙ ap (has (a .list .bits)) (p .place-at .ensures) in (
       omega arith,
-      seat-next (a .order .now) (a .list .bits) (l .j) (s .pre .0) inside (l .inv .1) w,
-      c .gain .ensures ∙ standing-next (a .order .now) (a .list .bits) (l .j) (s .pre .0) inside (l .inv .1) w (has (a .positions .bits)) (has (l .rows .bits)) _ _ (omega arith) (l .inv .2) (c .before .before .has .ensures) (c .before .both .ensures),
+      c .step .ensures ∙ seat-next (a .order .now) (a .list .bits) (l .j) (s .pre .places) inside (l .inv .1) listed,
+      c .before .add .ensures ∙ ap (λ (i : ℕ). cond (b .result) (gaining set i) set) (p .place-at .ensures)
+          ∙ standing-next (a .order .now) (a .list .bits) (l .j) (s .pre .places) inside (l .inv .1) listed (has (a .positions .bits)) set _ (s .pre .each (l .j) (omega arith)) (l .inv .2)
+          (b .ensures ∙ ap (_&&_ (c .before .before .before .before .at .result)) (c .before .before .before .at2 .ensures)),
     )
 
 returns : tie.Need-returns Inv-loop μ-loop
@@ -67,10 +87,12 @@ standing-spec =
     Inv-loop
     μ-loop
     loop-holds
-    next-row-requires
-    has-requires
+    place-at-requires
+    at-requires
+    at-requires-2
     both-requires
-    gain-requires
+    add-requires
+    step-requires
     add-j
     loop-less
     loop-again

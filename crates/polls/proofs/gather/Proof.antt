@@ -1,111 +1,135 @@
-use mathlib.Core.Bool.{Bool, _&&_, cond}
-use mathlib.Core.Path.{_≡_, refl, ap, _∙_}
-use Prim.Native.Nat.{_+_, _-_, _≤_, _<_}
+use mathlib.Core.Bool.{Bool, true, _&&_, cond}
+use mathlib.Core.Path.{_≡_, refl, sym, ap, _∙_, subst}
+use mathlib.Core.List.{List}
+use Prim.Native.Nat.{ℕ}
 use native.Mathlib.Omega.{arith}
 use borrow.Author.Needs.{needs}
-use Rattle.places.proofs.PlaceLaws.{upTo, gathered-none, gathered-next, gathered-used, Placed, placed-none, placed-more, placed-masked}
+use borrow.Author.Tests.{not-true, not-false}
+use lib.Dec.{eqb}
+use lib.ListN.{length, length-set}
+use Rattle.places.proofs.PlaceLaws.{placed-none, placed-more, gained-more}
+use Rattle.polls.specs.Shows.{Shows}
 use Rattle.protocol.specs.Polls.{polled}
-use Rattle.table.proofs.WellFormedLaws.{long, few-rows}
-use Rattle.fields.specs.Layout.{usedOf, staleOf, versionOf, desiredOf, epochOf}
-use Rattle.sets.proofs.SetLaws.{has-empty}
-use Rattle.sets.specs.Sets.{has}
+use Rattle.fields.specs.Layout.{get, mark, version, desired, epoch, usedOf, staleOf, versionOf, desiredOf, epochOf}
+use Rattle.sets.proofs.SetLaws.{has-empty, has-within}
+use Rattle.sets.proofs.MemberLaws.{only, Taken, none-taken, all-taken, at-hand, in-set, fewer-left, one-taken}
+use Rattle.sets.specs.Sets.{has, noRow, joining}
+use Rattle.sets.specs.Upto.{Within, some}
 use Rattle.polls.proofs.gather.Statement.{statement}
 use Rattle.polls.proofs.gather.Tie as tie
 
+-- the poll shows what the rows taken so far say
 abbrev Inv-loop : tie.InvT-loop
-Inv-loop t answering used stale₀ versions₀ desired₀ epochs₀ k₀ stale versions desired epochs k = (k ≤ used) × (used ≤ 64) × (has (stale .bits) ≡ upTo (λ i. has (answering .bits) i && staleOf t i) k)
-    × Placed (λ i. cond (has (answering .bits) i) (versionOf t i) 0) k versions
-    × Placed (λ i. cond (has (answering .bits) i) (desiredOf t i) 0) k desired
-    × Placed (λ i. cond (has (answering .bits) i) (epochOf t i) 0) k epochs
+Inv-loop t p₀ left₀ p left = (s : ℕ → Bool) × Taken (left₀ .bits) (left .bits) s × Shows p (polled t s)
+    × (length (p .versions) ≡ 64) × (length (p .desired) ≡ 64) × (length (p .epochs) ≡ 64)
 
 abbrev μ-loop : tie.MeasureT-loop
-μ-loop t answering used stale₀ versions₀ desired₀ epochs₀ k₀ stale versions desired epochs k = used - k
+μ-loop t p₀ left₀ p left = left .bits
 
-used-requires : tie.Need-used-requires Inv-loop μ-loop
-used-requires c κs = long (c .before .pre .0)
+-- in a turn some row is left
+some-left : (c : tie.Then1 Inv-loop μ-loop) → some 64 (has (c .before .before .loop .left .bits)) ≡ true
+some-left c = not-false _ (sym (c .before .is-empty .ensures) ∙ not-true _ (c .if1 .taken))
+
+-- and the lowest of them is at hand: a used row
+hand : (c : tie.After-lowest Inv-loop μ-loop) → Within 64 (c .lowest .result)
+hand c = at-hand (c .before .before .before .loop .inv .1) (some-left (c .before)) (c .lowest .ensures) .0
+
+used : (c : tie.After-lowest Inv-loop μ-loop) → Within (usedOf (c .before .before .before .before .before .args .t .now)) (c .lowest .result)
+used c =
+    let s = c .before .before .before .before .before in
+    has-within (usedOf (s .args .t .now)) (s .args .answering .bits) _ (s .pre .1) (in-set (c .before .before .before .loop .inv .1) (some-left (c .before)) (c .lowest .ensures))
 
 loop-holds : tie.Need-loop-holds Inv-loop μ-loop
-unfolding has
-loop-holds c =
-    let p = c .before .before in
-    (omega arith, omega (arith, c .used .ensures, few-rows (p .pre .0)), has-empty ∙ gathered-none _ refl, placed-none _, placed-none _, placed-none _)
+unfolding polled noRow
+loop-holds c = (noRow, none-taken _, record { stale = has-empty; versions = placed-none (λ i. 0); desired = placed-none (λ i. 0); epochs = placed-none (λ i. 0) }, refl, refl, refl)
 
-add-said-by : tie.Need-add-said-by Inv-loop μ-loop
-add-said-by c = search needs
+is-empty-requires : tie.Need-is-empty-requires Inv-loop μ-loop
+is-empty-requires c κs = search needs
 
-add-has : tie.Need-add-has Inv-loop μ-loop
-add-has c = search needs
+lowest-requires : tie.Need-lowest-requires Inv-loop μ-loop
+lowest-requires c κs = search needs
 
-has-requires : tie.Need-has-requires Inv-loop μ-loop
-has-requires c κs = search needs
+row-of-requires : tie.Need-row-of-requires Inv-loop μ-loop
+row-of-requires c κs = (c .before .before .before .before .before .pre .0, used c)
 
-said-by-requires : tie.Need-said-by-requires Inv-loop μ-loop
-said-by-requires c κs =
-    let l = c .before .before .loop in
-    let s = c .before .before .before in
-    (s .before .before .pre .0, omega (arith, s .used .ensures))
-
-add-gain : tie.Need-add-gain Inv-loop μ-loop
-add-gain c = search needs
+is-stale-requires : tie.Need-is-stale-requires Inv-loop μ-loop
+is-stale-requires c κs = c .before .row-of .ensures .1
 
 gain-requires : tie.Need-gain-requires Inv-loop μ-loop
 gain-requires c κs = search needs
 
-mul-versions : tie.Need-mul-versions Inv-loop μ-loop
-mul-versions c = search needs
+sub-k : tie.Need-sub-k Inv-loop μ-loop
+sub-k c = omega (arith, hand (c .before .before .before .before))
 
-array-write-versions : tie.Need-array-write-versions Inv-loop μ-loop
-array-write-versions c = search needs
+version-requires : tie.Need-version-requires Inv-loop μ-loop
+version-requires c κs = c .before .before .before .row-of .ensures .1
 
-mul-desired : tie.Need-mul-desired Inv-loop μ-loop
-mul-desired c = search needs
+mul-p : tie.Need-mul-p Inv-loop μ-loop
+mul-p c = omega (arith, hand (c .before .before .before .before .before))
 
-array-write-desired : tie.Need-array-write-desired Inv-loop μ-loop
-array-write-desired c = search needs
+element-write-p : tie.Need-element-write-p Inv-loop μ-loop
+element-write-p c = omega (arith, hand (c .before .before .before .before .before))
 
-mul-epochs : tie.Need-mul-epochs Inv-loop μ-loop
-mul-epochs c = search needs
+desired-requires : tie.Need-desired-requires Inv-loop μ-loop
+desired-requires c κs = c .before .before .before .before .row-of .ensures .1
 
-array-write-epochs : tie.Need-array-write-epochs Inv-loop μ-loop
-array-write-epochs c = search needs
+mul-p-2 : tie.Need-mul-p-2 Inv-loop μ-loop
+mul-p-2 c = omega (arith, hand (c .before .before .before .before .before .before))
 
-add-k : tie.Need-add-k Inv-loop μ-loop
-add-k c = search needs
+element-write-p-2 : tie.Need-element-write-p-2 Inv-loop μ-loop
+element-write-p-2 c = omega (arith, hand (c .before .before .before .before .before .before))
+
+epoch-requires : tie.Need-epoch-requires Inv-loop μ-loop
+epoch-requires c κs = c .before .before .before .before .before .row-of .ensures .1
+
+mul-p-3 : tie.Need-mul-p-3 Inv-loop μ-loop
+mul-p-3 c = omega (arith, hand (c .before .before .before .before .before .before .before))
+
+element-write-p-3 : tie.Need-element-write-p-3 Inv-loop μ-loop
+element-write-p-3 c = omega (arith, hand (c .before .before .before .before .before .before .before))
+
+rest-requires : tie.Need-rest-requires Inv-loop μ-loop
+rest-requires c κs = search needs
 
 loop-less : tie.Need-loop-less Inv-loop μ-loop
-loop-less c = search needs
+loop-less c =
+    let w = c .before .before .before .before .before .before .before .before in
+    fewer-left (w .before .before .before .loop .inv .1) (some-left (w .before)) (w .lowest .ensures) (c .rest .ensures)
 
 loop-again : tie.Need-loop-again Inv-loop μ-loop
+unfolding polled staleOf versionOf desiredOf epochOf
 loop-again c =
-    let l = c .before .before .before .before .loop in
-    let s = c .before .before .before .before .before in
-    let a = s .before .before .args in
-    let h = c .before .before .has .ensures in
-    let y = c .before .said-by .ensures in
-    let inside : l .k < 64 = omega arith in (
-      omega arith,
-      l .inv .1,
-      c .gain .ensures ∙ gathered-next (λ i. has (a .answering .bits) i && staleOf (a .t .now) i) (has (l .stale .bits)) (l .k) _ inside (l .inv .2)
-          (y .stale ∙ ap (λ (b : Bool). b && staleOf (a .t .now) (l .k + 1)) h),
-      placed-more _ (l .k) _ _ inside (y .version ∙ ap (λ (b : Bool). cond b (versionOf (a .t .now) (l .k + 1)) 0) h) (l .inv .3),
-      placed-more _ (l .k) _ _ inside (y .desired ∙ ap (λ (b : Bool). cond b (desiredOf (a .t .now) (l .k + 1)) 0) h) (l .inv .4),
-      placed-more _ (l .k) _ _ inside (y .epoch ∙ ap (λ (b : Bool). cond b (epochOf (a .t .now) (l .k + 1)) 0) h) (l .inv .5),
+    let e = c .before in
+    let d = e .before in
+    let v = d .before in
+    let g = v .before in
+    let m = g .before in
+    let r = m .before .before in
+    let w = r .before in
+    let l = w .before .before .before .loop in
+    let i = w .lowest .result in
+    let s = l .inv .0 in
+    let row = r .row-of .ensures .0 in
+    let shown = l .inv .2 in (
+      joining s (only i),
+      one-taken (l .inv .1) (some-left (w .before)) (w .lowest .ensures) (c .rest .ensures),
+      record {
+        stale = g .gain .ensures ∙ gained-more s i (hand w) _ _ _ (shown .stale) (m .is-stale .ensures ∙ ap (λ (b : List ℕ). eqb (get mark b) 1) row);
+        versions = placed-more s i (hand w) _ _ _ (l .inv .3) (shown .versions) (v .version .ensures ∙ ap (get version) row);
+        desired = placed-more s i (hand w) _ _ _ (l .inv .4) (shown .desired) (d .desired .ensures ∙ ap (get desired) row);
+        epochs = placed-more s i (hand w) _ _ _ (l .inv .5) (shown .epochs) (e .epoch .ensures ∙ ap (get epoch) row);
+      },
+      simp length-set (l .inv .3),
+      simp length-set (l .inv .4),
+      simp length-set (l .inv .5),
     )
 
 returns : tie.Need-returns Inv-loop μ-loop
-unfolding polled
 returns c =
-    let l = c .before .loop in
-    let s = c .before .before in
-    let a = s .before .before .args in
-    let n : l .k ≡ usedOf (a .t .now) = omega (arith, s .used .ensures) in
-    let small = s .before .before .pre .1 in
-    record {
-      stale = l .inv .2 ∙ ap (upTo _) n ∙ gathered-used (a .answering .bits) (usedOf (a .t .now)) (staleOf (a .t .now)) small;
-      versions = placed-masked (a .answering .bits) (usedOf (a .t .now)) (versionOf (a .t .now)) small _ (rw n at (l .inv .3));
-      desired = placed-masked (a .answering .bits) (usedOf (a .t .now)) (desiredOf (a .t .now)) small _ (rw n at (l .inv .4));
-      epochs = placed-masked (a .answering .bits) (usedOf (a .t .now)) (epochOf (a .t .now)) small _ (rw n at (l .inv .5));
-    }
+    let l = c .before .before .loop in
+    let a = c .before .before .before .before .args in
+    let all = all-taken (l .inv .1) (omega arith) (sym (c .before .is-empty .ensures) ∙ not-false _ (c .if1 .left)) in
+    subst (λ (f : ℕ → Bool). Shows (l .p) (polled (a .t .now) f)) (sym all) (l .inv .2)
 
 pub gather-spec : {M : Type 1} → statement M
 gather-spec =
@@ -113,21 +137,23 @@ gather-spec =
     (tie.spec
     Inv-loop
     μ-loop
-    used-requires
     loop-holds
-    add-said-by
-    add-has
-    has-requires
-    said-by-requires
-    add-gain
+    is-empty-requires
+    lowest-requires
+    row-of-requires
+    is-stale-requires
     gain-requires
-    mul-versions
-    array-write-versions
-    mul-desired
-    array-write-desired
-    mul-epochs
-    array-write-epochs
-    add-k
+    sub-k
+    version-requires
+    mul-p
+    element-write-p
+    desired-requires
+    mul-p-2
+    element-write-p-2
+    epoch-requires
+    mul-p-3
+    element-write-p-3
+    rest-requires
     loop-less
     loop-again
     returns)

@@ -5,11 +5,8 @@ use lib.ListN.{length}
 use Rattle.bytes.specs.Bytes.{part}
 use Rattle.fields.specs.Layout.{rowBytes, contents}
 use Rattle.table.proofs.WellFormedLaws.{sized}
-use Rattle.sets.specs.Sets.{has}
-use Rattle.quorums.specs.declared.Kind.the-variants.{Read}
-use Rattle.protocol.specs.Calls.{firstNo, lent, workSet}
+use Rattle.protocol.specs.Calls.{firstNo, lent}
 use Rattle.protocol.proofs.QuestionLaws.{ByCoordinator}
-use Rattle.verdicts.specs.Judged.{Judged}
 use Rattle.questions.specs.Stages.{toRange}
 use Rattle.questions.proofs.QuestionLaws.{range-passed}
 use Rattle.reads.proofs.ReadLaws.{read-early, read-long, read-no, source-used, range-in, read-done}
@@ -28,13 +25,8 @@ asked c = let a = c .before .before .before .before .args in range-passed (a .t 
 fitting : (c : tie.Else2) → let a = c .before .before .before .before .before .args in length (a .buffer .now) ≡ a .count
 fitting c = omega arith
 
--- the rows worked on, and what is found of them
-worked : (c : tie.After-settle) → let a = c .before .before .before .before .before .before .args in
-    (has (c .settle .result .rows .bits) ≡ workSet Read (a .t .now) (a .c) (a .r)) × Judged Read (a .t .now) (a .r) (has (c .settle .result .rows .bits)) (c .settle .result .verdict)
-worked c = c .settle .ensures
-
 -- 6 and 7 are passed
-settled-here : (c : tie.Else3) → c .before .before .settle .result .verdict .refusal ≡ 0
+settled-here : (c : tie.Else3) → c .before .before .settle .result .refusal ≡ 0
 settled-here c = omega arith
 
 range-asked-requires : tie.Need-range-asked-requires
@@ -71,8 +63,7 @@ unfolding lent
 returns-3 c =
     let a = c .before .before .before .before .before .before .before .before .before .args in
     let s = c .before .before .before .settle in
-    let w = worked (c .before .before .before) in
-    let no = read-no (a .t .now) (a .c) (a .r) (a .offset) (a .count) (a .buffer .now) (passed (c .before .before .before .before .before)) (fitting (c .before .before .before .before)) _ (s .result .verdict) (w .0) (w .1) (omega arith) in
+    let no = read-no (a .t .now) (a .c) (a .r) (a .offset) (a .count) (a .buffer .now) (passed (c .before .before .before .before .before)) (fitting (c .before .before .before .before)) (s .result) (s .ensures) (omega arith) in
     (c .result3 .ensures ∙ no .result, no .table, no .buffer)
 
 lowest-requires : tie.Need-lowest-requires
@@ -82,16 +73,14 @@ row-of-requires : tie.Need-row-of-requires
 row-of-requires c κs =
     let a = c .before .before .before .before .before .before .before .before .before .args in
     let s = c .before .before .before .settle in
-    let w = worked (c .before .before .before) in
-    (sized (asked (c .before .before .before .before .before) .formed), rw (c .lowest .ensures) (source-used (a .t .now) (a .c) (a .r) (a .offset) (a .count) (a .buffer .now) (passed (c .before .before .before .before .before)) (fitting (c .before .before .before .before)) _ (s .result .verdict) (w .0) (w .1) (settled-here (c .before))))
+    (sized (asked (c .before .before .before .before .before) .formed), rw (c .lowest .ensures) (source-used (a .t .now) (a .c) (a .r) (a .offset) (a .count) (a .buffer .now) (passed (c .before .before .before .before .before)) (fitting (c .before .before .before .before)) (s .result) (s .ensures) (settled-here (c .before))))
 
 copy-out-requires : tie.Need-copy-out-requires
 copy-out-requires c κs =
     let a = c .before .before .before .before .before .before .before .before .before .before .before .args in
     let s = c .before .before .before .before .before .settle in
-    let w = worked (c .before .before .before .before .before) in
     rw (c .before .row-of .ensures .0, c .before .before .lowest .ensures)
-    (range-in (a .t .now) (a .c) (a .r) (a .offset) (a .count) (a .buffer .now) (passed (c .before .before .before .before .before .before .before)) (fitting (c .before .before .before .before .before .before)) _ (s .result .verdict) (w .0) (w .1) (settled-here (c .before .before .before)))
+    (range-in (a .t .now) (a .c) (a .r) (a .offset) (a .count) (a .buffer .now) (passed (c .before .before .before .before .before .before .before)) (fitting (c .before .before .before .before .before .before)) (s .result) (s .ensures) (settled-here (c .before .before .before)))
 
 result-requires-4 : tie.Need-result-requires-4
 result-requires-4 c κs = search needs
@@ -103,8 +92,7 @@ returns-4 : tie.Need-returns-4
 returns-4 c =
     let a = c .before .before .before .before .before .before .before .before .before .before .before .before .before .before .before .args in
     let s = c .before .before .before .before .before .before .before .before .before .settle in
-    let w = worked (c .before .before .before .before .before .before .before .before .before) in
-    let yes = read-done (a .t .now) (a .c) (a .r) (a .offset) (a .count) (a .buffer .now) (passed (c .before .before .before .before .before .before .before .before .before .before .before)) (fitting (c .before .before .before .before .before .before .before .before .before .before)) _ (s .result .verdict) (w .0) (w .1) (settled-here (c .before .before .before .before .before .before .before)) in
+    let yes = read-done (a .t .now) (a .c) (a .r) (a .offset) (a .count) (a .buffer .now) (passed (c .before .before .before .before .before .before .before .before .before .before .before)) (fitting (c .before .before .before .before .before .before .before .before .before .before)) (s .result) (s .ensures) (settled-here (c .before .before .before .before .before .before .before)) in
     let row = c .before .before .before .before .before .row-of .ensures .0 ∙ ap (rowBytes (a .t .now)) (c .before .before .before .before .before .before .lowest .ensures) in
     (c .result4 .ensures ∙ yes .0, yes .1, c .before .before .before .copy-out .ensures ∙ ap (λ x. part (a .offset) (length (a .buffer .now)) (contents x)) row ∙ yes .2)
 

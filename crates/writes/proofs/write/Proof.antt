@@ -7,11 +7,8 @@ use lib.Dec.{ltb}
 use lib.ListN.{length}
 use Rattle.table.proofs.WellFormedLaws.{sized}
 use Rattle.table.specs.WellFormed.{limit}
-use Rattle.sets.specs.Sets.{has}
-use Rattle.quorums.specs.declared.Kind.the-variants.{Write}
-use Rattle.protocol.specs.Calls.{firstNo, workSet}
+use Rattle.protocol.specs.Calls.{firstNo}
 use Rattle.protocol.proofs.QuestionLaws.{ByCoordinator}
-use Rattle.verdicts.specs.Judged.{Judged}
 use Rattle.questions.specs.Stages.{toRange}
 use Rattle.questions.proofs.QuestionLaws.{range-passed}
 use Rattle.writes.proofs.WriteLaws.{write-early, write-no, write-full, patch-in, write-done}
@@ -26,17 +23,12 @@ passed c = sym (c .before .range-asked .ensures) ∙ (let none : c .before .rang
 asked : (c : tie.Else1) → let a = c .before .before .before .before .before .args in ByCoordinator (a .t .now) (a .c) (a .r)
 asked c = let a = c .before .before .before .before .before .args in range-passed (a .t .now) (a .c) (a .r) (a .offset) (length (a .patch .now)) (passed c) .0
 
--- the rows worked on, and what is found of them
-worked : (c : tie.After-settle) → let a = c .before .before .before .before .before .before .before .args in
-    (has (c .settle .result .rows .bits) ≡ workSet Write (a .t .now) (a .c) (a .r)) × Judged Write (a .t .now) (a .r) (has (c .settle .result .rows .bits)) (c .settle .result .verdict)
-worked c = c .settle .ensures
-
 -- 6 and 7 are passed
-settled-here : (c : tie.Else2) → c .before .before .settle .result .verdict .refusal ≡ 0
+settled-here : (c : tie.Else2) → c .before .before .settle .result .refusal ≡ 0
 settled-here c = omega arith
 
 -- 8 is passed
-room : (c : tie.Else3) → ltb (c .before .before .before .before .settle .result .verdict .version) limit ≡ true
+room : (c : tie.Else3) → ltb (c .before .before .before .before .settle .result .version) limit ≡ true
 room c = sym (c .before .below-limit .ensures) ∙ not-false _ (c .if3 .left)
 
 range-asked-requires : tie.Need-range-asked-requires
@@ -67,8 +59,7 @@ returns-2 : tie.Need-returns-2
 returns-2 c =
     let a = c .before .before .before .before .before .before .before .before .before .before .args in
     let s = c .before .before .before .settle in
-    let w = worked (c .before .before .before) in
-    let no = write-no (a .t .now) (a .c) (a .r) (a .offset) (a .patch .now) (passed (c .before .before .before .before .before)) _ (s .result .verdict) (w .0) (w .1) (omega arith) in
+    let no = write-no (a .t .now) (a .c) (a .r) (a .offset) (a .patch .now) (passed (c .before .before .before .before .before)) (s .result) (s .ensures) (omega arith) in
     (c .result2 .ensures ∙ no .result, no .table)
 
 below-limit-requires : tie.Need-below-limit-requires
@@ -84,22 +75,20 @@ returns-3 : tie.Need-returns-3
 returns-3 c =
     let a = c .before .before .before .before .before .before .before .before .before .before .before .before .args in
     let s = c .before .before .before .before .before .settle in
-    let w = worked (c .before .before .before .before .before) in
-    let no = write-full (a .t .now) (a .c) (a .r) (a .offset) (a .patch .now) (passed (c .before .before .before .before .before .before .before)) _ (s .result .verdict) (w .0) (w .1) (settled-here (c .before .before .before))
+    let no = write-full (a .t .now) (a .c) (a .r) (a .offset) (a .patch .now) (passed (c .before .before .before .before .before .before .before)) (s .result) (s .ensures) (settled-here (c .before .before .before))
     (sym (c .before .before .below-limit .ensures) ∙ not-true _ (c .before .if3 .taken)) in
     (c .result3 .ensures ∙ no .result, no .table)
 
 add-version : tie.Need-add-version
 unfolding limit
-add-version c = let v = c .before .before .before .before .before .settle .result .verdict .version in record { fits = omega (arith, ltb-true v limit (room (c .before))) }
+add-version c = let v = c .before .before .before .before .before .settle .result .version in record { fits = omega (arith, ltb-true v limit (room (c .before))) }
 
 write-rows-requires : tie.Need-write-rows-requires
 write-rows-requires c κs =
     let a = c .before .before .before .before .before .before .before .before .before .before .before .before .before .args in
-    let s = c .before .before .before .before .before .before .settle in
-    let w = worked (c .before .before .before .before .before .before) in (
+    let s = c .before .before .before .before .before .before .settle in (
       sized (asked (c .before .before .before .before .before .before .before .before) .formed),
-      patch-in (a .t .now) (a .c) (a .r) (a .offset) (a .patch .now) (passed (c .before .before .before .before .before .before .before .before)) _ (s .result .verdict) (w .0) (w .1) (settled-here (c .before .before .before .before)) (room (c .before .before)),
+      patch-in (a .t .now) (a .c) (a .r) (a .offset) (a .patch .now) (passed (c .before .before .before .before .before .before .before .before)) (s .result) (s .ensures) (settled-here (c .before .before .before .before)) (room (c .before .before)),
     )
 
 result-requires-4 : tie.Need-result-requires-4
@@ -112,8 +101,7 @@ returns-4 : tie.Need-returns-4
 returns-4 c =
     let a = c .before .before .before .before .before .before .before .before .before .before .before .before .before .before .before .before .before .args in
     let s = c .before .before .before .before .before .before .before .before .before .before .settle in
-    let w = worked (c .before .before .before .before .before .before .before .before .before .before) in
-    let yes = write-done (a .t .now) (a .c) (a .r) (a .offset) (a .patch .now) (passed (c .before .before .before .before .before .before .before .before .before .before .before .before)) _ (s .result .verdict) (w .0) (w .1) (settled-here (c .before .before .before .before .before .before .before .before)) (room (c .before .before .before .before .before .before)) in
+    let yes = write-done (a .t .now) (a .c) (a .r) (a .offset) (a .patch .now) (passed (c .before .before .before .before .before .before .before .before .before .before .before .before)) (s .result) (s .ensures) (settled-here (c .before .before .before .before .before .before .before .before)) (room (c .before .before .before .before .before .before)) in
     (c .result4 .ensures ∙ yes .0, c .before .before .before .write-rows .ensures ∙ yes .1)
 
 pub write-spec : {M : Type 1} → statement M
