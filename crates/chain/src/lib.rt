@@ -54,7 +54,7 @@ pub fn chain_right(t: &[u8]) -> bool
         if name <= low {
             return false;
         }
-        seen = seen.with(next);
+        seen = seen.add(next - 1, true);
         low = name;
         next = fields::link(row) as usize;
         count += 1;

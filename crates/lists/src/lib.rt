@@ -9,33 +9,9 @@ ghost use Prim.Native.Nat.{ℕ, _+_, _<_};
 ghost use lib.Dec.{eqb};
 ghost use lib.ListN.{length, getD, take};
 ghost use Rattle.sets.specs.Upto.{Within, some};
-ghost use Rattle.sets.specs.Sets.{has, gaining};
+ghost use Rattle.sets.specs.Sets.{has};
 ghost use Rattle.table.specs.Contracts.{Listed};
 ghost use Rattle.protocol.specs.Lists.{seats, atSeat, listQuorum, listChoice};
-
-fn one(wanted: bool) -> u64
-    ensures { λ r. ⌜ r ≡ cond wanted 1 0 ⌝ }
-{
-    if wanted { 1 } else { 0 }
-}
-
-// Is the row at place k, counted from 0, in a set? A walk along the chain asks this of rows only, and so needs no guard.
-fn at(set: RowSet, k: usize) -> bool
-    requires { ⌜ k < 64 ⌝ }
-    ensures { λ r. ⌜ r ≡ has (set .bits) (k + 1) ⌝ }
-{
-    (set.bits >> k) % 2 == 1
-}
-
-// The set with the row at place k where it is wanted.
-fn add(set: RowSet, k: usize, wanted: bool) -> RowSet
-    requires { ⌜ k < 64 ⌝ }
-    ensures { λ r. ⌜ has (r .bits) ≡ cond wanted (gaining (has (set .bits)) (k + 1)) (has (set .bits)) ⌝ }
-{
-    RowSet {
-        bits: set.bits | one(wanted) << k,
-    }
-}
 
 // One more where it counts.
 fn step(n: usize, counts: bool) -> usize
@@ -64,8 +40,8 @@ pub fn held(order: &[u8; 64], count: usize, list: RowSet, set: RowSet) -> RowSet
     let mut j = 0;
     while j < count {
         let place = place_at(order, j);
-        positions = add(positions, seats, at(shared, place));
-        seats = step(seats, at(list, place));
+        positions = positions.add(seats, shared.at(place));
+        seats = step(seats, list.at(place));
         j += 1;
     }
     positions
@@ -81,8 +57,8 @@ pub fn standing(order: &[u8; 64], count: usize, list: RowSet, positions: RowSet)
     let mut j = 0;
     while j < count {
         let place = place_at(order, j);
-        let member = at(list, place);
-        rows = add(rows, place, both(member, at(positions, seats)));
+        let member = list.at(place);
+        rows = rows.add(place, both(member, positions.at(seats)));
         seats = step(seats, member);
         j += 1;
     }

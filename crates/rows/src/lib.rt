@@ -1,12 +1,18 @@
 // A set of rows: bit i - 1 for row i, rows 1 to 64. Positions and columns of a grid count the same way.
 ghost use mathlib.Core.Path.{_≡_};
 ghost use mathlib.Core.Bool.{cond, not};
-ghost use Prim.Native.Nat.{_-_, _≤_};
+ghost use Prim.Native.Nat.{_+_, _-_, _%_, _≤_};
 ghost use Rattle.sets.specs.Upto.{every, some, count, lowest};
 ghost use Rattle.sets.specs.Sets.{has, firstRows, gaining, losing, cutTo, leftOf, joining};
 
 pub struct RowSet {
     pub bits: u64,
+}
+
+fn one(wanted: bool) -> u64
+    ensures { λ r. ⌜ r ≡ cond wanted 1 0 ⌝ }
+{
+    if wanted { 1 } else { 0 }
 }
 
 impl RowSet {
@@ -139,6 +145,22 @@ impl RowSet {
         }
         RowSet {
             bits: self.bits & (self.bits - 1),
+        }
+    }
+
+    // Is the row at place k a member? Places count from 0, and 64 is place 0 again: there is nothing to test.
+    pub fn at(self, k: usize) -> bool
+        ensures { λ r. ⌜ r ≡ has (self .bits) (k % 64 + 1) ⌝ }
+    {
+        (self.bits >> (k % 64)) % 2 == 1
+    }
+
+    // The set with the row at place k where `wanted` says so.
+    pub fn add(self, k: usize, wanted: bool) -> RowSet
+        ensures { λ r. ⌜ has (r .bits) ≡ cond wanted (gaining (has (self .bits)) (k % 64 + 1)) (has (self .bits)) ⌝ }
+    {
+        RowSet {
+            bits: self.bits | one(wanted) << (k % 64),
         }
     }
 

@@ -1,13 +1,14 @@
-use mathlib.Core.Bool.{Bool, _&&_}
+use mathlib.Core.Bool.{Bool, cond, _&&_}
 use mathlib.Core.Path.{_≡_, refl, sym, ap, _∙_}
-use Prim.Native.Nat.{ℕ, _-_, _≤_, _<_}
+use Prim.Native.Nat.{ℕ, _+_, _-_, _%_, _≤_, _<_}
+use native.Mathlib.Nat.{mod-eq-of-lt}
 use native.Mathlib.Omega.{arith}
 use borrow.Author.Needs.{needs}
 use lib.ListN.{length, getD, take}
 use Rattle.lists.proofs.SeatLaws.{seat-next, seat-few, held-next, none-held}
 use Rattle.protocol.specs.Lists.{keep, seats, atSeat}
 use Rattle.sets.proofs.SetLaws.{has-empty}
-use Rattle.sets.specs.Sets.{has, cutTo}
+use Rattle.sets.specs.Sets.{has, gaining, cutTo}
 use Rattle.lists.proofs.held.Statement.{statement}
 use Rattle.lists.proofs.held.Tie as tie
 
@@ -25,9 +26,16 @@ few c =
     let s = c .before .before .before in
     omega (arith, seat-few (s .args .order .now) (s .args .list .bits) (l .j) (s .pre .places) (omega (arith, s .pre .few)))
 
--- and the row at hand has one of 64 places
-place : (c : tie.After-place-at Inv-loop μ-loop) → c .place-at .result < 64
-place c = let s = c .before .before .before .before in omega (arith, c .place-at .ensures, s .pre .each (c .before .before .loop .j) (omega arith))
+-- so the next seat is a position
+seat : (c : tie.In-loop Inv-loop μ-loop) → c .before .loop .seats % 64 + 1 ≡ c .before .loop .seats + 1
+seat c = ap (λ (x : ℕ). x + 1) (mod-eq-of-lt (few c))
+
+-- and the row at hand has a place
+row-here : (c : tie.After-place-at Inv-loop μ-loop) → c .place-at .result % 64 + 1 ≡ getD (c .before .before .before .before .args .order .now) (c .before .before .loop .j) 0
+row-here c =
+    let s = c .before .before .before .before in
+    let inside : c .place-at .result < 64 = omega (arith, c .place-at .ensures, s .pre .each (c .before .before .loop .j) (omega arith)) in
+    ap (λ (x : ℕ). x + 1) (mod-eq-of-lt inside) ∙ c .place-at .ensures
 
 cut-requires : tie.Need-cut-requires Inv-loop μ-loop
 cut-requires c κs = search needs
@@ -41,13 +49,13 @@ place-at-requires c κs =
     let s = c .before .before .before in (s .pre .places, omega (arith, s .pre .few), s .pre .each (c .before .loop .j) (omega arith))
 
 at-requires : tie.Need-at-requires Inv-loop μ-loop
-at-requires c κs = place c
+at-requires c κs = search needs
 
 add-requires : tie.Need-add-requires Inv-loop μ-loop
-add-requires c κs = few (c .before .before)
+add-requires c κs = search needs
 
 at-requires-2 : tie.Need-at-requires-2 Inv-loop μ-loop
-at-requires-2 c κs = place (c .before .before)
+at-requires-2 c κs = search needs
 
 step-requires : tie.Need-step-requires Inv-loop μ-loop
 step-requires c κs = few (c .before .before .before .before)
@@ -69,12 +77,12 @@ loop-again c =
     let inside : l .j < 64 = omega (arith, cut .before .pre .few) in
     let row = getD (a .order .now) (l .j) 0 in
     let shared = has (cut .cut .result .bits) in
-    let listed = c .before .at2 .ensures ∙ ap (has (a .list .bits)) (p .place-at .ensures) in (
+    let listed = c .before .at2 .ensures ∙ ap (has (a .list .bits)) (row-here p) in (
       omega arith,
       c .step .ensures ∙ seat-next (a .order .now) (a .list .bits) (l .j) places inside (l .inv .1) listed,
-      λ s e. c .before .before .add .ensures
+      λ s e. c .before .before .add .ensures ∙ ap (λ (k : ℕ). cond (c .before .before .before .at .result) (gaining (has (l .positions .bits)) k) (has (l .positions .bits))) (seat (p .before))
           ∙ held-next (a .order .now) (a .list .bits) (l .j) places inside (l .inv .1) listed s (has (l .positions .bits)) _ (l .inv .2 s e)
-          (c .before .before .before .at .ensures ∙ ap shared (p .place-at .ensures) ∙ ap (λ (f : ℕ → Bool). f row) e ∙ ap (λ (x : Bool). x && s row) (sym listed)),
+          (c .before .before .before .at .ensures ∙ ap shared (row-here p) ∙ ap (λ (f : ℕ → Bool). f row) e ∙ ap (λ (x : Bool). x && s row) (sym listed)),
     )
 
 returns : tie.Need-returns Inv-loop μ-loop

@@ -1,9 +1,10 @@
 use mathlib.Core.Bool.{cond, _&&_}
 use mathlib.Core.Path.{_≡_, refl, ap, _∙_}
-use Prim.Native.Nat.{ℕ, _-_, _≤_, _<_}
+use Prim.Native.Nat.{ℕ, _+_, _-_, _%_, _≤_, _<_}
+use native.Mathlib.Nat.{mod-eq-of-lt}
 use native.Mathlib.Omega.{arith}
 use borrow.Author.Needs.{needs}
-use lib.ListN.{length, take}
+use lib.ListN.{length, getD, take}
 use lib.Dec.{eqb}
 use Rattle.lists.proofs.SeatLaws.{seat-next, seat-few, standing-next, none-standing}
 use Rattle.protocol.specs.Lists.{keep, seats, atSeat}
@@ -27,9 +28,16 @@ few c =
     let s = c .before .before in
     omega (arith, seat-few (s .args .order .now) (s .args .list .bits) (l .j) (s .pre .places) (omega (arith, s .pre .few)))
 
--- and the row at hand has one of 64 places
-place : (c : tie.After-place-at Inv-loop μ-loop) → c .place-at .result < 64
-place c = let s = c .before .before .before in omega (arith, c .place-at .ensures, s .pre .each (c .before .before .loop .j) (omega arith))
+-- so the next seat is a position
+seat : (c : tie.In-loop Inv-loop μ-loop) → c .before .loop .seats % 64 + 1 ≡ c .before .loop .seats + 1
+seat c = ap (λ (x : ℕ). x + 1) (mod-eq-of-lt (few c))
+
+-- and the row at hand has a place
+row-here : (c : tie.After-place-at Inv-loop μ-loop) → c .place-at .result % 64 + 1 ≡ getD (c .before .before .before .args .order .now) (c .before .before .loop .j) 0
+row-here c =
+    let s = c .before .before .before in
+    let inside : c .place-at .result < 64 = omega (arith, c .place-at .ensures, s .pre .each (c .before .before .loop .j) (omega arith)) in
+    ap (λ (x : ℕ). x + 1) (mod-eq-of-lt inside) ∙ c .place-at .ensures
 
 loop-holds : tie.Need-loop-holds Inv-loop μ-loop
 unfolding seats keep
@@ -40,16 +48,16 @@ place-at-requires c κs =
     let s = c .before .before in (s .pre .places, omega (arith, s .pre .few), s .pre .each (c .before .loop .j) (omega arith))
 
 at-requires : tie.Need-at-requires Inv-loop μ-loop
-at-requires c κs = place c
+at-requires c κs = search needs
 
 at-requires-2 : tie.Need-at-requires-2 Inv-loop μ-loop
-at-requires-2 c κs = few (c .before .before)
+at-requires-2 c κs = search needs
 
 both-requires : tie.Need-both-requires Inv-loop μ-loop
 both-requires c κs = search needs
 
 add-requires : tie.Need-add-requires Inv-loop μ-loop
-add-requires c κs = place (c .before .before .before)
+add-requires c κs = search needs
 
 step-requires : tie.Need-step-requires Inv-loop μ-loop
 step-requires c κs = few (c .before .before .before .before .before)
@@ -69,12 +77,12 @@ loop-again c =
     let inside : l .j < 64 = omega (arith, s .pre .few) in
     let set = has (l .rows .bits) in
     let b = c .before .before .both in
-    let listed = c .before .before .before .before .at .ensures ∙ ap (has (a .list .bits)) (p .place-at .ensures) in (
+    let listed = c .before .before .before .before .at .ensures ∙ ap (has (a .list .bits)) (row-here p) in (
       omega arith,
       c .step .ensures ∙ seat-next (a .order .now) (a .list .bits) (l .j) (s .pre .places) inside (l .inv .1) listed,
-      c .before .add .ensures ∙ ap (λ (i : ℕ). cond (b .result) (gaining set i) set) (p .place-at .ensures)
+      c .before .add .ensures ∙ ap (λ (i : ℕ). cond (b .result) (gaining set i) set) (row-here p)
           ∙ standing-next (a .order .now) (a .list .bits) (l .j) (s .pre .places) inside (l .inv .1) listed (has (a .positions .bits)) set _ (s .pre .each (l .j) (omega arith)) (l .inv .2)
-          (b .ensures ∙ ap (_&&_ (c .before .before .before .before .at .result)) (c .before .before .before .at2 .ensures)),
+          (b .ensures ∙ ap (_&&_ (c .before .before .before .before .at .result)) (c .before .before .before .at2 .ensures ∙ ap (has (a .positions .bits)) (seat (p .before)))),
     )
 
 returns : tie.Need-returns Inv-loop μ-loop
