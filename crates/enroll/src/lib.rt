@@ -1,9 +1,10 @@
 // The rows that an epoch check leaves.
 use rows::RowSet;
 ghost use mathlib.Core.Path.{_≡_};
-ghost use mathlib.Core.Bool.{cond};
-ghost use Prim.Native.Nat.{_≤_};
+ghost use mathlib.Core.Bool.{true, cond};
+ghost use Prim.Native.Nat.{ℕ, _≤_};
 ghost use lib.ListN.{length};
+ghost use Rattle.sets.specs.Upto.{Within};
 ghost use Rattle.sets.specs.Sets.{has};
 ghost use Rattle.fields.specs.Layout.{usedOf};
 ghost use Rattle.table.specs.Contracts.{Sized};
@@ -29,36 +30,27 @@ fn mark_other(row: &mut [u8], good: bool, desired: u32)
     store::mark_row(row, desired);
 }
 
-// What an epoch check makes of a row: of a good one of the new list, of another of it, of any other.
-fn check_row(row: &mut [u8], listed: bool, good: bool, version: u32, epoch: u32, list: u64)
+// What an epoch check makes of a row of the new list.
+fn check_row(row: &mut [u8], good: bool, version: u32, epoch: u32, list: u64)
     requires { ⌜ 32 ≤ length (now row) ⌝ }
-    ensures { λ r. ⌜ now (row .exit) ≡ cond listed (enrolledRow epoch list (cond good (now (row .entry)) (markedRow version (now (row .entry))))) (now (row .entry)) ⌝ }
+    ensures { λ r. ⌜ now (row .exit) ≡ enrolledRow epoch list (cond good (now (row .entry)) (markedRow version (now (row .entry)))) ⌝ }
 {
-    if listed {
-        mark_other(row, good, version);
-        enroll_row(row, epoch, list);
-    }
+    mark_other(row, good, version);
+    enroll_row(row, epoch, list);
 }
 
-// What an epoch check makes of the rows.
+// What an epoch check makes of the rows of the new list.
 pub fn check_rows(t: &mut [u8], set: RowSet, good: RowSet, version: u32, epoch: u32)
-    requires { ⌜ Sized (now t) ⌝ }
+    requires { ⌜ Sized (now t) × ((i : ℕ) → has (set .bits) i ≡ true → Within (usedOf (now t)) i) ⌝ }
     ensures { λ r. ⌜ now (t .exit) ≡ withRows (now (t .entry)) (has (set .bits)) (checkedRow (has (good .bits)) version epoch (set .bits)) (usedOf (now (t .entry))) ⌝ }
 {
-    let used = header::used(t);
     let size = table::row_length(t);
-    let mut at = table::rows_end(t, 0);
-    let mut i = 0;
-    while i < used {
-        i += 1;
-        check_row(
-            &mut t[at..at + size],
-            set.has(i),
-            good.has(i),
-            version,
-            epoch,
-            set.bits,
-        );
-        at += size;
+    let list = set.bits;
+    let mut left = set;
+    while !left.is_empty() {
+        let i = left.lowest();
+        let at = header::HEADER + (i - 1) * size;
+        check_row(&mut t[at..at + size], good.has(i), version, epoch, list);
+        left = left.rest();
     }
 }

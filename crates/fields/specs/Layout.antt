@@ -4,6 +4,7 @@ use mathlib.Core.List.{List, []}
 use Prim.Native.Nat.{ℕ, zero, suc, _+_, _*_}
 use lib.Dec.{eqb}
 use lib.ListN.{drop}
+use Rattle.blocks.specs.Blocks.{block}
 use Rattle.bytes.specs.Bytes.{number, bytesOf, part, put}
 
 -- a number at a place, so many bytes wide
@@ -76,8 +77,7 @@ rowsEnd t k = 16 + k * rowLength t
 
 -- "Rows have indexes 1 upward": row i's bytes; there is no row 0
 unfoldable pub rowBytes : List ℕ → ℕ → List ℕ
-rowBytes t zero = []
-rowBytes t (suc k) = part (rowsEnd t k) (rowLength t) t
+rowBytes t i = block 16 (rowLength t) i t
 
 -- ---- what a table says: its header, and its row i
 unfoldable pub capacityOf : List ℕ → ℕ

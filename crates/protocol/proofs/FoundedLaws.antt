@@ -17,6 +17,7 @@ use Rattle.bools.proofs.BoolLaws.{and-l, and-r, and-i, or-l, or-r, clash}
 use Rattle.sets.proofs.UptoLaws.{every-of}
 use Rattle.sets.proofs.SetLaws.{has-all}
 use Rattle.bytes.specs.Bytes.{number, bytesOf, part, allZero}
+use Rattle.blocks.specs.Blocks.{block}
 use Rattle.fields.specs.Layout.{get, form, capacity, used, first, fileLength, name, link, mark, version, desired, epoch, members, reserved, contents, rowLength, rowsEnd, rowBytes, capacityOf, usedOf, firstOf, fileOf, nameOf, linkOf}
 use Rattle.table.specs.Chain.{chain, orderOf, among, risesFrom}
 use Rattle.table.specs.WellFormed.{between, limit, headerValues, lengthRight, visitsEach, namesRise, unusedZero}
@@ -152,9 +153,9 @@ module _ (c file : ℕ) (names : List ℕ) (f : Founds c file names) where
 
   -- ---- the rows
   pub founded-row : (k : ℕ) → k < length names → rowBytes (Calls.founded c file names) (suc k) ≡ Calls.foundedRow (length names) file (suc k) (getD names k 0)
-  unfolding rowBytes part t rows tail
+  unfolding rowBytes block part t rows tail
   founded-row k h =
-      ap₂ (λ (a m : ℕ). take m (drop a (Calls.founded c file names))) (founded-end k) founded-length
+      ap (λ (m : ℕ). take m (drop (16 + k * m) (Calls.founded c file names))) founded-length
       ∙ ap (take (32 + file)) (sym (drop-drop (k * (32 + file)) 16 (Calls.founded c file names)) ∙ ap (drop (k * (32 + file))) after-header)
       ∙ rows-at (length names) file names 1 k (Calls.zeros ((c - length names) * (32 + file))) h
       ∙ ap (λ (j : ℕ). Calls.foundedRow (length names) file j (getD names k 0)) (one-add k)

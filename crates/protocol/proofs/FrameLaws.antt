@@ -11,6 +11,7 @@ use Rattle.bytes.specs.Bytes.{allZero}
 use Rattle.fields.specs.Layout.{get, form, capacity, used, first, fileLength, name, link, capacityOf, usedOf, firstOf, fileOf, nameOf, linkOf, rowsEnd, rowBytes}
 use Rattle.table.specs.Chain.{orderOf}
 use Rattle.table.specs.WellFormed.{headerValues, lengthRight, visitsEach, namesRise, unusedZero}
+use Rattle.blocks.specs.Blocks.{block}
 use Rattle.protocol.proofs.TableLaws.{Like, like-get, like-end, Changed, behind}
 
 pub record Frame (t u : List ℕ) : Type 0 where
@@ -59,7 +60,7 @@ module _ {t u : List ℕ} (f : Frame t u) where
 module _ {t u : List ℕ} {n : ℕ} {s : ℕ → Bool} {g : ℕ → List ℕ → List ℕ} (c : Changed t u n s g) where
   row-same : (field : List ℕ → ℕ) → ((i : ℕ) → Within n i → s i ≡ true → field (g i (rowBytes t i)) ≡ field (rowBytes t i))
       → (i : ℕ) → field (rowBytes u i) ≡ field (rowBytes t i)
-  unfolding rowBytes
+  unfolding rowBytes block
   row-same field keeps zero = refl
   row-same field keeps (suc k) = go (decLe (suc k) n)
     where

@@ -1,9 +1,9 @@
 -- Rows after a call: which fields of a row change, and which rows of the table.
 use mathlib.Core.Bool.{Bool, cond}
 use mathlib.Core.List.{List}
-use Prim.Native.Nat.{ℕ, zero, suc}
-use Rattle.bytes.specs.Bytes.{put}
-use Rattle.fields.specs.Layout.{get, store, mark, version, desired, epoch, members, contents, storeContents, rowsEnd, rowBytes}
+use Prim.Native.Nat.{ℕ}
+use Rattle.blocks.specs.Blocks.{withBlock, withBlocks}
+use Rattle.fields.specs.Layout.{get, store, mark, version, desired, epoch, members, contents, storeContents, rowLength}
 
 -- "is marked and desires the new version"
 unfoldable pub markedRow : ℕ → List ℕ → List ℕ
@@ -23,13 +23,11 @@ refreshedRow source row = storeContents 0 (contents source) (store desired 0 (st
 
 -- the table with row i changed by f, and no other byte
 unfoldable pub withRow : List ℕ → ℕ → (List ℕ → List ℕ) → List ℕ
-withRow t zero f = t
-withRow t (suc k) f = put (rowsEnd t k) (f (rowBytes t (suc k))) t
+withRow t i f = withBlock 16 (rowLength t) i f t
 
 -- the table with each row i of s among 1 to n changed by f i, and no other byte
 unfoldable pub withRows : List ℕ → (ℕ → Bool) → (ℕ → List ℕ → List ℕ) → ℕ → List ℕ
-withRows t s f zero = t
-withRows t s f (suc n) = let u = withRows t s f n in cond (s (suc n)) (withRow u (suc n) (f (suc n))) u
+withRows t s f n = withBlocks 16 (rowLength t) s f n t
 
 -- "in each good row ..; every other row of S is marked and desires the new version"
 unfoldable pub wroteRow : (ℕ → Bool) → ℕ → ℕ → List ℕ → ℕ → List ℕ → List ℕ

@@ -11,6 +11,7 @@ use lib.ListN.{length, getD, take, drop, set, length-drop}
 use lib.Seq.{drop-drop, take-at, drop-at, take-add, take-all, getD-drop, length-take-le, take-append-le, drop-append-le, paste, paste-zero, paste-suc}
 use Rattle.sets.specs.Upto.{Within}
 use Rattle.bytes.specs.Bytes.{part, put}
+use Rattle.blocks.specs.Blocks.{withBlock}
 use Rattle.fields.specs.Layout.{get, store, mark, version, desired, contents, storeContents, usedOf, fileOf, rowLength, rowsEnd, rowBytes}
 use Rattle.table.specs.Contracts.{Sized}
 use Rattle.bytes.proofs.ByteLaws.{length-part, part-part, length-put, put-before, put-after, part-apart}
@@ -83,7 +84,7 @@ module _ {t : List ℕ} (s : Sized t) where
   file-below i w = omega (arith, row-ends i w)
 
   with-row : (i : ℕ) → Within (usedOf t) i → (f : List ℕ → List ℕ) → withRow t i f ≡ put (rowsEnd t (i - 1)) (f (rowBytes t i)) t
-  unfolding withRow
+  unfolding withRow withBlock rowsEnd rowBytes
   with-row zero w f = absurd (omega arith)
   with-row (suc k) w f = let z : suc k - 1 ≡ k = omega arith in rw z
 

@@ -1,111 +1,111 @@
 -- Rows lent to the code one after another, over plain variables.
 use mathlib.Core.Path.{_≡_, refl, sym, _∙_, ap, subst}
-use mathlib.Core.Bool.{Bool, true, false, cond}
+use mathlib.Core.Bool.{Bool, true, false, cond, _||_}
+use mathlib.Core.Logic.{_⊎_, inl, inr}
 use mathlib.Core.List.{List, _++_}
-use Prim.Native.Nat.{ℕ, suc, _+_, _-_, _*_, _≤_, _<_}
-use native.Mathlib.Nat.{suc-mul}
-use native.Mathlib.Numerals.{add-one}
+use Prim.Native.Nat.{ℕ, zero, suc, _+_, _-_, _*_, _≤_}
 use native.Mathlib.Omega.{arith}
-use lib.ListN.{length, take, drop, take-append-drop}
-use lib.Seq.{drop-drop}
+use lib.Dec.{eqb}
+use lib.ListN.{length, take, drop}
+use borrow.Author.Tests.{eqb-true}
+use Rattle.bools.proofs.BoolLaws.{or-e}
+use Rattle.sets.specs.Upto.{Within}
+use Rattle.sets.specs.Sets.{noRow, joining}
+use Rattle.sets.proofs.MemberLaws.{only}
 use Rattle.bytes.specs.Bytes.{part, put}
+use Rattle.bytes.proofs.CodeLaws.{part-back, part-is, part-length}
+use Rattle.blocks.specs.Blocks.{block, withBlock, withBlocks}
+use Rattle.blocks.proofs.BlockLaws.{ends, Altered, blocks-changed, none-changed, one-more}
 use Rattle.fields.specs.Layout.{usedOf, rowLength, rowsEnd, rowBytes}
 use Rattle.table.specs.Contracts.{Sized}
-use Rattle.bytes.proofs.ByteLaws.{length-part}
-use Rattle.bytes.proofs.CodeLaws.{part-back, part-is, part-length}
 use Rattle.table.proofs.WellFormedLaws.{header, rows-in}
-use Rattle.protocol.specs.Rows.{withRow, withRows}
-use Rattle.protocol.proofs.TableLaws.{Like, like-refl, like-trans, like-length, like-end, Roomy, row-within, row-like}
+use Rattle.protocol.specs.Rows.{withRows}
 
--- a part put back in its place
-pub put-own : (a n : ℕ) (xs : List ℕ) → a + n ≤ length xs → put a (part a n xs) xs ≡ xs
-unfolding put part
-put-own a n xs h =
-    rw (length-part a n xs h, ← drop-drop n a xs, take-append-drop n (drop a xs)) (take-append-drop a xs)
-
--- ---- row k + 1 lent and back
-module _ (t : List ℕ) (n k at size : ℕ) (room : Roomy t n) (h : k < n) (place : at ≡ rowsEnd t k) (wide : size ≡ rowLength t) where
-  pub lent-fits : at + size ≤ length t
-  lent-fits = omega (arith, place, wide, row-within t n room k h)
-
-  pub lent-is : take ((at + size) - at) (drop at t) ≡ rowBytes t (suc k)
-  unfolding rowBytes
-  lent-is = part-is t at size (rowsEnd t k) (rowLength t) place wide
-
-  module _ (new : List ℕ) (long : length new ≡ rowLength t) where
-    pub row-back : take at t ++ (new ++ drop ((at + size) - at) (drop at t)) ≡ withRow t (suc k) (λ row. new)
-    unfolding withRow
-    row-back = part-back at size t new new refl (long ∙ sym wide) ∙ ap (λ (a : ℕ). put a new t) place
-
-    pub back-like : Like t (take at t ++ (new ++ drop ((at + size) - at) (drop at t)))
-    back-like = subst (Like t) (sym row-back) (row-like t n k room h (λ row. new) long)
-
--- a row changed where b says so
-one-more : (u : List ℕ) (n k : ℕ) → Roomy u n → k < n → (f : List ℕ → List ℕ) (new : List ℕ) (b c : Bool) → b ≡ c → new ≡ cond b (f (rowBytes u (suc k))) (rowBytes u (suc k))
-    → withRow u (suc k) (λ row. new) ≡ cond c (withRow u (suc k) f) u
-unfolding withRow rowBytes
-one-more u n k room h f new true c e m = rw (← e) (ap (λ (x : List ℕ). put (rowsEnd u k) x u) m)
-one-more u n k room h f new false c e m =
-    rw (← e) (ap (λ (x : List ℕ). put (rowsEnd u k) x u) m ∙ put-own (rowsEnd u k) (rowLength u) u (row-within u n room k h))
-
-rows-more : (t : List ℕ) (s : ℕ → Bool) (f : ℕ → List ℕ → List ℕ) (k : ℕ)
-    → cond (s (suc k)) (withRow (withRows t s f k) (suc k) (f (suc k))) (withRows t s f k) ≡ withRows t s f (suc k)
-unfolding withRows
-rows-more t s f k = refl
-
--- ---- u is t with the rows of s among 1 to k changed, of n that lie within it; row k + 1 starts at `at`
-pub record Done (t : List ℕ) (s : ℕ → Bool) (f : ℕ → List ℕ → List ℕ) (n size k at : ℕ) (u : List ℕ) : Type 0 where
-  pub room : Roomy t n
+-- u is t with the used rows of p changed by f, each as long as before
+pub record Done (t : List ℕ) (f : ℕ → List ℕ → List ℕ) (size : ℕ) (p : ℕ → Bool) (u : List ℕ) : Type 0 where
+  pub table : Sized t
   pub wide : size ≡ rowLength t
-  pub place : at ≡ rowsEnd t k
-  pub like : Like t u
-  pub rows : u ≡ withRows t s f k
+  pub keeps : (i : ℕ) → Within (usedOf t) i → p i ≡ true → length (f i (rowBytes t i)) ≡ rowLength t
+  pub rows : u ≡ withRows t p f (usedOf t)
 
-pub none-done : {t : List ℕ} → Sized t → (s : ℕ → Bool) (f : ℕ → List ℕ → List ℕ) {n size at : ℕ} → n ≡ usedOf t → size ≡ rowLength t → at ≡ rowsEnd t 0 → Done t s f n size 0 at t
-unfolding withRows
-none-done {t} z s f {n} e w p =
-    let room : Roomy t n = rw e (rows-in z (usedOf t) (header (z .header) .used .1)) in
-    record { room = room; wide = w; place = p; like = like-refl t; rows = refl }
+pub none-done : {t : List ℕ} → Sized t → (f : ℕ → List ℕ → List ℕ) {size : ℕ} → size ≡ rowLength t → Done t f size noRow t
+unfolding withRows noRow
+none-done {t} z f e = record { table = z; wide = e; keeps = λ i v h. absurd (no h); rows = sym (none-changed 16 (rowLength t) f (usedOf t) t) }
+  where
+    no : false ≡ true → ⊥
+    no h = let x : _≡_ {A = ℕ} 0 1 = ap (λ (b : Bool). cond b 1 0) h in omega arith
 
--- the turn of row k + 1
-module _ {t : List ℕ} {s : ℕ → Bool} {f : ℕ → List ℕ → List ℕ} {n size k at : ℕ} {u : List ℕ} (d : Done t s f n size k at u) (below : k < n) where
-  place : at ≡ rowsEnd u k
-  place = d .place ∙ sym (like-end (d .like) k)
-
-  width : size ≡ rowLength u
-  width = d .wide ∙ sym (like-length (d .like))
-
-  room-left : Roomy u n
-  room-left = omega (arith, like-end (d .like) n, d .like .long)
-
-  pub turn-fits : at + size ≤ length u
-  turn-fits = lent-fits u n k at size room-left below place width
-
-  pub turn-long : length (take ((at + size) - at) (drop at u)) ≡ rowLength t
-  turn-long = part-length at size u turn-fits ∙ d .wide
-
-  -- one row more, changed where it is in s
-  pub rows-turn : (new : List ℕ) (b : Bool) → b ≡ s (k + 1) → length new ≡ length (take ((at + size) - at) (drop at u))
-      → new ≡ cond b (f (k + 1) (take ((at + size) - at) (drop at u))) (take ((at + size) - at) (drop at u))
-      → Done t s f n size (k + 1) (at + size) (take at u ++ (new ++ drop ((at + size) - at) (drop at u)))
+-- ---- the turn of row suc k, which is not changed yet
+module _ {t : List ℕ} {f : ℕ → List ℕ → List ℕ} {size : ℕ} {p : ℕ → Bool} {u : List ℕ} (d : Done t f size p u) (k : ℕ) (w : Within (usedOf t) (suc k)) (new : p (suc k) ≡ false) where
+  room : 16 + usedOf t * rowLength t ≤ length t
   unfolding rowsEnd
-  rows-turn new b asked kept made = record {
-    room = d .room;
-    wide = d .wide;
-    place = omega (arith, d .wide, d .place, ap (λ (m : ℕ). m * rowLength t) (add-one k), suc-mul k (rowLength t));
-    like = like-trans (d .like) (back-like u n k at size room-left below place width new long);
-    rows = row-back u n k at size room-left below place width new long
-        ∙ one-more u n k room-left below (f (suc k)) new b (s (suc k)) (rw (add-one k) at asked) (rw (lent, add-one k) at made) ∙ counted;
-  }
+  room = rows-in (d .table) (usedOf t) (header (d .table .header) .used .1)
+
+  altered : Altered 16 (rowLength t) t u (usedOf t) p f
+  unfolding withRows rowBytes
+  altered = rw (d .rows) (blocks-changed 16 (rowLength t) t p f (usedOf t) room (d .keeps))
+
+  fits : 16 + k * size + size ≤ length u
+  fits = rw (d .wide) (omega (arith, altered .long, room, ends 16 (rowLength t) (usedOf t) k (omega arith)))
+
+  -- what is lent is the row as it was
+  lent : take ((16 + k * size + size) - (16 + k * size)) (drop (16 + k * size) u) ≡ rowBytes t (suc k)
+  unfolding rowBytes block
+  lent = part-is u (16 + k * size) size (16 + k * rowLength t) (rowLength t) (ap (λ (x : ℕ). 16 + k * x) (d .wide)) (d .wide) ∙ altered .blocks (suc k) w ∙ rw new
+
+  long-lent : length (take ((16 + k * size + size) - (16 + k * size)) (drop (16 + k * size) u)) ≡ rowLength t
+  long-lent = part-length (16 + k * size) size u fits ∙ d .wide
+
+  -- and comes back changed
+  back : (x : List ℕ) → length x ≡ length (take ((16 + k * size + size) - (16 + k * size)) (drop (16 + k * size) u))
+      → x ≡ f (suc k) (take ((16 + k * size + size) - (16 + k * size)) (drop (16 + k * size) u))
+      → Done t f size (joining p (only (suc k))) (take (16 + k * size) u ++ (x ++ drop ((16 + k * size + size) - (16 + k * size)) (drop (16 + k * size) u)))
+  unfolding withRows withBlock block rowBytes joining
+  back x long made = record { table = d .table; wide = d .wide; keeps = keeps; rows = rows }
     where
-      lent : take ((at + size) - at) (drop at u) ≡ rowBytes u (suc k)
-      lent = lent-is u n k at size room-left below place width
+      here : x ≡ f (suc k) (rowBytes t (suc k))
+      here = made ∙ ap (f (suc k)) lent
 
-      long : length new ≡ rowLength u
-      long = kept ∙ part-length at size u turn-fits ∙ width
-
-      counted : cond (s (suc k)) (withRow u (suc k) (f (suc k))) u ≡ withRows t s f (k + 1)
-      counted = rw (add-one k) (more u (d .rows))
+      keeps : (i : ℕ) → Within (usedOf t) i → joining p (only (suc k)) i ≡ true → length (f i (rowBytes t i)) ≡ rowLength t
+      keeps i v h = by (or-e (p i) _ h)
         where
-          more : (x : List ℕ) → x ≡ withRows t s f k → cond (s (suc k)) (withRow x (suc k) (f (suc k))) x ≡ withRows t s f (suc k)
-          more x e = rw e (rows-more t s f k)
+          by : (p i ≡ true) ⊎ (eqb i (suc k) ≡ true) → length (f i (rowBytes t i)) ≡ rowLength t
+          by (inl e) = d .keeps i v e
+          by (inr e) = let q : i ≡ suc k = eqb-true i (suc k) e in rw q (sym (ap length here) ∙ long ∙ long-lent)
+
+      rows : take (16 + k * size) u ++ (x ++ drop ((16 + k * size + size) - (16 + k * size)) (drop (16 + k * size) u)) ≡ withRows t (joining p (only (suc k))) f (usedOf t)
+      rows = part-back (16 + k * size) size u x x refl (long ∙ part-length (16 + k * size) size u fits)
+          ∙ ap (λ (y : List ℕ). put (16 + k * size) y u) (made ∙ ap (f (suc k)) (part-is u (16 + k * size) size (16 + k * rowLength t) (rowLength t) (ap (λ (z : ℕ). 16 + k * z) (d .wide)) (d .wide)))
+          ∙ ap (λ (z : ℕ). put (16 + k * z) (f (suc k) (block 16 (rowLength t) (suc k) u)) u) (d .wide)
+          ∙ ap (withBlock 16 (rowLength t) (suc k) (f (suc k))) (d .rows)
+          ∙ one-more 16 (rowLength t) t p f (usedOf t) k room (omega arith) new keeps
+
+-- ---- the turn of row i, which starts behind those before it
+module _ {t : List ℕ} {f : ℕ → List ℕ → List ℕ} {size : ℕ} {p : ℕ → Bool} {u : List ℕ} (d : Done t f size p u) {i : ℕ} (w : Within (usedOf t) i) (new : p i ≡ false) where
+  row : suc (i - 1) ≡ i
+  row = omega arith
+
+  inside : Within (usedOf t) (suc (i - 1))
+  inside = omega arith
+
+  pub turn-fits : 16 + (i - 1) * size + size ≤ length u
+  turn-fits = fits d (i - 1) inside (ap p row ∙ new)
+
+  pub turn-long : length (take ((16 + (i - 1) * size + size) - (16 + (i - 1) * size)) (drop (16 + (i - 1) * size) u)) ≡ rowLength t
+  turn-long = long-lent d (i - 1) inside (ap p row ∙ new)
+
+  pub turn-done : (x : List ℕ) → length x ≡ length (take ((16 + (i - 1) * size + size) - (16 + (i - 1) * size)) (drop (16 + (i - 1) * size) u))
+      → x ≡ f i (take ((16 + (i - 1) * size + size) - (16 + (i - 1) * size)) (drop (16 + (i - 1) * size) u))
+      → Done t f size (joining p (only i)) (take (16 + (i - 1) * size) u ++ (x ++ drop ((16 + (i - 1) * size + size) - (16 + (i - 1) * size)) (drop (16 + (i - 1) * size) u)))
+  turn-done x long made =
+      subst (λ (j : ℕ). Done t f size (joining p (only j)) (take (16 + (i - 1) * size) u ++ (x ++ drop ((16 + (i - 1) * size + size) - (16 + (i - 1) * size)) (drop (16 + (i - 1) * size) u)))) row
+      (back d (i - 1) inside (ap p row ∙ new) x long (made ∙ ap (λ (j : ℕ). f j (take ((16 + (i - 1) * size + size) - (16 + (i - 1) * size)) (drop (16 + (i - 1) * size) u))) (sym row)))
+
+-- the table stays as long
+pub done-long : {t : List ℕ} {f : ℕ → List ℕ → List ℕ} {size : ℕ} {p : ℕ → Bool} {u : List ℕ} → Done t f size p u → length u ≡ length t
+unfolding withRows rowBytes rowsEnd
+done-long {t} {f} {size} {p} d = ap length (d .rows) ∙ blocks-changed 16 (rowLength t) t p f (usedOf t) (rows-in (d .table) (usedOf t) (header (d .table .header) .used .1)) (d .keeps) .long
+
+-- all rows of a set are changed
+pub done-all : {t : List ℕ} {f : ℕ → List ℕ → List ℕ} {size : ℕ} {p : ℕ → Bool} {u : List ℕ} → Done t f size p u → (s : ℕ → Bool) → s ≡ p → u ≡ withRows t s f (usedOf t)
+done-all {t} {f} d s e = d .rows ∙ ap (λ (q : ℕ → Bool). withRows t q f (usedOf t)) (sym e)

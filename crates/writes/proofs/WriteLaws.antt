@@ -6,15 +6,18 @@ use Prim.Native.Nat.{ℕ, _+_, _*_, _^_, _≤_}
 use native.Mathlib.Omega.{arith}
 use lib.Dec.{ltb}
 use lib.ListN.{length}
+use Rattle.sets.specs.Upto.{Within}
 use Rattle.sets.specs.Sets.{has}
+use Rattle.sets.proofs.SetLaws.{has-within}
 use Rattle.quorums.specs.declared.Kind.the-variants.{Write}
-use Rattle.fields.specs.Layout.{usedOf, rowLength}
+use Rattle.fields.specs.Layout.{usedOf, nameOf, rowLength}
 use Rattle.table.specs.Chain.{orderOf}
 use Rattle.table.specs.WellFormed.{limit}
 use Rattle.table.proofs.WellFormedLaws.{row-length}
 use Rattle.protocol.specs.Polls.{goodVersion, good, current, quorumHeld}
 use Rattle.protocol.specs.Rows.{withRows, wroteRow}
 use Rattle.protocol.specs.Calls.{Outcome, write, firstNo, questions, answers, workSet, done, outcome, resultOf}
+use Rattle.protocol.proofs.PollLaws.{worked-in}
 use Rattle.protocol.proofs.QuestionLaws.{write-yes, refusal-is, when-done}
 use Rattle.settle.specs.declared.Settled.{Settled}
 use Rattle.settle.specs.Works.{Works}
@@ -53,6 +56,12 @@ module _ (t : List ℕ) (c r offset : ℕ) (patch : List ℕ) where
 
         pub patch-in : 32 + offset + length patch ≤ rowLength t
         patch-in = omega (arith, row-length t, write-yes t c r offset patch all-yes .range)
+
+        -- the rows worked on answered, and are used
+        pub works-used : (i : ℕ) → has (v .rows .bits) i ≡ true → Within (usedOf t) i
+        unfolding workSet
+        works-used i h = has-within (usedOf t) r i (write-yes t c r offset patch all-yes .first .rows)
+            (worked-in Write (orderOf t) (answers t r) c (nameOf t c) (has r) i (ap (λ (f : ℕ → Bool). f i) (sym (j .rows)) ∙ h))
 
         pub write-done : (0 * 2 ^ 32 + (v .version + 1) ≡ resultOf (outcome t (write c r offset patch)))
             × (withRows t (has (v .rows .bits)) (wroteRow (has (v .good .bits)) (v .version + 1) offset patch) (usedOf t) ≡ outcome t (write c r offset patch) .table)

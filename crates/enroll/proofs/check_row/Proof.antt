@@ -14,11 +14,7 @@ same-length : tie.Need-same-length
 same-length c = search needs
 
 returns : tie.Need-returns
-returns c = rw (c .before .before .before .before .before .before .before .before .if1 .taken) (c .before .before .enroll-row .ensures ∙ ap (enrolledRow _ _) (c .before .before .before .before .before .before .mark-other .ensures))
-
-returns-2 : tie.Need-returns-2
-returns-2 c = search needs
+returns c = c .before .before .enroll-row .ensures ∙ ap (enrolledRow _ _) (c .before .before .before .before .before .before .mark-other .ensures)
 
 pub check-row-spec : {M : Type 1} → statement M
-check-row-spec =
-    tie.close (tie.spec mark-other-requires enroll-row-requires same-length returns returns-2)
+check-row-spec = tie.close (tie.spec mark-other-requires enroll-row-requires same-length returns)

@@ -12,16 +12,13 @@ same-length : tie.Need-same-length
 same-length c = search needs
 
 returns : tie.Need-returns
-returns c = rw (c .before .before .before .before .before .if1 .taken, c .before .before .before .before .if2 .taken) (c .before .before .patch-row .ensures)
+returns c = rw (c .before .before .before .before .if1 .taken) (c .before .before .patch-row .ensures)
 
 same-length-2 : tie.Need-same-length-2
 same-length-2 c = search needs
 
 returns-2 : tie.Need-returns-2
-returns-2 c = rw (c .before .before .before .before .before .if1 .taken, c .before .before .before .before .if2 .left) (c .before .before .mark-row .ensures)
-
-returns-3 : tie.Need-returns-3
-returns-3 c = search needs
+returns-2 c = rw (c .before .before .before .before .if1 .left) (c .before .before .mark-row .ensures)
 
 pub write-row-spec : {M : Type 1} → statement M
 write-row-spec =
@@ -32,5 +29,4 @@ write-row-spec =
     same-length
     returns
     same-length-2
-    returns-2
-    returns-3)
+    returns-2)

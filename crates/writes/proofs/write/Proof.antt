@@ -11,7 +11,7 @@ use Rattle.protocol.specs.Calls.{firstNo}
 use Rattle.protocol.proofs.QuestionLaws.{ByCoordinator}
 use Rattle.questions.specs.Stages.{toRange}
 use Rattle.questions.proofs.QuestionLaws.{range-passed}
-use Rattle.writes.proofs.WriteLaws.{write-early, write-no, write-full, patch-in, write-done}
+use Rattle.writes.proofs.WriteLaws.{write-early, write-no, write-full, works-used, patch-in, write-done}
 use Rattle.writes.proofs.write.Statement.{statement}
 use Rattle.writes.proofs.write.Tie as tie
 
@@ -88,6 +88,7 @@ write-rows-requires c κs =
     let a = c .before .before .before .before .before .before .before .before .before .before .before .before .before .args in
     let s = c .before .before .before .before .before .before .settle in (
       sized (asked (c .before .before .before .before .before .before .before .before) .formed),
+      works-used (a .t .now) (a .c) (a .r) (a .offset) (a .patch .now) (passed (c .before .before .before .before .before .before .before .before)) (s .result) (s .ensures) (settled-here (c .before .before .before .before)) (room (c .before .before)),
       patch-in (a .t .now) (a .c) (a .r) (a .offset) (a .patch .now) (passed (c .before .before .before .before .before .before .before .before)) (s .result) (s .ensures) (settled-here (c .before .before .before .before)) (room (c .before .before)),
     )
 

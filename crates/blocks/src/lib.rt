@@ -1,0 +1,1 @@
+// Lists of bytes that are a head and then blocks of one width, defined.
