@@ -39,9 +39,10 @@ fn blank(names: &[u16], file_len: usize) -> Case {
 fn expect(names: &[u16], calls: &[(Call, u64, u64)]) {
     let mut archive = Archive::new();
     let mut trial = Trial::new(&mut archive, Engine::default(), &blank(names, 4));
-    assert_eq!(trial.step(&found(names, 4)), Ok(names.len() as u64));
+    let mut result = |call: &Call| trial.step(call).map(|step| step.result);
+    assert_eq!(result(&found(names, 4)), Ok(names.len() as u64));
     for (call, refusal, value) in calls {
-        assert_eq!(trial.step(call), Ok((refusal << 32) + value), "{call}");
+        assert_eq!(result(call), Ok((refusal << 32) + value), "{call}");
     }
 }
 
