@@ -30,6 +30,19 @@
 extern "C" {
 #endif
 
+/* Rises with every change of a signature in this header. */
+#define DYNGRID_INTERFACE 1
+
+/* The number of the archive. */
+uint64_t grid_interface(void);
+
+/* Has the archive the signatures that are declared here? A host asks this once, at its start and before any other call.
+   If not, archive and header are of two versions: build the archive from the checkout that the header is from. */
+static inline int grid_interface_agrees(void)
+{
+    return grid_interface() == DYNGRID_INTERFACE;
+}
+
 /* Why a call was refused. The questions behind the numbers are put in this order; the first no counts. */
 enum grid_refusals {
     GRID_DONE = 0,                 /* not refused */

@@ -22,6 +22,7 @@ const RUN_TIME: Duration = Duration::from_millis(1);
 const MOST_CALLS: u32 = 20_000;
 
 fn main() -> ExitCode {
+    dyngrid::raw::assert_interface();
     let load = report::load();
     let states = states::all();
     let mut timings = Vec::new();

@@ -1,10 +1,35 @@
-//! The five functions of the archive as `dyngrid.h` declares them.
+//! The functions of the archive as `dyngrid.h` declares them.
 //!
 //! A list is a pointer and then its length in bytes. A result is the refusal number times 2^32, plus the value.
 //! The slices of one call must not overlap. Reads of one table may run at the same time, each with its own buffer;
 //! while any other call runs on a table, nothing else may touch it.
+//!
+//! Who calls these functions calls [`assert_interface`] before the first of them. A [`Table`](crate::Table) does it by itself.
+
+use std::sync::OnceLock;
+
+/// Rises with every change of a signature below, as in the archive.
+pub const INTERFACE: u64 = 1;
+
+/// Panics unless the archive has the signatures that are declared here. The archive is asked once.
+pub fn assert_interface() {
+    static ARCHIVE: OnceLock<u64> = OnceLock::new();
+    // SAFETY: this signature never changes.
+    agree(*ARCHIVE.get_or_init(|| unsafe { grid_interface() }));
+}
+
+fn agree(archive: u64) {
+    assert!(
+        archive == INTERFACE,
+        "libdyngrid.a has interface {archive}, and this wrapper needs {INTERFACE}: \
+         build archive and wrapper from one checkout (`make lib`, then `cargo build`)"
+    );
+}
 
 extern "C" {
+    /// The number of the archive's interface.
+    pub fn grid_interface() -> u64;
+
     /// Founds a table. Value: the rows used.
     pub fn grid_found(
         table: *mut u8,
@@ -43,4 +68,22 @@ extern "C" {
 
     /// Makes the answering rows the list in force. Value: the epoch number in force.
     pub fn grid_check(table: *mut u8, table_len: usize, coordinator: u64, answering: u64) -> u64;
+}
+
+#[cfg(test)]
+mod tests {
+    use super::*;
+
+    #[test]
+    fn the_archive_agrees() {
+        assert_interface();
+    }
+
+    #[test]
+    #[should_panic(
+        expected = "has interface 7, and this wrapper needs 1: build archive and wrapper from one checkout"
+    )]
+    fn another_archive_is_refused() {
+        agree(7);
+    }
 }

@@ -19,7 +19,10 @@ pub struct Table {
 
 impl Table {
     /// Founds a table of `capacity` rows for a file of `file_len` zero bytes on the machines `names`, which must rise.
+    ///
+    /// Panics if the archive has another interface than this wrapper.
     pub fn found(capacity: usize, file_len: usize, names: &[u16]) -> Result<Table, Refusal> {
+        raw::assert_interface();
         let mut bytes = vec![0; length(capacity, file_len).unwrap_or(0)];
         let names: Vec<u8> = names.iter().flat_map(|name| name.to_le_bytes()).collect();
         let (capacity, file_len) = (capacity as u64, file_len as u64);
@@ -31,7 +34,10 @@ impl Table {
     }
 
     /// Takes over the bytes of a table, as kept on a disk. If they are no well-formed table, the error gives them back.
+    ///
+    /// Panics if the archive has another interface than this wrapper.
     pub fn from_bytes(bytes: Vec<u8>) -> Result<Table, NotATable> {
+        raw::assert_interface();
         let mut table = Table { bytes };
         // A send between rows 0 is never done, and tells a malformed table from a well-formed one.
         match table.send(0, 0, Rows::EMPTY) {
