@@ -1,6 +1,12 @@
 # make run: the main job. make test: the gate. The others are for daily work.
 .PHONY: run test check lib host bench pictures
 
+# $(call needs,TOOL,HOW TO GET IT): stops with a sentence if the tool is not on the PATH.
+needs = $(if $(shell command -v $(1) 2>/dev/null),,$(error $(1) is not on the PATH: $(2), and run this again))
+needs-rt = $(call needs,rt,install the Rattle toolchain (the kit's bin folder holds rt) and add its folder to the PATH)
+needs-rust = $(call needs,cargo,install Rust)
+needs-c = $(call needs,gcc,install a C compiler)$(call needs,g++,install a C++ compiler)
+
 # Proves every crate, then walks: seven calls on four machines.
 run: check
 	@echo "The walk (step, call, refusal number, value):"
@@ -11,20 +17,20 @@ test:
 	bash .ci/run
 
 check:
-	rt check
+	$(needs-rt)rt check
 
 # target/staticlib/libdyngrid.a, declared in host/include/dyngrid.h
 lib:
-	rt staticlib dyngrid
+	$(needs-rt)rt staticlib dyngrid
 
 # The host's tests alone: header, examples, wrapper, differential test.
 host: lib
-	host/run-tests
+	$(needs-rust)$(needs-c)host/run-tests
 
 # Times of each call against the second implementation, to docs/BENCHMARKS.md. Let the machine be quiet.
 bench: lib
-	cargo run --release --offline --quiet --manifest-path host/Cargo.toml -p bench -- docs/BENCHMARKS.md
+	$(needs-rust)cargo run --release --offline --quiet --manifest-path host/Cargo.toml -p bench -- docs/BENCHMARKS.md
 
 # How many machines a read and a write call, to docs/QUORUMS.md and docs/quorums.svg; the crates, to docs/rooms.svg.
 pictures: lib
-	cargo run --release --offline --quiet --manifest-path host/Cargo.toml -p pictures -- .
+	$(needs-rust)cargo run --release --offline --quiet --manifest-path host/Cargo.toml -p pictures -- .

@@ -46,6 +46,10 @@ int main(void)
     const uint64_t three = grid_row(1) | grid_row(2) | grid_row(3);
     const uint64_t two = grid_row(3) | grid_row(4);
 
+    if (!grid_interface_agrees()) {
+        fprintf(stderr, "libdyngrid.a and dyngrid.h are of two versions: take both from one checkout\n");
+        return 1;
+    }
     if (!report("found", grid_found(table, sizeof table, MACHINES, FILE_BYTES, names, sizeof names)))
         return 1;
 

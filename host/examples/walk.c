@@ -10,6 +10,8 @@ static void line(int step, const char *call, uint64_t result)
 int main(void)
 {
     uint8_t table[160], byte[1], names[] = {1, 0, 2, 0, 3, 0, 4, 0};
+    if (!grid_interface_agrees())
+        return 1;
     if (grid_found(table, sizeof table, 4, 4, names, sizeof names) != 4)
         return 1;
     line(1, "write", grid_write(table, sizeof table, 1, 0x7, 0, (const uint8_t *)"a", 1));

@@ -1,8 +1,7 @@
 /* The dynamic grid: copies of one file on up to 64 machines, as a C program calls it.
  *
  * Link with libdyngrid.a; it needs nothing but memcpy and memset. Each call is one step over a table that the
- * caller owns: it keeps no state, takes no memory, and returns for any bytes and any numbers. Who answered,
- * and who may call at the same time, is the caller's business.
+ * caller owns: it takes no memory, and returns for any bytes and any numbers. Who answered is the caller's business.
  *
  * Conventions
  *   A list is a pointer and then its length in bytes. Names are two bytes each, low byte first.
@@ -10,9 +9,14 @@
  *   A result is the refusal number (0: done) times 2^32, plus the value (see grid_refusal, grid_value).
  *   A refused call has value 0 and alters no byte of the table, of a buffer or of anything else.
  *
+ * Calls at the same time
+ *   Reads of one table may run at the same time, also from several threads, each with its own buffer: a read alters
+ *   nothing of the table, and the library keeps no state of its own. Every other call has the table to itself.
+ *
  * What a host must not do
  *   - pass slices of one call that overlap: a table and its buffer, patch or names;
- *   - make two calls at once on one table, or touch it, or another slice of the call, while a call runs;
+ *   - let two calls that are not both reads run on one table at once, or touch a slice of a call while it runs (other
+ *     reads of its table aside);
  *   - pass a length above 0 with a null pointer, or above what the pointer leads to. Null with length 0 is an empty list.
  *   These three the library cannot see; everything else it refuses by number.
  */
@@ -25,6 +29,19 @@
 #ifdef __cplusplus
 extern "C" {
 #endif
+
+/* Rises with every change of a signature in this header. */
+#define DYNGRID_INTERFACE 1
+
+/* The number of the archive. */
+uint64_t grid_interface(void);
+
+/* Has the archive the signatures that are declared here? A host asks this once, at its start and before any other call.
+   If not, archive and header are of two versions: build the archive from the checkout that the header is from. */
+static inline int grid_interface_agrees(void)
+{
+    return grid_interface() == DYNGRID_INTERFACE;
+}
 
 /* Why a call was refused. The questions behind the numbers are put in this order; the first no counts. */
 enum grid_refusals {

@@ -19,6 +19,7 @@ pub struct Archive {
 
 impl Archive {
     pub fn new() -> Archive {
+        raw::assert_interface();
         Archive { table: Guard::new(LONGEST_TABLE), list: Guard::new(LONGEST_LIST), edge: Edge::End }
     }
 

@@ -1,66 +1,81 @@
 //! Every rule of well-formedness, broken one at a time.
 
 use crate::random::Random;
-use crate::tables::{self, Size};
+use crate::tables::{self, Picture, Size};
 use reference::{rows, Table, HEADER, LIMIT, ROW_HEADER};
 
-/// Breaks one rule of a well-formed table that has two used rows or more, and an unused one.
-type Damage = fn(&mut Vec<u8>, &Table, &mut Random);
+/// Breaks one rule of a well-formed table.
+type Damage = fn(&mut Vec<u8>, &Picture, &mut Random);
 
-const RULES: [(&str, Damage); 31] = [
-    ("empty", |bytes, _, _| bytes.clear()),
-    ("truncated", |bytes, _, random| bytes.truncate(random.between(1, bytes.len() - 2))),
-    ("a byte short", |bytes, _, _| bytes.truncate(bytes.len() - 1)),
-    ("a byte over", |bytes, _, _| bytes.push(0)),
-    ("a row short", |bytes, table, _| bytes.truncate(bytes.len() - ROW_HEADER - table.file_len)),
-    ("a row over", |bytes, table, _| bytes.resize(bytes.len() + ROW_HEADER + table.file_len, 0)),
-    ("form", |bytes, _, random| bytes[0] = random.pick(&[0, 2, 255])),
-    ("capacity 0", |bytes, _, _| {
+/// What a table must have for a rule to be broken, besides two used rows.
+#[derive(Clone, Copy, PartialEq, Eq)]
+enum Needs {
+    Nothing,
+    /// A number that is no used row, but has a bit in a list.
+    FewerThan64,
+    UnusedRow,
+}
+use Needs::{FewerThan64, Nothing, UnusedRow};
+
+const RULES: [(&str, Needs, Damage); 32] = [
+    ("empty", Nothing, |bytes, _, _| bytes.clear()),
+    ("truncated", Nothing, |bytes, _, random| bytes.truncate(random.between(1, bytes.len() - 2))),
+    ("a byte short", Nothing, |bytes, _, _| bytes.truncate(bytes.len() - 1)),
+    ("a byte over", Nothing, |bytes, _, _| bytes.push(0)),
+    ("a row short", Nothing, |bytes, table, _| bytes.truncate(bytes.len() - ROW_HEADER - table.file_len)),
+    ("a row over", Nothing, |bytes, table, _| bytes.resize(bytes.len() + ROW_HEADER + table.file_len, 0)),
+    ("form", Nothing, |bytes, _, random| bytes[0] = random.pick(&[0, 2, 255])),
+    ("capacity 0", Nothing, |bytes, _, _| {
         bytes[1] = 0;
         bytes.truncate(HEADER);
     }),
-    ("capacity 65", |bytes, table, _| {
+    ("capacity 65", Nothing, |bytes, table, _| {
         bytes[1] = 65;
         bytes.resize(Table::length(65, table.file_len), 0);
     }),
-    ("no row used", |bytes, _, _| bytes[2] = 0),
-    ("more used than there are", |bytes, _, random| bytes[2] = random.pick(&[bytes[1] + 1, 65, 255])),
-    ("first row", |bytes, table, random| {
-        let second = table.chain[1] as u8;
-        bytes[3] = random.pick(&[0, bytes[2] + 1, 64, 255, second]);
+    ("no row used", Nothing, |bytes, _, _| bytes[2] = 0),
+    ("fewer used than there are", Nothing, |bytes, _, _| bytes[2] -= 1),
+    ("more used than there are", Nothing, |bytes, _, random| {
+        bytes[2] = random.pick(&[bytes[1] + 1, 65, 255])
     }),
-    ("file length 0", |bytes, table, _| restride(bytes, table, 0)),
-    ("file length 4097", |bytes, table, _| restride(bytes, table, 4097)),
-    ("header not zero", |bytes, _, random| bytes[random.between(6, 15)] = random.pick(&[1, 128, 255])),
-    ("name 0", |bytes, table, _| put(bytes, table, table.first, 0, &[0, 0])),
-    ("link out of range", |bytes, table, random| {
-        let link = random.pick(&[table.used.len() as u8 + 1, 65, 128, 255]);
+    ("first row", Nothing, |bytes, table, random| {
+        let (above, second) = (bytes[2] + 1, table.chain[1]);
+        bytes[3] = random.pick(&[0, above, above.max(64), 255, second]);
+    }),
+    ("file length 0", Nothing, |bytes, table, _| restride(bytes, table, 0)),
+    ("file length 4097", Nothing, |bytes, table, _| restride(bytes, table, 4097)),
+    ("header not zero", Nothing, |bytes, _, random| {
+        bytes[random.between(6, 15)] = random.pick(&[1, 128, 255])
+    }),
+    ("name 0", Nothing, |bytes, table, _| put(bytes, table, table.at(0), 0, &[0, 0])),
+    ("link out of range", Nothing, |bytes, table, random| {
+        let link = random.pick(&[table.used as u8 + 1, 65, 128, 255]);
         put(bytes, table, any_row(table, random), 2, &[link]);
     }),
-    ("chain cut short", |bytes, table, random| {
-        let place = random.between(0, table.chain.len() - 2);
-        put(bytes, table, table.chain[place], 2, &[0]);
+    ("chain cut short", Nothing, |bytes, table, random| {
+        let place = random.between(0, table.used - 2);
+        put(bytes, table, table.at(place), 2, &[0]);
     }),
-    ("chain in a ring", |bytes, table, random| {
-        let last = table.chain[table.chain.len() - 1];
-        let back = random.pick(&table.chain) as u8;
+    ("chain in a ring", Nothing, |bytes, table, random| {
+        let last = table.at(table.used - 1);
+        let back = random.pick(&table.chain);
         put(bytes, table, last, 2, &[back]);
     }),
-    ("names equal", |bytes, table, random| {
-        let place = random.between(1, table.chain.len() - 1);
-        let name = table.row(table.chain[place - 1]).name;
-        put(bytes, table, table.chain[place], 0, &name.to_le_bytes());
+    ("names equal", Nothing, |bytes, table, random| {
+        let place = random.between(1, table.used - 1);
+        let name = table.row(table.at(place - 1)).name;
+        put(bytes, table, table.at(place), 0, &name.to_le_bytes());
     }),
-    ("names fall", |bytes, table, random| {
-        let place = random.between(1, table.chain.len() - 1);
-        let (one, two) = (table.chain[place - 1], table.chain[place]);
+    ("names fall", Nothing, |bytes, table, random| {
+        let place = random.between(1, table.used - 1);
+        let (one, two) = (table.at(place - 1), table.at(place));
         put(bytes, table, one, 0, &table.row(two).name.to_le_bytes());
         put(bytes, table, two, 0, &table.row(one).name.to_le_bytes());
     }),
-    ("mark above 1", |bytes, table, random| {
+    ("mark above 1", Nothing, |bytes, table, random| {
         put(bytes, table, any_row(table, random), 3, &[random.pick(&[2, 129, 255])])
     }),
-    ("number above the limit", |bytes, table, random| {
+    ("number above the limit", Nothing, |bytes, table, random| {
         let row = any_row(table, random);
         let above = random.pick(&[LIMIT + 1, 1 << 24, u32::MAX]);
         match random.between(0, 2) {
@@ -69,38 +84,38 @@ const RULES: [(&str, Damage); 31] = [
             _ => put(bytes, table, row, 12, &above.to_le_bytes()),
         }
     }),
-    ("desired without the mark", |bytes, table, random| {
+    ("desired without the mark", Nothing, |bytes, table, random| {
         put_numbers(bytes, table, any_row(table, random), 0, 3, random.pick(&[1, 3, 4, LIMIT]));
     }),
-    ("desired not above the version", |bytes, table, random| {
+    ("desired not above the version", Nothing, |bytes, table, random| {
         let version = random.pick(&[0, 1, 256, LIMIT]);
         let desired = random.pick(&[0, version / 2, version]);
         put_numbers(bytes, table, any_row(table, random), 1, version, desired);
     }),
-    ("list without its row", |bytes, table, random| {
+    ("list without its row", Nothing, |bytes, table, random| {
         let row = any_row(table, random);
         put_epoch(bytes, table, row, FREE_EPOCH, table.all_used() & !rows::only(row));
     }),
-    ("list with an unused row", |bytes, table, random| {
-        let unused = random.between(table.used.len() + 1, 64);
+    ("list with an unused row", FewerThan64, |bytes, table, random| {
+        let unused = random.between(table.used + 1, 64);
         put_epoch(bytes, table, any_row(table, random), FREE_EPOCH, table.all_used() | rows::only(unused));
     }),
-    ("one epoch, two lists", |bytes, table, random| {
+    ("one epoch, two lists", Nothing, |bytes, table, random| {
         let one = any_row(table, random);
         let other = random.row(table.all_used() & !rows::only(one));
         put_epoch(bytes, table, one, FREE_EPOCH, table.all_used());
         put_epoch(bytes, table, other, FREE_EPOCH, table.all_used() & !rows::only(one));
     }),
-    ("row not zero", |bytes, table, random| {
+    ("row not zero", Nothing, |bytes, table, random| {
         let value = random.pick(&[1, 128, 255]);
         put(bytes, table, any_row(table, random), random.between(24, 31), &[value]);
     }),
-    ("unused row not zero", |bytes, table, random| {
-        let at = random.between(table.row_at(table.used.len() + 1), bytes.len() - 1);
+    ("unused row not zero", UnusedRow, |bytes, table, random| {
+        let at = random.between(table.row_at(table.used + 1), bytes.len() - 1);
         bytes[at] = random.pick(&[1, 128, 255]);
     }),
-    ("ends of unused rows not zero", |bytes, table, random| {
-        let row = random.between(table.used.len() + 1, table.capacity);
+    ("ends of unused rows not zero", UnusedRow, |bytes, table, random| {
+        let row = random.between(table.used + 1, table.capacity);
         let at = random.pick(&[table.row_at(row), table.row_at(row + 1) - 1, bytes.len() - 1]);
         bytes[at] = 1;
     }),
@@ -110,44 +125,55 @@ const RULES: [(&str, Damage); 31] = [
 const FREE_EPOCH: u32 = 500_000;
 
 /// A well-formed table, and the same with one rule broken.
-pub fn damaged(random: &mut Random) -> (Table, Vec<u8>) {
+pub fn damaged(random: &mut Random) -> (Picture, Vec<u8>) {
     let rule = random.between(0, RULES.len() - 1);
     damaged_by(random, rule)
 }
 
-fn damaged_by(random: &mut Random, rule: usize) -> (Table, Vec<u8>) {
-    let used = random.pick(&[2, 3, 4, 7, 15, 40, 63]);
-    let capacity = if random.chance(1, 2) { used + 1 } else { random.between(used + 1, 64) };
-    let size = Size { used, capacity, file_len: random.pick(&[1, 4, 17]) };
+fn damaged_by(random: &mut Random, rule: usize) -> (Picture, Vec<u8>) {
+    let (_, needs, damage) = RULES[rule];
+    let size = size(random, needs);
     let mut bytes = tables::well_formed(random, size);
-    let table = Table::decode(&bytes).expect("made well formed");
-    RULES[rule].1(&mut bytes, &table, random);
+    let table = Picture::of(&bytes).expect("made well formed");
+    damage(&mut bytes, &table, random);
     (table, bytes)
 }
 
-fn any_row(table: &Table, random: &mut Random) -> usize {
-    random.between(1, table.used.len())
+/// In half of the cases every row is used.
+fn size(random: &mut Random, needs: Needs) -> Size {
+    let most = if needs == Nothing { 64 } else { 63 };
+    let used = random.pick(&[2, 3, 4, 7, 15, 40, 63, 64]).min(most);
+    let capacity = match random.between(0, 3) {
+        0..=1 if needs != UnusedRow => used,
+        2 => (used + 1).min(64),
+        _ => random.between((used + 1).min(64), 64),
+    };
+    Size { used, capacity, file_len: random.pick(&[1, 4, 17]) }
+}
+
+fn any_row(table: &Picture, random: &mut Random) -> usize {
+    random.between(1, table.used)
 }
 
 /// Writes into a row, from its byte `at` on.
-fn put(bytes: &mut [u8], table: &Table, row: usize, at: usize, new: &[u8]) {
+fn put(bytes: &mut [u8], table: &Picture, row: usize, at: usize, new: &[u8]) {
     let start = table.row_at(row) + at;
     bytes[start..start + new.len()].copy_from_slice(new);
 }
 
-fn put_numbers(bytes: &mut [u8], table: &Table, row: usize, mark: u8, version: u32, desired: u32) {
+fn put_numbers(bytes: &mut [u8], table: &Picture, row: usize, mark: u8, version: u32, desired: u32) {
     put(bytes, table, row, 3, &[mark]);
     put(bytes, table, row, 4, &version.to_le_bytes());
     put(bytes, table, row, 8, &desired.to_le_bytes());
 }
 
-fn put_epoch(bytes: &mut [u8], table: &Table, row: usize, epoch: u32, list: u64) {
+fn put_epoch(bytes: &mut [u8], table: &Picture, row: usize, epoch: u32, list: u64) {
     put(bytes, table, row, 12, &epoch.to_le_bytes());
     put(bytes, table, row, 16, &list.to_le_bytes());
 }
 
 /// Gives every row another file length, and the table the length that goes with it.
-fn restride(bytes: &mut Vec<u8>, table: &Table, file_len: usize) {
+fn restride(bytes: &mut Vec<u8>, table: &Picture, file_len: usize) {
     let mut wider = bytes[..HEADER].to_vec();
     wider[4..6].copy_from_slice(&(file_len as u16).to_le_bytes());
     for row in bytes[HEADER..].chunks(ROW_HEADER + table.file_len) {
@@ -163,11 +189,22 @@ mod tests {
 
     #[test]
     fn every_damage_makes_a_table_malformed() {
-        for (rule, (name, _)) in RULES.iter().enumerate() {
+        for (rule, (name, ..)) in RULES.iter().enumerate() {
             for case in 0..200 {
                 let (_, bytes) = damaged_by(&mut Random::new(2, case), rule);
                 assert!(Table::decode(&bytes).is_none(), "{name}");
             }
+        }
+    }
+
+    #[test]
+    fn tables_without_unused_rows_are_damaged_too() {
+        for (rule, (name, needs, _)) in RULES.iter().enumerate() {
+            let full = (0..200).filter(|&case| {
+                let (table, _) = damaged_by(&mut Random::new(2, case), rule);
+                table.used == table.capacity
+            });
+            assert_eq!(full.count() > 50, *needs != UnusedRow, "{name}");
         }
     }
 }

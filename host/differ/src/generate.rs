@@ -3,7 +3,7 @@
 use crate::call::Call;
 use crate::damage;
 use crate::random::Random;
-use crate::tables::{self, Size};
+use crate::tables::{self, Picture, Size};
 use reference::{rows, Layout, Quorum, Table, MAX_FILE, MAX_ROWS};
 
 /// What a case tries: a table to start from, and how its calls are picked.
@@ -15,7 +15,7 @@ pub struct Plan {
     /// Every call is a founding of about this size.
     foundings: Option<Size>,
     /// The table as last seen well formed: other calls are fitted to it.
-    known: Option<Table>,
+    known: Option<Picture>,
     /// Rows whose machines are up.
     up: u64,
 }
@@ -51,7 +51,7 @@ impl Plan {
     fn unfounded(random: &mut Random) -> Plan {
         let size = Size::pick(random);
         let start = tables::well_formed(random, size);
-        let known = Table::decode(&start);
+        let known = Picture::of(&start);
         let up = random.subset(rows::first(size.used), 4, 5);
         Plan { start, calls: random.between(1, 9), opening: None, foundings: None, known, up }
     }
@@ -97,10 +97,10 @@ impl Plan {
         if let Some(size) = self.foundings {
             return bad_founding(random, size);
         }
-        self.known = Table::decode(bytes).or(self.known.take());
+        self.known = Picture::of(bytes).or(self.known.take());
         let table = self.known.as_ref().expect("founded by now, or known from the start");
         if random.chance(1, 8) {
-            self.up ^= rows::only(random.between(1, table.used.len()));
+            self.up ^= rows::only(random.between(1, table.used));
         }
         // A founding in mid-history may leave fewer rows; someone is always up.
         self.up = Some(self.up & table.all_used()).filter(|&up| up != 0).unwrap_or(1);
@@ -165,7 +165,7 @@ fn edge(random: &mut Random, limit: u64, now: u64) -> u64 {
 }
 
 /// A call that may well be done.
-fn fitting(random: &mut Random, table: &Table, up: u64) -> Call {
+fn fitting(random: &mut Random, table: &Picture, up: u64) -> Call {
     let coordinator = random.row(up);
     match random.between(0, 99) {
         0..=31 => {
@@ -192,14 +192,14 @@ fn fitting(random: &mut Random, table: &Table, up: u64) -> Call {
 }
 
 /// Who answers the coordinator: by turns all, those up, a quorum and a little less.
-fn answering(random: &mut Random, table: &Table, up: u64, coordinator: usize, quorum: Quorum) -> u64 {
+fn answering(random: &mut Random, table: &Picture, up: u64, coordinator: usize, quorum: Quorum) -> u64 {
     let own = table.row(coordinator);
-    let newest = table.used.iter().max_by_key(|row| row.epoch).map_or(0, |row| row.list);
+    let newest = table.rows.iter().max_by_key(|row| row.epoch).map_or(0, |row| row.list);
     let choice = |list, name| Layout::of(list, &table.chain).choice(quorum, name);
     let set = match random.between(0, 9) {
         0 => table.all_used(),
         1..=3 => up,
-        4 => up ^ rows::only(random.between(1, table.used.len())),
+        4 => up ^ rows::only(random.between(1, table.used)),
         5 => random.subset(table.all_used(), 1, 2),
         6 => newest,
         7 => newest & !rows::only(random.row(newest)),
@@ -208,13 +208,13 @@ fn answering(random: &mut Random, table: &Table, up: u64, coordinator: usize, qu
     };
     let with_coordinator = if random.chance(29, 30) { set | rows::only(coordinator) } else { set };
     if random.chance(1, 60) {
-        with_coordinator | rows::only(random.between(table.used.len(), 64))
+        with_coordinator | rows::only(random.between(table.used, 64))
     } else {
         with_coordinator
     }
 }
 
-fn range(random: &mut Random, table: &Table) -> (u64, usize) {
+fn range(random: &mut Random, table: &Picture) -> (u64, usize) {
     let offset = random.between(0, table.file_len - 1);
     let rest = table.file_len - offset;
     let length = if random.chance(3, 4) { random.between(1, rest.min(8)) } else { random.between(1, rest) };
@@ -222,7 +222,7 @@ fn range(random: &mut Random, table: &Table) -> (u64, usize) {
 }
 
 /// A send, mostly from a good row to a stale one.
-fn send(random: &mut Random, table: &Table, up: u64) -> Call {
+fn send(random: &mut Random, table: &Picture, up: u64) -> Call {
     let such = |test: &dyn Fn(usize) -> bool| {
         rows::members(table.all_used()).filter(|&row| test(row)).fold(0, |set, row| set | rows::only(row))
     };
@@ -243,8 +243,8 @@ fn send(random: &mut Random, table: &Table, up: u64) -> Call {
 }
 
 /// Gives one argument of the call a value at or beyond its limits.
-fn spoil(random: &mut Random, call: &mut Call, table: &Table) {
-    let (used, longest) = (table.used.len() as u64, table.file_len as u64);
+fn spoil(random: &mut Random, call: &mut Call, table: &Picture) {
+    let (used, longest) = (table.used as u64, table.file_len as u64);
     match call {
         Call::Found { capacity, file_len, names } => match random.between(0, 2) {
             0 => *capacity = edge(random, MAX_ROWS as u64, *capacity),
@@ -281,8 +281,8 @@ fn spoil(random: &mut Random, call: &mut Call, table: &Table) {
     }
 }
 
-fn bad_set(random: &mut Random, table: &Table) -> u64 {
-    let above = rows::only((table.used.len() + 1).min(64));
+fn bad_set(random: &mut Random, table: &Picture) -> u64 {
+    let above = rows::only((table.used + 1).min(64));
     let (all, any) = (table.all_used(), random.next());
     random.pick(&[0, 1, all, all | above, (1 << 32) + 1, 1 << 63, u64::MAX, any, all | 1 << 63])
 }

@@ -2,7 +2,9 @@
 
 use crate::archive::Archive;
 use crate::call::Call;
+use crate::generate::Plan;
 use crate::guard::Edge;
+use crate::random::Random;
 use crate::tables::names_in_bytes;
 use crate::trial::{Case, Trial};
 use reference::{rows, Engine, Table};
@@ -39,9 +41,10 @@ fn blank(names: &[u16], file_len: usize) -> Case {
 fn expect(names: &[u16], calls: &[(Call, u64, u64)]) {
     let mut archive = Archive::new();
     let mut trial = Trial::new(&mut archive, Engine::default(), &blank(names, 4));
-    assert_eq!(trial.step(&found(names, 4)), Ok(names.len() as u64));
+    let mut result = |call: &Call| trial.step(call).map(|step| step.result);
+    assert_eq!(result(&found(names, 4)), Ok(names.len() as u64));
     for (call, refusal, value) in calls {
-        assert_eq!(trial.step(call), Ok((refusal << 32) + value), "{call}");
+        assert_eq!(result(call), Ok((refusal << 32) + value), "{call}");
     }
 }
 
@@ -139,6 +142,38 @@ fn every_length_of_range_buffer_and_patch() {
                 trial
                     .step(&Call::Read { coordinator, answering, offset, length, buffer })
                     .expect("no difference");
+            }
+        }
+    }
+}
+
+/// Each coordinator has a picture of its own: rows that answer are fresh, the others are as it last saw them.
+#[test]
+fn gathered_pictures_give_the_same_as_the_whole_table() {
+    let mut archive = Archive::new();
+    for case in 0..400 {
+        let mut random = Random::new(4, case);
+        let mut plan = Plan::founded(&mut random);
+        let mut whole = plan.table();
+        let mut pictures: Vec<Vec<u8>> = Vec::new();
+        for _ in 0..plan.calls() {
+            let call = plan.next(&mut random, &whole);
+            let Some(answering) = call.answering() else {
+                archive.call(&mut whole, &call).expect("no stray write");
+                pictures = vec![whole.clone(); 65];
+                continue;
+            };
+            let picture = &mut pictures[random.row(answering)];
+            let shape = Table::decode(&whole).expect("a founded history");
+            let rows = rows::members(answering & shape.all_used());
+            let rows: Vec<_> = rows.map(|row| shape.row_at(row)..shape.row_at(row + 1)).collect();
+            for row in &rows {
+                picture[row.clone()].copy_from_slice(&whole[row.clone()]);
+            }
+            let answer = archive.call(&mut whole, &call).expect("no stray write");
+            assert_eq!(archive.call(picture, &call), Ok(answer), "{call}");
+            for row in rows {
+                assert_eq!(picture[row.clone()], whole[row], "{call}");
             }
         }
     }

@@ -60,7 +60,7 @@ impl Run {
             let call = plan.next(&mut random, trial.table());
             case.calls.push(call.clone());
             match trial.step(&call) {
-                Ok(result) => self.counts.add(&call, result),
+                Ok(step) => self.counts.add(&call, step),
                 Err(what) => {
                     let failure = Failure { call: case.calls.len() - 1, what };
                     return Some(Failed { number, case, failure });

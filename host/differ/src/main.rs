@@ -8,17 +8,17 @@ use std::time::{Instant, SystemTime, UNIX_EPOCH};
 const HELP: &str = "\
 differ: compares the archive with the reference, call by call
 
-    --calls N        make N calls (200000)
+    --calls N        make N calls (2000000)
     --seed S         the random numbers to use (a new seed each time)
     --case K         only case K of the seed
     --blunder NAME   the reference makes this blunder: a difference must follow
     --self-test      tries every blunder; each must be found within 20000 calls
     --blunders       lists the blunders";
 
-const DEFAULT_CALLS: u64 = 200_000;
+const DEFAULT_CALLS: u64 = 2_000_000;
 const SELF_TEST_CALLS: u64 = 20_000;
-/// So many calls meet every answer that a call can give.
-const CALLS_THAT_COVER: u64 = 50_000;
+/// So many calls meet every answer that a call can give, and twins of every size.
+const CALLS_THAT_COVER: u64 = 500_000;
 
 #[derive(Default)]
 struct Options {
@@ -100,8 +100,14 @@ fn compare(seed: u64, options: &Options) -> bool {
         println!("differ: never came up: {}", missing.join(", "));
         return false;
     }
+    let impossible = run.counts.impossible();
+    if !impossible.is_empty() {
+        println!("differ: no answer of that call: {}", impossible.join(", "));
+        return false;
+    }
     println!(
-        "differ: {calls} calls in {:.1} s, no difference (seed {seed})",
+        "differ: {calls} calls and {} twins in {:.1} s, no difference (seed {seed})",
+        run.counts.twins(),
         started.elapsed().as_secs_f64()
     );
     true
@@ -109,7 +115,7 @@ fn compare(seed: u64, options: &Options) -> bool {
 
 /// Prints a line now and then.
 fn progress(started: Instant) -> impl FnMut(&differ::Counts) {
-    const STEP: u64 = 50_000;
+    const STEP: u64 = 200_000;
     let mut next = STEP;
     move |counts| {
         if counts.total() >= next {

@@ -1,7 +1,43 @@
 //! Random well-formed tables that no founding leads to, and tables that differ only in rows that did not answer.
 
 use crate::random::Random;
-use reference::{rows, Row, Table, LIMIT};
+use reference::rows::{self, Order};
+use reference::{Row, Table, LIMIT};
+use std::ops::Deref;
+
+/// A well-formed table with its used rows, kept apart from its bytes.
+#[derive(Clone)]
+pub struct Picture {
+    table: Table,
+    /// Row i at place i - 1.
+    pub rows: Vec<Row>,
+}
+
+impl Picture {
+    /// Reads a table, if it is well formed.
+    pub fn of(bytes: &[u8]) -> Option<Picture> {
+        let table = Table::decode(bytes)?;
+        let rows = (1..=table.used).map(|row| table.row(bytes, row)).collect();
+        Some(Picture { table, rows })
+    }
+
+    pub fn row(&self, row: usize) -> &Row {
+        &self.rows[row - 1]
+    }
+
+    /// The row at a place of the chain; places count from 0.
+    pub fn at(&self, place: usize) -> usize {
+        self.chain[place].into()
+    }
+}
+
+impl Deref for Picture {
+    type Target = Table;
+
+    fn deref(&self) -> &Table {
+        &self.table
+    }
+}
 
 /// How large a table is.
 #[derive(Clone, Copy, Debug)]
@@ -61,13 +97,14 @@ pub fn well_formed(random: &mut Random, size: Size) -> Vec<u8> {
     let Size { used, capacity, file_len } = size;
     let mut chain: Vec<usize> = (1..=used).collect();
     random.shuffle(&mut chain);
-    let rows = used_rows(random, &chain);
-    let table = Table { capacity, first: chain[0], file_len, used: rows, chain };
+    let mut order = Order::EMPTY;
+    chain.iter().for_each(|&row| order.push(row));
+    let table = Table { capacity, used, file_len, chain: order };
     let mut bytes = vec![0; Table::length(capacity, file_len)];
-    table.encode(&mut bytes);
-    for row in 1..=used {
-        let contents = random.bytes(file_len);
-        table.contents_mut(&mut bytes, row).copy_from_slice(&contents);
+    table.write_header(&mut bytes, chain[0]);
+    for (row, state) in (1..).zip(used_rows(random, &chain)) {
+        table.write_row(&mut bytes, row, &state);
+        random.fill(table.contents_mut(&mut bytes, row));
     }
     bytes
 }
@@ -109,21 +146,19 @@ fn epochs(random: &mut Random, count: usize) -> Vec<(u32, u64)> {
 
 /// The same table with other bytes in the rows that did not answer; header, names and links stay.
 pub fn twin(random: &mut Random, bytes: &[u8], table: &Table, answering: u64) -> Vec<u8> {
-    let mut other = table.clone();
     let mut twin = bytes.to_vec();
     let taken: Vec<u32> =
-        rows::members(answering & table.all_used()).map(|row| table.row(row).epoch).collect();
+        rows::members(answering & table.all_used()).map(|row| table.row(bytes, row).epoch).collect();
     let mut free = (0..=LIMIT).rev().filter(|epoch| !taken.contains(epoch)).step_by(random.between(1, 3));
     for row in rows::members(table.all_used() & !answering) {
-        let state = &mut other.used[row - 1];
+        let mut state = table.row(bytes, row);
         state.epoch = free.next().expect("more epochs than rows");
         state.list = random.subset(table.all_used(), 1, 2) | rows::only(row);
         state.version = random.pick(&[0, 1, 7, LIMIT - 1]);
         state.stale = random.chance(1, 2);
         state.desired = if state.stale { state.version + 1 } else { 0 };
-        other.encode_row(&mut twin, row);
-        let contents = random.bytes(table.file_len);
-        other.contents_mut(&mut twin, row).copy_from_slice(&contents);
+        table.write_row(&mut twin, row, &state);
+        random.fill(table.contents_mut(&mut twin, row));
     }
     twin
 }

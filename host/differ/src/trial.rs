@@ -5,6 +5,7 @@ use crate::call::{result_shown, Answer, Call};
 use crate::guard::Edge;
 use crate::ledger::Ledger;
 use crate::random::Random;
+use crate::report::Step;
 use crate::tables;
 use reference::{rows, Engine, Table, HEADER};
 
@@ -60,27 +61,31 @@ impl<'a> Trial<'a> {
         (self.table, self.ledger)
     }
 
-    /// Makes one call; gives its result, or what is wrong with it.
-    pub fn step(&mut self, call: &Call) -> Result<u64, String> {
+    /// Makes one call; gives what happened, or what is wrong with it.
+    pub fn step(&mut self, call: &Call) -> Result<Step, String> {
         let before = self.table.clone();
         let answer = self.archive.call(&mut self.table, call)?;
         let mut expected_table = before.clone();
         let expected = call.refer(self.reference, &mut expected_table);
         compare(&answer, &self.table, &expected, &expected_table)?;
         frame(call, &answer, &before, &self.table)?;
-        self.ask_twin(call, &answer, &before)?;
+        let twin_of = self.ask_twin(call, &answer, &before)?;
         self.ledger.hear(call, &answer)?;
         if self.ledger.is_open() && Table::decode(&self.table).is_none() {
             return Err("a founded history leaves a malformed table".into());
         }
-        Ok(answer.result)
+        Ok(Step { result: answer.result, twin_of })
     }
 
     /// Rows that did not answer have no part in a call: another table that differs in them gives the same.
-    fn ask_twin(&mut self, call: &Call, answer: &Answer, before: &[u8]) -> Result<(), String> {
-        const LONGEST: usize = 3_000;
-        let (Some(answering), true) = (call.answering(), before.len() <= LONGEST) else { return Ok(()) };
-        let Some(table) = Table::decode(before) else { return Ok(()) };
+    /// Gives the used rows, if there is such a table.
+    fn ask_twin(&mut self, call: &Call, answer: &Answer, before: &[u8]) -> Result<Option<usize>, String> {
+        const LONGEST: usize = 6_000;
+        let (Some(answering), true) = (call.answering(), before.len() <= LONGEST) else { return Ok(None) };
+        let Some(table) = Table::decode(before) else { return Ok(None) };
+        if table.all_used() & !answering == 0 {
+            return Ok(None);
+        }
         let mut random = Random::new(answering, answer.result ^ before.len() as u64);
         let mut twin = tables::twin(&mut random, before, &table, answering);
         let left = twin.clone();
@@ -94,7 +99,7 @@ impl<'a> Trial<'a> {
                 return Err(format!("rows that did not answer alter row {row}"));
             }
         }
-        Ok(())
+        Ok(Some(table.used))
     }
 }
 

@@ -2,6 +2,7 @@
 //!
 //! A [`Table`] holds a row for each machine. The caller says which machines answered ([`Rows`]);
 //! each call is one atomic step over the table, and is done with a value or refused by a [`Refusal`].
+//! Rows have numbers of one type, `usize`, from 1 on.
 //!
 //! ```
 //! use dyngrid::{Rows, Table};
@@ -14,11 +15,13 @@
 //! # Ok::<(), dyngrid::Refusal>(())
 //! ```
 
+#![deny(missing_docs)]
+
 pub mod raw;
 mod refusal;
 mod rows;
 mod table;
 
 pub use refusal::Refusal;
-pub use rows::Rows;
-pub use table::Table;
+pub use rows::{Rows, RowsIter};
+pub use table::{NotATable, Table};

@@ -1,9 +1,36 @@
-//! The five functions of the archive as `dyngrid.h` declares them.
+//! The functions of the archive as `dyngrid.h` declares them.
 //!
 //! A list is a pointer and then its length in bytes. A result is the refusal number times 2^32, plus the value.
-//! The slices of one call must not overlap, and no table may be in two calls at once.
+//! The slices of one call must not overlap. Reads of one table may run at the same time, each with its own buffer;
+//! while any other call runs on a table, nothing else may touch it.
+//!
+//! Who calls these functions calls [`assert_interface`] before the first of them. A [`Table`](crate::Table) does it by itself.
+
+use std::sync::OnceLock;
+
+/// Rises with every change of a signature below, as in the archive.
+pub const INTERFACE: u64 = 1;
+
+/// Panics unless the archive has the signatures that are declared here. The archive is asked once.
+pub fn assert_interface() {
+    static ARCHIVE: OnceLock<u64> = OnceLock::new();
+    // SAFETY: this signature never changes.
+    agree(*ARCHIVE.get_or_init(|| unsafe { grid_interface() }));
+}
+
+fn agree(archive: u64) {
+    assert!(
+        archive == INTERFACE,
+        "libdyngrid.a has interface {archive}, and this wrapper needs {INTERFACE}: \
+         build archive and wrapper from one checkout (`make lib`, then `cargo build`)"
+    );
+}
 
 extern "C" {
+    /// The number of the archive's interface.
+    pub fn grid_interface() -> u64;
+
+    /// Founds a table. Value: the rows used.
     pub fn grid_found(
         table: *mut u8,
         table_len: usize,
@@ -13,6 +40,7 @@ extern "C" {
         names_len: usize,
     ) -> u64;
 
+    /// Reads a range into the buffer. Value: the version read.
     pub fn grid_read(
         table: *const u8,
         table_len: usize,
@@ -24,6 +52,7 @@ extern "C" {
         buffer_len: usize,
     ) -> u64;
 
+    /// Lays the patch over the file. Value: the new version.
     pub fn grid_write(
         table: *mut u8,
         table_len: usize,
@@ -34,7 +63,27 @@ extern "C" {
         patch_len: usize,
     ) -> u64;
 
+    /// Brings the stale row `to` up to the state of the row `from`. Value: the version it then has.
     pub fn grid_send(table: *mut u8, table_len: usize, from: u64, to: u64, answering: u64) -> u64;
 
+    /// Makes the answering rows the list in force. Value: the epoch number in force.
     pub fn grid_check(table: *mut u8, table_len: usize, coordinator: u64, answering: u64) -> u64;
+}
+
+#[cfg(test)]
+mod tests {
+    use super::*;
+
+    #[test]
+    fn the_archive_agrees() {
+        assert_interface();
+    }
+
+    #[test]
+    #[should_panic(
+        expected = "has interface 7, and this wrapper needs 1: build archive and wrapper from one checkout"
+    )]
+    fn another_archive_is_refused() {
+        agree(7);
+    }
 }

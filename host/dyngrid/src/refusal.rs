@@ -2,24 +2,41 @@ use std::error::Error;
 use std::fmt;
 
 /// Why a call was refused. A refused call alters nothing.
+///
+/// Later versions of the library refuse for more reasons, so a `match` needs an arm for all others.
 #[derive(Clone, Copy, Debug, PartialEq, Eq, Hash)]
+#[non_exhaustive]
 pub enum Refusal {
-    Malformed = 1,
-    NoSuchRow = 2,
-    NotAnswering = 3,
-    OutOfRange = 4,
-    WrongBuffer = 5,
-    NoQuorum = 6,
-    NotCurrent = 7,
-    AtLimit = 8,
-    SenderStale = 9,
-    ReceiverNotBehind = 10,
-    BadNames = 11,
-    BadSize = 12,
+    /// 1: the table is not well formed.
+    Malformed,
+    /// 2: a row is not in use, or a send names one row twice.
+    NoSuchRow,
+    /// 3: the coordinator, or an end of a send, did not answer.
+    NotAnswering,
+    /// 4: the range is empty or ends beyond the file.
+    OutOfRange,
+    /// 5: the buffer is not exactly as long as the range.
+    WrongBuffer,
+    /// 6: the rows that answered hold no quorum.
+    NoQuorum,
+    /// 7: no row that answered is known to be current.
+    NotCurrent,
+    /// 8: the version, or the epoch, is at 1,000,000.
+    AtLimit,
+    /// 9: the sending row is stale itself.
+    SenderStale,
+    /// 10: the receiving row is not stale, or desires more than the sender has.
+    ReceiverNotBehind,
+    /// 11: the names are not 1 to 64, strictly rising, none 0.
+    BadNames,
+    /// 12: capacity and file length do not fit.
+    BadSize,
+    /// A number that this wrapper has no name for: the archive is newer than the wrapper.
+    Unknown(u32),
 }
 
 impl Refusal {
-    /// Every refusal, by rising number.
+    /// Every refusal that has a name; the first has number 1, and so on upward.
     pub const ALL: [Refusal; 12] = [
         Refusal::Malformed,
         Refusal::NoSuchRow,
@@ -35,14 +52,29 @@ impl Refusal {
         Refusal::BadSize,
     ];
 
-    /// Its number, 1 to 12.
+    /// Its number, as the library gave it.
     pub fn number(self) -> u32 {
-        self as u32
+        match self {
+            Refusal::Malformed => 1,
+            Refusal::NoSuchRow => 2,
+            Refusal::NotAnswering => 3,
+            Refusal::OutOfRange => 4,
+            Refusal::WrongBuffer => 5,
+            Refusal::NoQuorum => 6,
+            Refusal::NotCurrent => 7,
+            Refusal::AtLimit => 8,
+            Refusal::SenderStale => 9,
+            Refusal::ReceiverNotBehind => 10,
+            Refusal::BadNames => 11,
+            Refusal::BadSize => 12,
+            Refusal::Unknown(number) => number,
+        }
     }
 
-    /// The refusal of this number, if there is one.
+    /// The refusal of this number; none for 0, which means done. A number without a name is kept as `Unknown`.
     pub fn from_number(number: u32) -> Option<Refusal> {
-        Refusal::ALL.into_iter().find(|refusal| refusal.number() == number)
+        let place = number.checked_sub(1)? as usize;
+        Some(Refusal::ALL.get(place).copied().unwrap_or(Refusal::Unknown(number)))
     }
 
     /// What is wrong, and how to mend it.
@@ -63,6 +95,9 @@ impl Refusal {
             Refusal::BadNames => "the names are not 1 to 64 strictly rising numbers above 0: sort them, each once",
             Refusal::BadSize => {
                 "the sizes do not fit: up to 64 rows, no fewer than the names, and a file of 1 to 4,096 bytes"
+            }
+            Refusal::Unknown(_) => {
+                "this wrapper has no name for the number: build archive and wrapper from one checkout"
             }
         }
     }

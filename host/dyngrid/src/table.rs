@@ -1,19 +1,28 @@
 use crate::{raw, Refusal, Rows};
+use std::error::Error;
+use std::fmt;
 
 const HEADER: usize = 16;
 const ROW_HEADER: usize = 32;
 
 /// A grid table that owns its bytes.
 ///
-/// Its length always agrees with its header, and no buffer, patch or list of names can overlap it.
-#[derive(Clone, Debug, PartialEq, Eq)]
+/// Its length always agrees with its header, and no buffer, patch or list of names can overlap it. Rows have the
+/// numbers 1 to [`Table::used`].
+///
+/// Reads of one table may run at the same time, also from several threads: a read takes the table by shared reference
+/// and alters nothing of it, and the library keeps no state of its own. Every other call has the table to itself.
+#[derive(Clone, PartialEq, Eq)]
 pub struct Table {
     bytes: Vec<u8>,
 }
 
 impl Table {
     /// Founds a table of `capacity` rows for a file of `file_len` zero bytes on the machines `names`, which must rise.
+    ///
+    /// Panics if the archive has another interface than this wrapper.
     pub fn found(capacity: usize, file_len: usize, names: &[u16]) -> Result<Table, Refusal> {
+        raw::assert_interface();
         let mut bytes = vec![0; length(capacity, file_len).unwrap_or(0)];
         let names: Vec<u8> = names.iter().flat_map(|name| name.to_le_bytes()).collect();
         let (capacity, file_len) = (capacity as u64, file_len as u64);
@@ -24,13 +33,17 @@ impl Table {
         split(result).map(|_| Table { bytes })
     }
 
-    /// Takes over the bytes of a table, as kept on a disk; `Malformed` unless they are a well-formed table.
-    pub fn from_bytes(bytes: Vec<u8>) -> Result<Table, Refusal> {
+    /// Takes over the bytes of a table, as kept on a disk. If they are no well-formed table, the error gives them back.
+    ///
+    /// Panics if the archive has another interface than this wrapper.
+    pub fn from_bytes(bytes: Vec<u8>) -> Result<Table, NotATable> {
+        raw::assert_interface();
         let mut table = Table { bytes };
         // A send between rows 0 is never done, and tells a malformed table from a well-formed one.
-        match table.send(0, 0, Rows::default()) {
+        match table.send(0, 0, Rows::EMPTY) {
             Err(Refusal::NoSuchRow) => Ok(table),
-            _ => Err(Refusal::Malformed),
+            Err(refusal) => Err(NotATable { bytes: table.bytes, refusal }),
+            Ok(_) => unreachable!("a send between rows 0 was done"),
         }
     }
 
@@ -49,10 +62,23 @@ impl Table {
         usize::from(u16::from_le_bytes([self.bytes[4], self.bytes[5]]))
     }
 
+    /// All rows in use.
+    pub fn rows(&self) -> Rows {
+        Rows::first(self.used())
+    }
+
+    /// The bytes of a row, which are what its machine holds; none if the row is not in use.
+    pub fn row(&self, row: usize) -> Option<&[u8]> {
+        let stride = ROW_HEADER + self.file_len();
+        self.rows().contains(row).then(|| &self.bytes[HEADER + (row - 1) * stride..][..stride])
+    }
+
+    /// The bytes of the whole table.
     pub fn as_bytes(&self) -> &[u8] {
         &self.bytes
     }
 
+    /// The bytes of the whole table, without a copy.
     pub fn into_bytes(self) -> Vec<u8> {
         self.bytes
     }
@@ -60,9 +86,9 @@ impl Table {
     /// Reads as many bytes from `offset` on as the buffer holds; gives the version read.
     pub fn read(
         &self,
-        coordinator: u64,
+        coordinator: usize,
         answering: Rows,
-        offset: u64,
+        offset: usize,
         buffer: &mut [u8],
     ) -> Result<u32, Refusal> {
         // SAFETY: `&self` and `&mut buffer` are live for the call and cannot overlap.
@@ -70,9 +96,9 @@ impl Table {
             raw::grid_read(
                 self.bytes.as_ptr(),
                 self.bytes.len(),
-                coordinator,
+                coordinator as u64,
                 answering.bits(),
-                offset,
+                offset as u64,
                 buffer.len() as u64,
                 buffer.as_mut_ptr(),
                 buffer.len(),
@@ -83,9 +109,9 @@ impl Table {
     /// Lays the patch over the file from `offset` on; gives the new version.
     pub fn write(
         &mut self,
-        coordinator: u64,
+        coordinator: usize,
         answering: Rows,
-        offset: u64,
+        offset: usize,
         patch: &[u8],
     ) -> Result<u32, Refusal> {
         // SAFETY: `&mut self` and `&patch` are live for the call and cannot overlap.
@@ -93,9 +119,9 @@ impl Table {
             raw::grid_write(
                 self.bytes.as_mut_ptr(),
                 self.bytes.len(),
-                coordinator,
+                coordinator as u64,
                 answering.bits(),
-                offset,
+                offset as u64,
                 patch.as_ptr(),
                 patch.len(),
             )
@@ -103,7 +129,8 @@ impl Table {
     }
 
     /// Brings the stale row `to` up to the state of the row `from`; gives the version it then has.
-    pub fn send(&mut self, from: u64, to: u64, answering: Rows) -> Result<u32, Refusal> {
+    pub fn send(&mut self, from: usize, to: usize, answering: Rows) -> Result<u32, Refusal> {
+        let (from, to) = (from as u64, to as u64);
         // SAFETY: `&mut self` is live for the call, and its only slice.
         split(unsafe {
             raw::grid_send(self.bytes.as_mut_ptr(), self.bytes.len(), from, to, answering.bits())
@@ -111,11 +138,89 @@ impl Table {
     }
 
     /// Makes the rows that answered the list in force; gives the epoch number in force.
-    pub fn check(&mut self, coordinator: u64, answering: Rows) -> Result<u32, Refusal> {
+    pub fn check(&mut self, coordinator: usize, answering: Rows) -> Result<u32, Refusal> {
+        let coordinator = coordinator as u64;
         // SAFETY: `&mut self` is live for the call, and its only slice.
         split(unsafe {
             raw::grid_check(self.bytes.as_mut_ptr(), self.bytes.len(), coordinator, answering.bits())
         })
+    }
+}
+
+/// Its sizes; the bytes are left out.
+impl fmt::Debug for Table {
+    fn fmt(&self, f: &mut fmt::Formatter) -> fmt::Result {
+        f.debug_struct("Table")
+            .field("capacity", &self.capacity())
+            .field("used", &self.used())
+            .field("file_len", &self.file_len())
+            .finish_non_exhaustive()
+    }
+}
+
+impl AsRef<[u8]> for Table {
+    fn as_ref(&self) -> &[u8] {
+        self.as_bytes()
+    }
+}
+
+impl TryFrom<Vec<u8>> for Table {
+    type Error = NotATable;
+
+    fn try_from(bytes: Vec<u8>) -> Result<Table, NotATable> {
+        Table::from_bytes(bytes)
+    }
+}
+
+/// Bytes that are no well-formed table, and how the library refused them.
+#[derive(Clone, PartialEq, Eq)]
+pub struct NotATable {
+    bytes: Vec<u8>,
+    refusal: Refusal,
+}
+
+impl NotATable {
+    /// How the library refused them: `Malformed`.
+    pub fn refusal(&self) -> Refusal {
+        self.refusal
+    }
+
+    /// The bytes that were given to [`Table::from_bytes`].
+    pub fn as_bytes(&self) -> &[u8] {
+        &self.bytes
+    }
+
+    /// The bytes that were given to [`Table::from_bytes`], without a copy.
+    pub fn into_bytes(self) -> Vec<u8> {
+        self.bytes
+    }
+}
+
+/// How many bytes there are, and the refusal.
+impl fmt::Debug for NotATable {
+    fn fmt(&self, f: &mut fmt::Formatter) -> fmt::Result {
+        f.debug_struct("NotATable")
+            .field("length", &self.bytes.len())
+            .field("refusal", &self.refusal)
+            .finish_non_exhaustive()
+    }
+}
+
+impl fmt::Display for NotATable {
+    fn fmt(&self, f: &mut fmt::Formatter) -> fmt::Result {
+        write!(f, "{} bytes are no table: {}", self.bytes.len(), self.refusal)
+    }
+}
+
+impl Error for NotATable {
+    fn source(&self) -> Option<&(dyn Error + 'static)> {
+        Some(&self.refusal)
+    }
+}
+
+impl From<NotATable> for Refusal {
+    fn from(error: NotATable) -> Refusal {
+        error.refusal
     }
 }
 
@@ -124,10 +229,20 @@ fn length(capacity: usize, file_len: usize) -> Option<usize> {
     (capacity <= 64 && file_len <= 4096).then(|| HEADER + capacity * (ROW_HEADER + file_len))
 }
 
-/// The value of a result, or its refusal. A number without a name cannot come from the library; it would mean a broken archive.
+/// The value of a result, or its refusal.
 fn split(result: u64) -> Result<u32, Refusal> {
-    match (result >> 32) as u32 {
-        0 => Ok(result as u32),
-        number => Err(Refusal::from_number(number).unwrap_or(Refusal::Malformed)),
+    Refusal::from_number((result >> 32) as u32).map_or(Ok(result as u32), Err)
+}
+
+#[cfg(test)]
+mod tests {
+    use super::*;
+
+    #[test]
+    fn a_result_is_split_into_refusal_and_value() {
+        assert_eq!(split(7), Ok(7));
+        assert_eq!(split(6 << 32), Err(Refusal::NoQuorum));
+        assert_eq!(split(13 << 32 | 5), Err(Refusal::Unknown(13)));
+        assert_eq!(split(u64::MAX), Err(Refusal::Unknown(u32::MAX)));
     }
 }

@@ -10,18 +10,75 @@ fn four() -> Table {
 fn refusals_are_numbered_1_to_12() {
     let numbers: Vec<u32> = Refusal::ALL.iter().map(|refusal| refusal.number()).collect();
     assert_eq!(numbers, (1..=12).collect::<Vec<_>>());
-    assert!([0, 13, u32::MAX].into_iter().all(|number| Refusal::from_number(number).is_none()));
+    for refusal in Refusal::ALL {
+        assert_eq!(Refusal::from_number(refusal.number()), Some(refusal));
+    }
+}
+
+#[test]
+fn a_number_without_a_name_is_kept() {
+    assert_eq!(Refusal::from_number(0), None);
+    for number in [13, u32::MAX] {
+        let refusal = Refusal::from_number(number).expect("a refusal");
+        assert_eq!((refusal, refusal.number()), (Refusal::Unknown(number), number));
+        assert!(refusal.to_string().starts_with(&format!("refused by {number}: ")));
+    }
 }
 
 #[test]
 fn a_table_of_wrong_length_cannot_be_made() {
     let bytes = four().into_bytes();
-    for length in [0, 1, 15, 16, 17, bytes.len() - 1] {
-        assert_eq!(Table::from_bytes(bytes[..length].to_vec()), Err(Refusal::Malformed));
-    }
     let long = [bytes.clone(), vec![0]].concat();
-    assert_eq!(Table::from_bytes(long), Err(Refusal::Malformed));
+    for length in [0, 1, 15, 16, 17, bytes.len() - 1, long.len()] {
+        let error = Table::from_bytes(long[..length].to_vec()).expect_err("no table");
+        assert_eq!(error.refusal(), Refusal::Malformed);
+        assert_eq!(error.into_bytes(), long[..length]);
+    }
     assert_eq!(Table::from_bytes(bytes).map(Table::into_bytes), Ok(four().into_bytes()));
+}
+
+#[test]
+fn what_is_shown_is_short() {
+    let table = Table::found(64, 4096, &[1, 2]).expect("a plain founding");
+    assert_eq!(format!("{table:?}"), "Table { capacity: 64, used: 2, file_len: 4096, .. }");
+    let error = Table::from_bytes(vec![0; 100_000]).expect_err("no table");
+    assert_eq!(format!("{error:?}"), "NotATable { length: 100000, refusal: Malformed, .. }");
+    assert!(error.to_string().starts_with("100000 bytes are no table: refused by 1: "));
+}
+
+#[test]
+fn a_row_is_what_its_machine_holds() {
+    let mut table = four();
+    table.write(1, Rows::first(3), 1, b"ab").expect("a quorum answers");
+    assert_eq!(table.row(1).map(|row| (row.len(), &row[32..])), Some((36, &b"\0ab\0"[..])));
+    let rows: Vec<u8> =
+        table.rows().iter().flat_map(|row| table.row(row).expect("in use").to_vec()).collect();
+    assert_eq!(rows, table.as_bytes()[16..]);
+    assert_eq!((table.row(0), table.row(5)), (None, None));
+}
+
+#[test]
+fn several_threads_read_one_table() {
+    fn shared<T: Send + Sync>(value: T) -> T {
+        value
+    }
+    let mut table = Table::found(9, 100, &[1, 2, 3, 4, 5, 6, 7, 8, 9]).expect("a plain founding");
+    let file: Vec<u8> = (0..100).collect();
+    assert_eq!(table.write(5, table.rows(), 0, &file), Ok(1));
+    let (table, before) = (shared(table.clone()), table);
+    std::thread::scope(|scope| {
+        for coordinator in table.rows() {
+            let (table, file) = (&table, &file);
+            scope.spawn(move || {
+                for offset in (0..file.len()).cycle().take(20_000) {
+                    let mut got = vec![0; file.len() - offset];
+                    assert_eq!(table.read(coordinator, table.rows(), offset, &mut got), Ok(1));
+                    assert_eq!(got, file[offset..]);
+                }
+            });
+        }
+    });
+    assert_eq!(table, before);
 }
 
 #[test]
@@ -45,8 +102,8 @@ fn refused_calls_alter_nothing() {
     let all = Rows::first(4);
     let mut buffer = [7; 2];
     assert_eq!(table.read(0, all, 0, &mut buffer), Err(Refusal::NoSuchRow));
-    assert_eq!(table.read(1, Rows::default(), 0, &mut buffer), Err(Refusal::NotAnswering));
-    assert_eq!(table.read(1, all, u64::MAX, &mut buffer), Err(Refusal::OutOfRange));
+    assert_eq!(table.read(1, Rows::EMPTY, 0, &mut buffer), Err(Refusal::NotAnswering));
+    assert_eq!(table.read(1, all, usize::MAX, &mut buffer), Err(Refusal::OutOfRange));
     assert_eq!(table.read(1, Rows::first(1), 0, &mut buffer), Err(Refusal::NoQuorum));
     assert_eq!(table.write(1, all, 0, &[]), Err(Refusal::OutOfRange));
     assert_eq!(table.send(1, 2, all), Err(Refusal::ReceiverNotBehind));
@@ -60,6 +117,22 @@ fn sets_of_rows() {
     assert_eq!(Rows::of(&[0]), Err(Refusal::NoSuchRow));
     assert_eq!(Rows::of(&[65]), Err(Refusal::NoSuchRow));
     assert_eq!([0, 1, 64, 99].map(|count| Rows::first(count).bits()), [0, 1, u64::MAX, u64::MAX]);
+    let (low, ends) = (Rows::first(3), Rows::from_bits(1 << 63 | 1));
+    assert_eq!((low | ends, low & ends), (Rows::from_bits(1 << 63 | 7), Rows::first(1)));
+    assert_eq!((low - ends).iter().collect::<Vec<_>>(), [2, 3]);
+    assert_eq!((ends - low).iter().next(), Some(64));
+    assert_eq!(ends.iter().rev().collect::<Vec<_>>(), [64, 1]);
+    assert_eq!((ends.len(), ends.is_empty(), Rows::EMPTY.is_empty()), (2, false, true));
+    assert_eq!([0, 1, 2, 64, 65].map(|row| ends.contains(row)), [false, true, false, true, false]);
+    assert!(Rows::EMPTY.is_subset(low) && low.is_subset(low) && !ends.is_subset(low));
+    assert_eq!((1..=64).collect::<Rows>().into_iter().sum::<usize>(), 64 * 65 / 2);
+    assert_eq!(format!("{ends} {ends:?} {}", Rows::EMPTY), "{1, 64} Rows {1, 64} {}");
+}
+
+#[test]
+#[should_panic(expected = "65 is no row")]
+fn collected_rows_must_be_rows() {
+    let _ = [1, 65].into_iter().collect::<Rows>();
 }
 
 #[test]

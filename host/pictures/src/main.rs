@@ -3,6 +3,7 @@
 //! that it is given.
 
 mod chart;
+mod layers;
 mod measure;
 mod rooms;
 mod svg;

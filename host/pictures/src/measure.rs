@@ -45,23 +45,22 @@ pub fn sizes(machines: usize) -> Result<Sizes, Refusal> {
     Ok(Sizes { machines, read: range(&reads), write: range(&writes) })
 }
 
-type Attempt = fn(&mut Table, u64, Rows) -> Result<u32, Refusal>;
+type Attempt = fn(&mut Table, usize, Rows) -> Result<u32, Refusal>;
 
-fn read(table: &mut Table, coordinator: u64, answering: Rows) -> Result<u32, Refusal> {
+fn read(table: &mut Table, coordinator: usize, answering: Rows) -> Result<u32, Refusal> {
     table.read(coordinator, answering, 0, &mut [0])
 }
 
-fn write(table: &mut Table, coordinator: u64, answering: Rows) -> Result<u32, Refusal> {
+fn write(table: &mut Table, coordinator: usize, answering: Rows) -> Result<u32, Refusal> {
     table.write(coordinator, answering, 0, &[1])
 }
 
 /// In how many rows a stale mark makes the attempt fail: those that it calls.
 fn called(founded: &Table, coordinator: usize, attempt: Attempt) -> Result<usize, Refusal> {
-    let machines = founded.used();
     let mut called = 0;
-    for row in 1..=machines {
+    for row in founded.rows() {
         let mut table = with_stale_row(founded, row)?;
-        match attempt(&mut table, coordinator as u64, Rows::first(machines as u32)) {
+        match attempt(&mut table, coordinator, founded.rows()) {
             Ok(_) => {}
             Err(Refusal::NotCurrent) => called += 1,
             Err(refusal) => return Err(refusal),
@@ -72,10 +71,9 @@ fn called(founded: &Table, coordinator: usize, attempt: Attempt) -> Result<usize
 
 /// How many rows have a new version after a write that all answer.
 fn rows_written(founded: &Table, coordinator: usize) -> Result<usize, Refusal> {
-    let machines = founded.used();
     let mut table = founded.clone();
-    write(&mut table, coordinator as u64, Rows::first(machines as u32))?;
-    Ok((1..=machines).filter(|&row| table.as_bytes()[row_at(row) + 4] == 1).count())
+    write(&mut table, coordinator, founded.rows())?;
+    Ok(table.rows().iter().filter(|&row| table.as_bytes()[row_at(row) + 4] == 1).count())
 }
 
 /// The table with one row marked and desiring version 1.
@@ -83,7 +81,7 @@ fn with_stale_row(founded: &Table, row: usize) -> Result<Table, Refusal> {
     let mut bytes = founded.as_bytes().to_vec();
     bytes[row_at(row) + 3] = 1;
     bytes[row_at(row) + 8] = 1;
-    Table::from_bytes(bytes)
+    Ok(Table::from_bytes(bytes)?)
 }
 
 fn row_at(row: usize) -> usize {

@@ -1,15 +1,18 @@
 //! The crates and what each stands on, drawn from crates.txt: a crate stands above all that it needs.
 
+use crate::layers::{place, Place, Widths};
 use crate::svg::{line, open, text};
 use std::collections::{BTreeMap, BTreeSet};
 use std::path::Path;
 
 const BOX_WIDTH: f64 = 100.0;
 const BOX_HEIGHT: f64 = 30.0;
-const STEP_X: f64 = 118.0;
-const STEP_Y: f64 = 62.0;
+const WIDTHS: Widths = Widths { shown: BOX_WIDTH, gap: 8.0, space: 16.0 };
+const STEP_Y: f64 = 76.0;
+/// Between two lines that leave a box.
+const STEP_LINE: f64 = 16.0;
 const MARGIN: f64 = 24.0;
-const TOP: f64 = 96.0;
+const TOP: f64 = 100.0;
 
 const LIGHT: &str = ".code { fill: #ddf4ff; stroke: #0969da }
 .meaning { fill: #fff8c5; stroke: #9a6700 }
@@ -28,16 +31,15 @@ struct Room {
 /// The picture of the crates that `root/crates.txt` lists.
 pub fn svg(root: &Path) -> Result<String, Box<dyn std::error::Error>> {
     let rooms = read(root)?;
-    let levels = levels(&rooms);
-    let places = places(&rooms, &levels);
-    let height = levels.iter().max().map_or(0, |most| most + 1) as f64;
-    let widest = places.values().fold(0.0, |most: f64, (x, _)| most.max(*x)) + BOX_WIDTH / 2.0 + MARGIN;
-    let tall = TOP + height * STEP_Y;
-    let mut svg = open(widest, tall, "Crates", LIGHT, DARK);
+    let lines: Vec<BTreeSet<usize>> = rooms.iter().map(|room| direct(&rooms, room)).collect();
+    let places = place(&levels(&rooms), &lines, &WIDTHS);
+    let top = places.iter().map(|place| place.level).max().unwrap_or(0);
+    let widest = places.iter().fold(0.0, |most: f64, place| most.max(place.x)) + BOX_WIDTH / 2.0;
+    let height = TOP + top as f64 * STEP_Y + BOX_HEIGHT + MARGIN;
+    let mut svg = open((widest + 2.0 * MARGIN).round(), height, "Crates", LIGHT, DARK);
     text(&mut svg, MARGIN, 30.0, "title", "start", "The crates, each above what it stands on");
-    for (index, (class, words)) in
-        [("meaning", "definitions and laws, no code"), ("code", "with code")].into_iter().enumerate()
-    {
+    let legend = [("meaning", "definitions and laws, no code"), ("code", "with code")];
+    for (index, (class, words)) in legend.into_iter().enumerate() {
         let at = MARGIN + 250.0 * index as f64;
         line(
             &mut svg,
@@ -45,29 +47,42 @@ pub fn svg(root: &Path) -> Result<String, Box<dyn std::error::Error>> {
         );
         text(&mut svg, at + 34.0, 57.0, "entry", "start", words);
     }
-    for (upper, room) in rooms.iter().enumerate() {
-        for &lower in &direct(&rooms, room) {
-            let ((x, y), (a, b)) = (places[&upper], places[&lower]);
-            let (start, end) = (y + BOX_HEIGHT / 2.0, b - BOX_HEIGHT / 2.0);
-            let middle = (start + end) / 2.0;
-            line(
-                &mut svg,
-                &format!("<path class=\"needs\" d=\"M{x:.0} {start:.0}C{x:.0} {middle:.0} {a:.0} {middle:.0} {a:.0} {end:.0}\"/>"),
-            );
-        }
+    let up = |place: &Place| TOP + (top - place.level) as f64 * STEP_Y;
+    for upper in &places {
+        draw_lines(&mut svg, &places, upper, up(upper) + BOX_HEIGHT);
     }
-    for (index, room) in rooms.iter().enumerate() {
-        let (x, y) = places[&index];
-        let class = if room.code { "code" } else { "meaning" };
-        let (left, up) = (x - BOX_WIDTH / 2.0, y - BOX_HEIGHT / 2.0);
+    for (place, up) in places.iter().map(|place| (place, up(place))) {
+        let x = MARGIN + place.x;
+        let Some(room) = place.shown.map(|index| &rooms[index]) else {
+            line(&mut svg, &format!("<path class=\"needs\" d=\"M{x:.1} {up:.0}v{BOX_HEIGHT}\"/>"));
+            continue;
+        };
+        let (class, left) = (if room.code { "code" } else { "meaning" }, x - BOX_WIDTH / 2.0);
         line(
             &mut svg,
-            &format!("<rect class=\"{class}\" x=\"{left:.0}\" y=\"{up:.0}\" width=\"{BOX_WIDTH}\" height=\"{BOX_HEIGHT}\" rx=\"5\"/>"),
+            &format!("<rect class=\"{class}\" x=\"{left:.1}\" y=\"{up:.0}\" width=\"{BOX_WIDTH}\" height=\"{BOX_HEIGHT}\" rx=\"5\"/>"),
         );
-        text(&mut svg, x, y + 5.0, "name", "middle", &room.name);
+        text(&mut svg, x, up + 20.0, "name", "middle", &room.name);
     }
     svg.push_str("</svg>\n");
     Ok(svg)
+}
+
+/// The lines from a place down to the next level, side by side in the order of where they lead.
+fn draw_lines(svg: &mut String, places: &[Place], upper: &Place, start: f64) {
+    let mut ends: Vec<f64> = upper.below.iter().map(|&lower| places[lower].x).collect();
+    ends.sort_by(f64::total_cmp);
+    let step = if upper.shown.is_some() { STEP_LINE } else { 0.0 };
+    let end = start + STEP_Y - BOX_HEIGHT;
+    let middle = (start + end) / 2.0;
+    for (at, x) in ends.iter().enumerate() {
+        let aside = (at as f64 - (ends.len() - 1) as f64 / 2.0) * step;
+        let (from, to) = (MARGIN + upper.x + aside, MARGIN + x);
+        line(
+            svg,
+            &format!("<path class=\"needs\" d=\"M{from:.1} {start:.0}C{from:.1} {middle:.0} {to:.1} {middle:.0} {to:.1} {end:.0}\"/>"),
+        );
+    }
 }
 
 fn read(root: &Path) -> Result<Vec<Room>, Box<dyn std::error::Error>> {
@@ -122,28 +137,4 @@ fn direct(rooms: &[Room], room: &Room) -> BTreeSet<usize> {
         }
     }
     room.needs.difference(&further).copied().collect()
-}
-
-/// The middle of each box: the highest level on top; in a level, boxes go by where those that they stand on are.
-fn places(rooms: &[Room], levels: &[usize]) -> BTreeMap<usize, (f64, f64)> {
-    let top = levels.iter().max().copied().unwrap_or(0);
-    let most = (0..=top).map(|level| levels.iter().filter(|&&at| at == level).count()).max().unwrap_or(0);
-    let middle = MARGIN + BOX_WIDTH / 2.0 + (most.saturating_sub(1)) as f64 * STEP_X / 2.0;
-    let mut places = BTreeMap::new();
-    for level in 0..=top {
-        let mut row: Vec<(f64, usize)> = (0..rooms.len())
-            .filter(|&index| levels[index] == level)
-            .map(|index| {
-                let below = direct(rooms, &rooms[index]);
-                let sum: f64 = below.iter().map(|need| places.get(need).map_or(middle, |(x, _)| *x)).sum();
-                (if below.is_empty() { middle } else { sum / below.len() as f64 }, index)
-            })
-            .collect();
-        row.sort_by(|a, b| a.0.total_cmp(&b.0));
-        let left = middle - (row.len().saturating_sub(1)) as f64 * STEP_X / 2.0;
-        for (at, (_, index)) in row.into_iter().enumerate() {
-            places.insert(index, (left + at as f64 * STEP_X, TOP + (top - level) as f64 * STEP_Y));
-        }
-    }
-    places
 }

@@ -1,6 +1,7 @@
 //! Mistakes to make on purpose: each turns the engine into a wrong one that the tests must find.
 
-use crate::{rows, Layout, Quorum};
+use crate::rows::{self, Order};
+use crate::{Layout, Quorum};
 
 #[derive(Clone, Copy, Debug, PartialEq, Eq)]
 pub enum Blunder {
@@ -62,15 +63,15 @@ impl Blunder {
 }
 
 /// Counts each row outside the list in the place of the next member.
-pub fn holds_with_outsiders(layout: &Layout, chain: &[usize], quorum: Quorum, set: u64) -> bool {
+pub fn holds_with_outsiders(layout: &Layout, chain: &Order, quorum: Quorum, set: u64) -> bool {
     let grid = layout.grid;
     let mut answers = vec![0; grid.columns];
     let mut position = 0;
-    for row in chain {
-        if rows::has(set, *row) {
+    for &row in chain.iter() {
+        if rows::has(set, row.into()) {
             answers[position % grid.columns] += 1;
         }
-        position += usize::from(layout.members.contains(row));
+        position += usize::from(rows::has(layout.list, row.into()));
     }
     let whole_column = || (1..).zip(&answers).any(|(column, &count)| count >= grid.height(column));
     answers.iter().all(|&count| count > 0) && (quorum == Quorum::Read || whole_column())
@@ -80,8 +81,9 @@ pub fn holds_with_outsiders(layout: &Layout, chain: &[usize], quorum: Quorum, se
 pub fn holds_long_column(layout: &Layout, quorum: Quorum, set: u64) -> bool {
     let grid = layout.grid;
     let answers_in = |column| {
-        let places = (1..).zip(&layout.members).filter(|&(position, _)| grid.column_of(position) == column);
-        places.filter(|&(_, &row)| rows::has(set, row)).count()
+        let places = (1..).zip(layout.members.iter());
+        let in_column = places.filter(|&(position, _)| grid.column_of(position) == column);
+        in_column.filter(|&(_, &row)| rows::has(set, row.into())).count()
     };
     let long_column = || (1..=grid.columns).any(|column| answers_in(column) == grid.rows);
     layout.holds(quorum, set) && (quorum == Quorum::Read || long_column())
@@ -89,6 +91,6 @@ pub fn holds_long_column(layout: &Layout, quorum: Quorum, set: u64) -> bool {
 
 /// Wants all three of three for a write.
 pub fn holds_all_of_three(layout: &Layout, quorum: Quorum, set: u64) -> bool {
-    let all = || layout.members.iter().all(|&row| rows::has(set, row));
-    layout.holds(quorum, set) && (quorum == Quorum::Read || layout.members.len() != 3 || all())
+    let all = layout.list & !set == 0;
+    layout.holds(quorum, set) && (quorum == Quorum::Read || layout.members.len() != 3 || all)
 }

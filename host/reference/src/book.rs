@@ -1,7 +1,8 @@
 //! The plain book: what a list of calls after one done founding must give. It is fed arguments and whether
 //! a call was done; nothing comes from the table.
 
-use crate::{rows, Layout, Quorum};
+use crate::rows::{self, Order};
+use crate::{Layout, Quorum};
 
 #[derive(Clone)]
 pub struct Book {
@@ -102,7 +103,6 @@ impl Book {
 
     /// Founded rows lie in the order of their names.
     fn layout(&self, list: u64) -> Layout {
-        let chain: Vec<usize> = (1..=self.names.len()).collect();
-        Layout::of(list, &chain)
+        Layout::of(list, &Order::first(self.names.len()))
     }
 }

@@ -1,7 +1,9 @@
 //! The calls. Each puts its questions in order and is refused by the first no.
 
 use crate::blunder::{self, Blunder};
-use crate::{rows, Layout, Quorum, Row, Table, LIMIT, MAX_FILE, MAX_ROWS, ROW_HEADER};
+use crate::rows::{self, Order};
+use crate::{Layout, Quorum, Row, Table, LIMIT, MAX_FILE, MAX_ROWS, ROW_HEADER};
+use std::iter;
 
 /// Answers the calls on a table's bytes; with a blunder, wrongly.
 #[derive(Clone, Copy, Debug, Default)]
@@ -89,13 +91,14 @@ impl Engine {
         ask(3, answers(answering, coordinator))?;
         ask(4, range_fits(&table, offset, length))?;
         ask(5, buffer.len() as u64 == length)?;
-        let poll = self.settle(&table, coordinator as usize, answering, Quorum::Read)?;
+        let poll = self.settle(&table, bytes, coordinator as usize, answering, Quorum::Read)?;
+        // The set is current, so there is a good row.
         let source = if self.makes(Blunder::HighestGood) {
-            rows::members(poll.good).last()
+            64 - poll.good.leading_zeros()
         } else {
-            rows::members(poll.good).next()
+            poll.good.trailing_zeros() + 1
         };
-        let contents = table.contents(bytes, source.ok_or(7u32)?);
+        let contents = table.contents(bytes, source as usize);
         buffer.copy_from_slice(&contents[offset as usize..][..buffer.len()]);
         Ok(poll.version)
     }
@@ -108,11 +111,11 @@ impl Engine {
         offset: u64,
         patch: &[u8],
     ) -> Answer {
-        let mut table = Table::decode(bytes).ok_or(1u32)?;
+        let table = Table::decode(bytes).ok_or(1u32)?;
         ask(2, is_used(&table, coordinator) && only_used(&table, answering))?;
         ask(3, answers(answering, coordinator))?;
         ask(4, range_fits(&table, offset, patch.len() as u64))?;
-        let poll = self.settle(&table, coordinator as usize, answering, Quorum::Write)?;
+        let poll = self.settle(&table, bytes, coordinator as usize, answering, Quorum::Write)?;
         ask(8, poll.version < LIMIT)?;
         let version = poll.version + 1;
         if self.makes(Blunder::WriteForgotten) {
@@ -121,67 +124,79 @@ impl Engine {
         let stored = !(self.makes(Blunder::FirstWriteOnly) && poll.version > 0);
         let desired = if self.makes(Blunder::OldMark) { poll.version } else { version };
         for row in rows::members(poll.set) {
+            let mut state = table.row(bytes, row);
             if rows::has(poll.good, row) {
-                table.used[row - 1].version = version;
+                state.version = version;
                 if stored {
                     table.contents_mut(bytes, row)[offset as usize..][..patch.len()].copy_from_slice(patch);
                 }
             } else {
-                mark(&mut table.used[row - 1], desired);
+                mark(&mut state, desired);
             }
-            table.encode_row(bytes, row);
+            table.write_row(bytes, row, &state);
         }
         Ok(version)
     }
 
     fn try_check(&self, bytes: &mut [u8], coordinator: u64, answering: u64) -> Answer {
-        let mut table = Table::decode(bytes).ok_or(1u32)?;
+        let table = Table::decode(bytes).ok_or(1u32)?;
         ask(2, is_used(&table, coordinator) && only_used(&table, answering))?;
         ask(3, answers(answering, coordinator))?;
-        let poll = self.poll(&table, answering);
-        ask(6, self.holds(&table, &poll, Quorum::Write))?;
+        let poll = self.poll(&table, bytes, answering);
+        let layout = Layout::of(poll.list, &table.chain);
+        ask(6, self.holds(&table, &layout, Quorum::Write, answering))?;
         if answering == poll.list {
             return Ok(poll.epoch);
         }
         ask(7, poll.current)?;
         ask(8, poll.epoch < LIMIT)?;
         for row in rows::members(answering) {
-            let state = &mut table.used[row - 1];
+            let mut state = table.row(bytes, row);
             state.epoch = poll.epoch + 1;
             state.list = answering;
             if !rows::has(poll.good, row) {
-                mark(state, poll.version);
+                mark(&mut state, poll.version);
             }
-            table.encode_row(bytes, row);
+            table.write_row(bytes, row, &state);
         }
         Ok(poll.epoch + 1)
     }
 
     /// The set that a read or write works on: the coordinator's own choice as far as it answered, or else all that answered.
-    fn settle(&self, table: &Table, coordinator: usize, answering: u64, quorum: Quorum) -> Result<Poll, u32> {
+    fn settle(
+        &self,
+        table: &Table,
+        bytes: &[u8],
+        coordinator: usize,
+        answering: u64,
+        quorum: Quorum,
+    ) -> Result<Poll, u32> {
         if self.makes(Blunder::SixByCount) {
-            ask(6, answering.count_ones() as usize > table.used.len() / 2)?;
+            ask(6, answering.count_ones() as usize > table.used / 2)?;
         }
-        let own = table.row(coordinator);
-        let choice = Layout::of(own.list, &table.chain).choice(quorum, own.name) & answering;
+        let own = table.row(bytes, coordinator);
+        let mut layout = Layout::of(own.list, &table.chain);
+        let choice = layout.choice(quorum, own.name) & answering;
         if choice != 0 && !self.makes(Blunder::NoChoice) {
-            let poll = self.poll(table, choice);
-            if self.holds(table, &poll, quorum) && poll.current {
+            let poll = self.poll(table, bytes, choice);
+            layout.lay(poll.list, &table.chain);
+            if self.holds(table, &layout, quorum, choice) && poll.current {
                 return Ok(poll);
             }
         }
-        let poll = self.poll(table, answering);
-        ask(6, self.holds(table, &poll, quorum))?;
+        let poll = self.poll(table, bytes, answering);
+        layout.lay(poll.list, &table.chain);
+        ask(6, self.holds(table, &layout, quorum, answering))?;
         ask(7, poll.current)?;
         Ok(poll)
     }
 
     /// Polls the rows of a set that is not empty.
-    fn poll(&self, table: &Table, set: u64) -> Poll {
+    fn poll(&self, table: &Table, bytes: &[u8], set: u64) -> Poll {
         let mut poll = Poll { set, epoch: 0, list: 0, good: 0, version: 0, current: false };
         let mut desired = 0;
         for index in rows::members(set) {
-            let row = table.row(index);
+            let row = table.row(bytes, index);
             if row.epoch >= poll.epoch {
                 (poll.epoch, poll.list) = (row.epoch, row.list);
             }
@@ -197,16 +212,13 @@ impl Engine {
         poll
     }
 
-    /// Does the polled set hold a quorum of the list of its highest epoch?
-    fn holds(&self, table: &Table, poll: &Poll, quorum: Quorum) -> bool {
-        let layout = Layout::of(poll.list, &table.chain);
+    /// Does the set hold a quorum of the list that is laid out?
+    fn holds(&self, table: &Table, layout: &Layout, quorum: Quorum, set: u64) -> bool {
         match self.blunder {
-            Some(Blunder::OutsidersCount) => {
-                blunder::holds_with_outsiders(&layout, &table.chain, quorum, poll.set)
-            }
-            Some(Blunder::ShortColumnWhole) => blunder::holds_long_column(&layout, quorum, poll.set),
-            Some(Blunder::AllOfThree) => blunder::holds_all_of_three(&layout, quorum, poll.set),
-            _ => layout.holds(quorum, poll.set),
+            Some(Blunder::OutsidersCount) => blunder::holds_with_outsiders(layout, &table.chain, quorum, set),
+            Some(Blunder::ShortColumnWhole) => blunder::holds_long_column(layout, quorum, set),
+            Some(Blunder::AllOfThree) => blunder::holds_all_of_three(layout, quorum, set),
+            _ => layout.holds(quorum, set),
         }
     }
 
@@ -217,49 +229,39 @@ impl Engine {
 
 fn found(bytes: &mut [u8], capacity: u64, file_len: u64, names: &[u8]) -> Answer {
     ask(11, names.len().is_multiple_of(2))?;
-    let names: Vec<u16> = names.chunks(2).map(|name| u16::from_le_bytes([name[0], name[1]])).collect();
-    let rising = names.windows(2).all(|pair| pair[0] < pair[1]);
-    ask(11, (1..=MAX_ROWS).contains(&names.len()) && rising && names[0] > 0)?;
-    ask(
-        12,
-        (names.len() as u64..=MAX_ROWS as u64).contains(&capacity)
-            && (1..=MAX_FILE as u64).contains(&file_len),
-    )?;
+    let used = names.len() / 2;
+    let names = names.chunks_exact(2).map(|name| u16::from_le_bytes([name[0], name[1]]));
+    // A 0 before them: so none of rising names is 0.
+    let before = iter::once(0).chain(names.clone());
+    let rising = before.zip(names.clone()).all(|(before, name)| before < name);
+    ask(11, (1..=MAX_ROWS).contains(&used) && rising)?;
+    let capacity_fits = (used as u64..=MAX_ROWS as u64).contains(&capacity);
+    ask(12, capacity_fits && (1..=MAX_FILE as u64).contains(&file_len))?;
     let (capacity, file_len) = (capacity as usize, file_len as usize);
     ask(12, bytes.len() == Table::length(capacity, file_len))?;
 
-    let used = names.len();
-    let row = |(index, &name): (usize, &u16)| Row {
-        name,
-        next: if index < used { index + 1 } else { 0 },
-        stale: false,
-        version: 0,
-        desired: 0,
-        epoch: 0,
-        list: rows::first(used),
-    };
-    let table = Table {
-        capacity,
-        first: 1,
-        file_len,
-        used: (1..).zip(&names).map(row).collect(),
-        chain: (1..=used).collect(),
-    };
+    let table = Table { capacity, used, file_len, chain: Order::first(used) };
     bytes.fill(0);
-    table.encode(bytes);
+    table.write_header(bytes, 1);
+    for (index, name) in (1..).zip(names) {
+        let next = if index < used { index + 1 } else { 0 };
+        let list = table.all_used();
+        let row = Row { name, next, stale: false, version: 0, desired: 0, epoch: 0, list };
+        table.write_row(bytes, index, &row);
+    }
     Ok(used as u32)
 }
 
 fn send(bytes: &mut [u8], from: u64, to: u64, answering: u64) -> Answer {
-    let mut table = Table::decode(bytes).ok_or(1u32)?;
+    let table = Table::decode(bytes).ok_or(1u32)?;
     ask(2, is_used(&table, from) && is_used(&table, to) && only_used(&table, answering) && from != to)?;
     ask(3, answers(answering, from) && answers(answering, to))?;
     let (from, to) = (from as usize, to as usize);
-    let (sender, receiver) = (*table.row(from), *table.row(to));
+    let (sender, receiver) = (table.row(bytes, from), table.row(bytes, to));
     ask(9, !sender.stale)?;
     ask(10, receiver.stale && receiver.desired <= sender.version)?;
-    table.used[to - 1] = Row { version: sender.version, stale: false, desired: 0, ..receiver };
-    table.encode_row(bytes, to);
+    let caught_up = Row { version: sender.version, stale: false, desired: 0, ..receiver };
+    table.write_row(bytes, to, &caught_up);
     let source = table.row_at(from) + ROW_HEADER..table.row_at(from + 1);
     bytes.copy_within(source, table.row_at(to) + ROW_HEADER);
     Ok(sender.version)
@@ -271,7 +273,7 @@ fn mark(row: &mut Row, desired: u32) {
 }
 
 fn is_used(table: &Table, row: u64) -> bool {
-    (1..=table.used.len() as u64).contains(&row)
+    (1..=table.used as u64).contains(&row)
 }
 
 fn only_used(table: &Table, set: u64) -> bool {

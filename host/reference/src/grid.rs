@@ -1,6 +1,6 @@
 //! The grid of a list: its size, its quorums and a caller's own choice.
 
-use crate::rows;
+use crate::rows::{self, Order};
 
 /// What a call needs of the rows that answered.
 #[derive(Clone, Copy, Debug, PartialEq, Eq)]
@@ -20,7 +20,7 @@ pub struct Grid {
 
 impl Grid {
     pub fn of(length: usize) -> Grid {
-        let root = length.isqrt();
+        let root = usize::from((length as u8).isqrt());
         let columns = if root * root < length { root + 1 } else { root };
         let rows = if root * columns < length { root + 1 } else { root };
         Grid { rows, columns, empty: rows * columns - length }
@@ -44,52 +44,69 @@ impl Grid {
 }
 
 /// A list laid in its grid: its members in chain order.
+#[derive(Clone, Copy, Debug)]
 pub struct Layout {
+    pub list: u64,
     pub grid: Grid,
-    pub members: Vec<usize>,
+    pub members: Order,
 }
 
 impl Layout {
     /// Lays out `list`, whose members lie in `chain` in order.
-    pub fn of(list: u64, chain: &[usize]) -> Layout {
-        let members: Vec<usize> = chain.iter().copied().filter(|&row| rows::has(list, row)).collect();
-        Layout { grid: Grid::of(members.len()), members }
+    pub fn of(list: u64, chain: &Order) -> Layout {
+        let members = chain.cut(list);
+        Layout { list, grid: Grid::of(members.len()), members }
+    }
+
+    /// Lays out another list, unless it is the one that is laid out already.
+    pub fn lay(&mut self, list: u64, chain: &Order) {
+        if list != self.list {
+            *self = Layout::of(list, chain);
+        }
     }
 
     /// Does the set hold a quorum of the list?
     pub fn holds(&self, quorum: Quorum, set: u64) -> bool {
-        let mut answers = [0; 64];
-        for (index, &row) in self.members.iter().enumerate() {
-            if rows::has(set, row) {
-                answers[index % self.grid.columns] += 1;
-            }
+        let held = self.positions(set);
+        // Places beyond the last member are no part of their columns.
+        let held_or_empty = held | !rows::first(self.members.len());
+        let columns = rows::first(self.grid.columns);
+        let (mut with_a_member, mut whole) = (0, columns);
+        for row in 0..self.grid.rows {
+            with_a_member |= held >> (row * self.grid.columns);
+            whole &= held_or_empty >> (row * self.grid.columns);
         }
-        let answers = &answers[..self.grid.columns];
-        let every_column = answers.iter().all(|&count| count > 0);
-        let whole_column = || (1..).zip(answers).any(|(column, &count)| count == self.grid.height(column));
-        every_column && (quorum == Quorum::Read || whole_column())
+        with_a_member & columns == columns && (quorum == Quorum::Read || whole != 0)
     }
 
     /// The own choice of the caller with this name.
     pub fn choice(&self, quorum: Quorum, name: u16) -> u64 {
+        let Grid { rows, columns, empty } = self.grid;
         let name = usize::from(name);
-        let whole = name % self.grid.columns + 1;
+        let whole = name % columns + 1;
+        // Columns have two heights; there are short ones only if there are two rows.
+        let (in_long, in_short) = (name % rows + 1, name % (rows - 1).max(1) + 1);
         let mut chosen = 0;
-        for column in 1..=self.grid.columns {
-            let height = self.grid.height(column);
-            if quorum == Quorum::Write && column == whole {
-                for row in 1..=height {
-                    chosen |= self.member(row, column);
-                }
-            } else {
-                chosen |= self.member(name % height + 1, column);
+        for column in 1..=columns {
+            let row = if column > columns - empty { in_short } else { in_long };
+            chosen |= self.member(row, column);
+        }
+        if quorum == Quorum::Write {
+            for row in 1..=self.grid.height(whole) {
+                chosen |= self.member(row, whole);
             }
         }
         chosen
     }
 
+    /// The positions of the set's members: bit k - 1 for position k.
+    fn positions(&self, set: u64) -> u64 {
+        let places = self.members.iter().enumerate();
+        places.fold(0, |held, (place, row)| held | (set >> (row - 1) & 1) << place)
+    }
+
     fn member(&self, row: usize, column: usize) -> u64 {
-        rows::only(self.members[self.grid.position(row, column) - 1])
+        1 << (self.members[self.grid.position(row, column) - 1] - 1)
     }
 }
 
@@ -98,8 +115,7 @@ mod tests {
     use super::*;
 
     fn list_of(length: usize) -> Layout {
-        let chain: Vec<usize> = (1..=length).collect();
-        Layout::of(rows::first(length), &chain)
+        Layout::of(rows::first(length), &Order::first(length))
     }
 
     fn set(positions: &[usize]) -> u64 {

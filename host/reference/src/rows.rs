@@ -1,4 +1,7 @@
-//! Sets of rows: bit i - 1 for row i.
+//! Sets of rows (bit i - 1 for row i), and rows in an order.
+
+use crate::MAX_ROWS;
+use std::ops::Deref;
 
 /// The set of this row alone; empty if it is not from 1 to 64.
 pub fn only(row: usize) -> u64 {
@@ -26,7 +29,49 @@ pub fn has(set: u64, row: usize) -> bool {
 pub fn members(mut set: u64) -> impl Iterator<Item = usize> {
     std::iter::from_fn(move || {
         let row = set.trailing_zeros() as usize + 1;
-        set &= !only(row);
+        set &= set.wrapping_sub(1);
         (row <= 64).then_some(row)
     })
+}
+
+/// Up to 64 rows in an order.
+#[derive(Clone, Copy, Debug, PartialEq, Eq)]
+pub struct Order {
+    rows: [u8; MAX_ROWS],
+    count: usize,
+}
+
+impl Order {
+    pub const EMPTY: Order = Order { rows: [0; MAX_ROWS], count: 0 };
+
+    /// Rows 1 to `count`.
+    pub fn first(count: usize) -> Order {
+        let mut rows = [0; MAX_ROWS];
+        rows.iter_mut().zip(1..).take(count).for_each(|(place, row)| *place = row);
+        Order { rows, count }
+    }
+
+    pub fn push(&mut self, row: usize) {
+        self.rows[self.count] = row as u8;
+        self.count += 1;
+    }
+
+    /// Its members that are in the set.
+    pub fn cut(&self, set: u64) -> Order {
+        let mut kept = Order::EMPTY;
+        for &row in self.iter() {
+            // Overwritten by the next one unless it counts.
+            kept.rows[kept.count] = row;
+            kept.count += (set >> (row - 1) & 1) as usize;
+        }
+        kept
+    }
+}
+
+impl Deref for Order {
+    type Target = [u8];
+
+    fn deref(&self) -> &[u8] {
+        &self.rows[..self.count]
+    }
 }

@@ -1,6 +1,6 @@
-//! The table in memory: reading it, judging it, writing rows back.
+//! The table in memory: judging it, reading its rows, writing them.
 
-use crate::rows;
+use crate::rows::{self, Order};
 
 pub const HEADER: usize = 16;
 pub const ROW_HEADER: usize = 32;
@@ -22,25 +22,22 @@ pub struct Row {
 }
 
 impl Row {
-    /// Reads the 32 bytes before the contents, if every field is in its range.
-    fn decode(bytes: &[u8]) -> Option<Row> {
-        let row = Row {
+    /// Reads the bytes before the contents.
+    fn read(bytes: &[u8; ROW_HEADER]) -> Row {
+        let number = |at: usize| u32::from_le_bytes([bytes[at], bytes[at + 1], bytes[at + 2], bytes[at + 3]]);
+        Row {
             name: u16::from_le_bytes([bytes[0], bytes[1]]),
             next: usize::from(bytes[2]),
             stale: bytes[3] == 1,
-            version: number(&bytes[4..8]),
-            desired: number(&bytes[8..12]),
-            epoch: number(&bytes[12..16]),
-            list: u64::from_le_bytes(bytes[16..24].try_into().ok()?),
-        };
-        let numbers_fit = row.version <= LIMIT && row.desired <= LIMIT && row.epoch <= LIMIT;
-        let desired_fits = if row.stale { row.desired > row.version } else { row.desired == 0 };
-        let well_formed =
-            row.name > 0 && bytes[3] <= 1 && numbers_fit && desired_fits && all_zero(&bytes[24..32]);
-        well_formed.then_some(row)
+            version: number(4),
+            desired: number(8),
+            epoch: number(12),
+            list: u64::from(number(16)) | u64::from(number(20)) << 32,
+        }
     }
 
-    fn encode(&self, bytes: &mut [u8]) {
+    /// Writes the bytes before the contents.
+    pub fn write(&self, bytes: &mut [u8; ROW_HEADER]) {
         bytes[0..2].copy_from_slice(&self.name.to_le_bytes());
         bytes[2] = self.next as u8;
         bytes[3] = u8::from(self.stale);
@@ -50,18 +47,23 @@ impl Row {
         bytes[16..24].copy_from_slice(&self.list.to_le_bytes());
         bytes[24..32].fill(0);
     }
+
+    /// Is every field of the row in its range, whatever the other rows hold?
+    fn fits(&self, bytes: &[u8; ROW_HEADER]) -> bool {
+        let numbers_fit = self.version <= LIMIT && self.desired <= LIMIT && self.epoch <= LIMIT;
+        let desired_fits = if self.stale { self.desired > self.version } else { self.desired == 0 };
+        self.name > 0 && bytes[3] <= 1 && numbers_fit && desired_fits && all_zero(&bytes[24..])
+    }
 }
 
-/// A well-formed table without the contents of its rows, which stay in the bytes.
+/// A well-formed table: its sizes and the order of its rows. The rows themselves stay in the bytes.
 #[derive(Clone, Debug, PartialEq, Eq)]
 pub struct Table {
     pub capacity: usize,
-    pub first: usize,
+    pub used: usize,
     pub file_len: usize,
-    /// Row i at place i - 1.
-    pub used: Vec<Row>,
     /// The used rows in the order of their names.
-    pub chain: Vec<usize>,
+    pub chain: Order,
 }
 
 impl Table {
@@ -70,24 +72,10 @@ impl Table {
         HEADER + capacity * (ROW_HEADER + file_len)
     }
 
-    /// Where a row begins.
-    pub fn row_at(&self, row: usize) -> usize {
-        Table::length(row - 1, self.file_len)
-    }
-
-    pub fn row(&self, row: usize) -> &Row {
-        &self.used[row - 1]
-    }
-
-    pub fn all_used(&self) -> u64 {
-        rows::first(self.used.len())
-    }
-
     /// Reads a table, if it is well formed.
     pub fn decode(bytes: &[u8]) -> Option<Table> {
-        let header = bytes.get(..HEADER)?;
-        let (capacity, used, first) =
-            (usize::from(header[1]), usize::from(header[2]), usize::from(header[3]));
+        let header = bytes.first_chunk::<HEADER>()?;
+        let [capacity, used, first] = [1, 2, 3].map(|at| usize::from(header[at]));
         let file_len = usize::from(u16::from_le_bytes([header[4], header[5]]));
         let header_fits = header[0] == 1
             && (1..=MAX_ROWS).contains(&capacity)
@@ -97,34 +85,39 @@ impl Table {
         if !header_fits || bytes.len() != Table::length(capacity, file_len) {
             return None;
         }
-        let (used_rows, unused_rows) = bytes[HEADER..].split_at(used * (ROW_HEADER + file_len));
-        let used = used_rows.chunks(ROW_HEADER + file_len).map(Row::decode).collect::<Option<Vec<Row>>>()?;
-        let chain = chain(first, &used)?;
-        (lists_fit(&used) && all_zero(unused_rows)).then_some(Table {
-            capacity,
-            first,
-            file_len,
-            used,
-            chain,
-        })
+        let mut table = Table { capacity, used, file_len, chain: Order::EMPTY };
+        let well_formed = table.rows_fit(bytes)
+            && table.follow_chain(bytes, first)
+            && all_zero(&bytes[table.row_at(used + 1)..]);
+        well_formed.then_some(table)
     }
 
-    /// Writes the header and every used row; contents and unused rows are left alone.
-    pub fn encode(&self, bytes: &mut [u8]) {
+    /// Writes the header; it begins the chain with row `first`.
+    pub fn write_header(&self, bytes: &mut [u8], first: usize) {
         bytes[..HEADER].fill(0);
         bytes[0] = 1;
         bytes[1] = self.capacity as u8;
-        bytes[2] = self.used.len() as u8;
-        bytes[3] = self.first as u8;
+        bytes[2] = self.used as u8;
+        bytes[3] = first as u8;
         bytes[4..6].copy_from_slice(&(self.file_len as u16).to_le_bytes());
-        for row in 1..=self.used.len() {
-            self.encode_row(bytes, row);
-        }
     }
 
-    pub fn encode_row(&self, bytes: &mut [u8], row: usize) {
-        let start = self.row_at(row);
-        self.row(row).encode(&mut bytes[start..start + ROW_HEADER]);
+    pub fn all_used(&self) -> u64 {
+        rows::first(self.used)
+    }
+
+    /// Where a row begins.
+    pub fn row_at(&self, row: usize) -> usize {
+        Table::length(row - 1, self.file_len)
+    }
+
+    pub fn row(&self, bytes: &[u8], row: usize) -> Row {
+        Row::read(self.row_header(bytes, row))
+    }
+
+    pub fn write_row(&self, bytes: &mut [u8], row: usize, state: &Row) {
+        let header = bytes[self.row_at(row)..].first_chunk_mut();
+        state.write(header.expect("the row is in the table"));
     }
 
     pub fn contents<'a>(&self, bytes: &'a [u8], row: usize) -> &'a [u8] {
@@ -134,43 +127,56 @@ impl Table {
     pub fn contents_mut<'a>(&self, bytes: &'a mut [u8], row: usize) -> &'a mut [u8] {
         &mut bytes[self.row_at(row) + ROW_HEADER..self.row_at(row + 1)]
     }
+
+    fn row_header<'a>(&self, bytes: &'a [u8], row: usize) -> &'a [u8; ROW_HEADER] {
+        bytes[self.row_at(row)..].first_chunk().expect("the row is in the table")
+    }
+
+    /// Is every used row in order by itself, does its list name used rows only, its own among them, and is it the one
+    /// list of its epoch?
+    fn rows_fit(&self, bytes: &[u8]) -> bool {
+        let all_used = self.all_used();
+        // The first row of each epoch; most tables have few epochs, and most rows that of the row before.
+        let mut leaders = Order::EMPTY;
+        let mut before = None;
+        for index in 1..=self.used {
+            let header = self.row_header(bytes, index);
+            let row = Row::read(header);
+            if !row.fits(header) || row.list & !all_used != 0 || !rows::has(row.list, index) {
+                return false;
+            }
+            if before != Some((row.epoch, row.list)) {
+                let mut earlier = leaders.iter().map(|&leader| self.row(bytes, usize::from(leader)));
+                match earlier.find(|leader| leader.epoch == row.epoch) {
+                    Some(leader) if leader.list != row.list => return false,
+                    Some(_) => {}
+                    None => leaders.push(index),
+                }
+                before = Some((row.epoch, row.list));
+            }
+        }
+        true
+    }
+
+    /// Gathers the chain; does it visit each used row once, and do its names rise strictly?
+    fn follow_chain(&mut self, bytes: &[u8], first: usize) -> bool {
+        let mut name_before = 0;
+        let mut index = first;
+        while (1..=self.used).contains(&index) {
+            let row = self.row(bytes, index);
+            // Rising names keep the walk from coming back to a row.
+            if row.name <= name_before {
+                return false;
+            }
+            self.chain.push(index);
+            name_before = row.name;
+            index = row.next;
+        }
+        index == 0 && self.chain.len() == self.used
+    }
 }
 
-fn number(bytes: &[u8]) -> u32 {
-    u32::from_le_bytes([bytes[0], bytes[1], bytes[2], bytes[3]])
-}
-
+/// Folds all bytes into one, which vectorizes.
 fn all_zero(bytes: &[u8]) -> bool {
     bytes.iter().fold(0, |bits, byte| bits | byte) == 0
-}
-
-/// The rows in chain order, if the chain visits each used row once and its names rise strictly.
-fn chain(first: usize, used: &[Row]) -> Option<Vec<usize>> {
-    let mut chain = Vec::with_capacity(used.len());
-    let mut name_before = 0;
-    let mut row = first;
-    while row != 0 {
-        // Rising names keep the walk from coming back to a row.
-        let here = used.get(row - 1).filter(|here| here.name > name_before)?;
-        chain.push(row);
-        name_before = here.name;
-        row = here.next;
-    }
-    (chain.len() == used.len()).then_some(chain)
-}
-
-/// Does each list name used rows only, its own row among them, and is it the one list of its epoch?
-fn lists_fit(used: &[Row]) -> bool {
-    let all_used = rows::first(used.len());
-    let mut epochs: Vec<(u32, u64)> = Vec::new();
-    (1..).zip(used).all(|(index, row)| {
-        let same_list = match epochs.iter().find(|(epoch, _)| *epoch == row.epoch) {
-            Some((_, list)) => *list == row.list,
-            None => {
-                epochs.push((row.epoch, row.list));
-                true
-            }
-        };
-        same_list && row.list & !all_used == 0 && rows::has(row.list, index)
-    })
 }

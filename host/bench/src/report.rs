@@ -1,0 +1,87 @@
+//! What was measured, as a page in Markdown.
+
+use std::fmt::Write;
+use std::process::Command;
+
+/// Best times of one call in nanoseconds.
+pub struct Timing {
+    pub state: String,
+    pub call: String,
+    pub library: f64,
+    pub reference: f64,
+}
+
+impl Timing {
+    fn ratio(&self) -> f64 {
+        self.library / self.reference
+    }
+}
+
+/// The timings as a table.
+pub fn table(timings: &[Timing]) -> String {
+    let mut text = String::from("| table | call | library, ns | reference, ns | library / reference |\n");
+    text.push_str("|---|---|---:|---:|---:|\n");
+    for timing in timings {
+        let Timing { state, call, library, reference } = timing;
+        writeln!(text, "| {state} | {call} | {library:.0} | {reference:.0} | {:.2} |", timing.ratio())
+            .expect("a string takes all");
+    }
+    text
+}
+
+/// How often the library is slower, and by how much.
+pub fn verdict(timings: &[Timing]) -> String {
+    let mut ratios: Vec<f64> = timings.iter().map(Timing::ratio).collect();
+    ratios.sort_by(f64::total_cmp);
+    let count = ratios.len();
+    let above = ratios.iter().filter(|&&ratio| ratio > 1.0).count();
+    let (lowest, median, highest) = (ratios[0], ratios[count / 2], ratios[count - 1]);
+    format!(
+        "Of {count} ratios {above} are above 1: there the library is slower. The lowest is {lowest:.2}, the median {median:.2}, \
+         the highest {highest:.2}."
+    )
+}
+
+/// The whole page; `load` as it was before the run, `runs` as many as there were of each call.
+pub fn page(timings: &[Timing], load: &str, runs: usize) -> String {
+    format!(
+        "# Benchmarks\n\n\
+         Each call, the library's and the reference's (plain Rust that takes no memory, `host/reference`), on the same tables in one run, both\n\
+         optimised. A time is the best of {runs} runs of many calls, the two engines by turns, and every run starts from the same table.\n\n\
+         {}\n\n\
+         The tables:\n\n\
+         - founded: as a founding leaves it; all machines answer;\n\
+         - two epochs by turns: the odd rows have a list of their own and a higher epoch than the even ones; the odd rows answer;\n\
+         - reversed chain: names rise while the indexes of their rows fall; all machines answer;\n\
+         - list of three quarters: after a check that a quarter of the machines missed; the others answer;\n\
+         - a quorum answers: founded, and no more than a write quorum answers; of the coordinator's own choice too few do, so that the call goes\n\
+         \x20 on to all that answered;\n\
+         - 5 of 64 rows used: founded, with 59 unused rows to be found all zero; all five answer.\n\n\
+         Row 1 coordinates. Before each send the receiver is made stale again, which is in the times of both. A refused send has a receiver that is\n\
+         not stale. A check with a new list leaves out the last row and takes it in again by turns.\n\n\
+         {}\n\
+         - machine: {}, load {load} when the run began\n- compiler of the reference: {}\n- to measure again: `make bench`\n",
+        verdict(timings),
+        table(timings),
+        processor(),
+        compiler(),
+    )
+}
+
+fn processor() -> String {
+    let info = std::fs::read_to_string("/proc/cpuinfo").unwrap_or_default();
+    let model =
+        info.lines().find(|line| line.starts_with("model name")).and_then(|line| line.split(": ").nth(1));
+    model.unwrap_or("unknown").to_string()
+}
+
+/// Processes that want to run, over the last minute.
+pub fn load() -> String {
+    let average = std::fs::read_to_string("/proc/loadavg").unwrap_or_default();
+    average.split(' ').next().filter(|load| !load.is_empty()).unwrap_or("unknown").to_string()
+}
+
+fn compiler() -> String {
+    let output = Command::new("rustc").arg("--version").output();
+    output.map_or("unknown".into(), |output| String::from_utf8_lossy(&output.stdout).trim().to_string())
+}

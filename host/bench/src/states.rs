@@ -1,0 +1,122 @@
+//! The tables that the calls are timed on.
+
+use crate::tasks::{Task, EVERY_TASK};
+use reference::rows::{self, Order};
+use reference::{Engine, Grid, Layout, Quorum, Table};
+
+/// A well-formed table, and the calls that are timed on it.
+pub struct State {
+    pub title: String,
+    pub size: Size,
+    pub table: Vec<u8>,
+    /// The rows that answer reads, writes and checks; row 1, which coordinates, is one of them.
+    pub answering: u64,
+    pub tasks: &'static [Task],
+}
+
+#[derive(Clone, Copy)]
+pub struct Size {
+    title: &'static str,
+    pub used: usize,
+    pub capacity: usize,
+    pub file_len: usize,
+}
+
+const SIZES: [Size; 3] = [
+    Size { title: "4 machines, 64 bytes", used: 4, capacity: 4, file_len: 64 },
+    Size { title: "16 machines, 1,024 bytes", used: 16, capacity: 16, file_len: 1024 },
+    Size { title: "64 machines, 4,096 bytes", used: 64, capacity: 64, file_len: 4096 },
+];
+const SPARSE: Size = Size { title: "5 of 64 rows used, 4,096 bytes", used: 5, capacity: 64, file_len: 4096 };
+
+const SOME_TASKS: &[Task] = &[Task::Read(16), Task::Write(16), Task::Send, Task::CheckSame];
+const READ_AND_WRITE: &[Task] = &[Task::Read(16), Task::Write(16)];
+
+/// Every state, small tables first.
+pub fn all() -> Vec<State> {
+    let mut states: Vec<State> = SIZES
+        .into_iter()
+        .flat_map(|size| {
+            [founded(size), two_epochs(size), falling_rows(size), partial_list(size), few_answering(size)]
+        })
+        .collect();
+    states.push(State { tasks: SOME_TASKS, ..founded(SPARSE) });
+    for state in &states {
+        assert!(Table::decode(&state.table).is_some(), "{}: malformed", state.title);
+    }
+    states
+}
+
+impl Size {
+    pub fn names(&self) -> Vec<u8> {
+        (1..=self.used).flat_map(name).collect()
+    }
+
+    fn title(&self, state: &str) -> String {
+        format!("{}: {state}", self.title)
+    }
+
+    /// Where a row begins.
+    pub fn row_at(&self, row: usize) -> usize {
+        Table::length(row - 1, self.file_len)
+    }
+}
+
+fn name(rank: usize) -> [u8; 2] {
+    (1000 * rank as u16).to_le_bytes()
+}
+
+fn founded(size: Size) -> State {
+    let mut table = vec![0; Table::length(size.capacity, size.file_len)];
+    Engine::default().found(&mut table, size.capacity as u64, size.file_len as u64, &size.names());
+    State { title: size.title("founded"), size, table, answering: rows::first(size.used), tasks: &EVERY_TASK }
+}
+
+/// The odd rows are a list of their own with a higher epoch, so that no two neighbours are of one epoch.
+fn two_epochs(size: Size) -> State {
+    let mut state = founded(size);
+    let odd = (1..=size.used).step_by(2).fold(0, |set, row| set | rows::only(row));
+    for row in rows::members(odd) {
+        let at = size.row_at(row);
+        state.table[at + 12] = 1;
+        state.table[at + 16..at + 24].copy_from_slice(&odd.to_le_bytes());
+    }
+    State { title: size.title("two epochs by turns"), answering: odd, tasks: SOME_TASKS, ..state }
+}
+
+/// Row indexes fall along the chain.
+fn falling_rows(size: Size) -> State {
+    let mut state = founded(size);
+    state.table[3] = size.used as u8;
+    for row in 1..=size.used {
+        let at = size.row_at(row);
+        state.table[at..at + 2].copy_from_slice(&name(size.used + 1 - row));
+        state.table[at + 2] = row as u8 - 1;
+    }
+    State { title: size.title("reversed chain"), tasks: SOME_TASKS, ..state }
+}
+
+/// After a check that a quarter of the machines missed: the last ones outside the first column.
+fn partial_list(size: Size) -> State {
+    let mut state = founded(size);
+    let columns = Grid::of(size.used).columns;
+    let outside = (1..=size.used).rev().filter(|row| (row - 1) % columns != 0).take(size.used / 4);
+    let list = outside.fold(state.answering, |list, row| list & !rows::only(row));
+    let result = Engine::default().check(&mut state.table, 1, list);
+    assert_eq!(result, 1, "the check was refused");
+    State { title: size.title("list of three quarters"), answering: list, tasks: SOME_TASKS, ..state }
+}
+
+/// Only the first column and the last row of the grid answer: a write quorum. What answers of the coordinator's own
+/// choice holds none.
+fn few_answering(size: Size) -> State {
+    let columns = Grid::of(size.used).columns;
+    let quorum = (1..=size.used).filter(|row| (row - 1) % columns == 0 || *row > size.used - columns);
+    let answering = quorum.fold(0, |set, row| set | rows::only(row));
+    let layout = Layout::of(rows::first(size.used), &Order::first(size.used));
+    for quorum in [Quorum::Read, Quorum::Write] {
+        let choice = layout.choice(quorum, u16::from_le_bytes(name(1)));
+        assert!(layout.holds(quorum, answering) && !layout.holds(quorum, choice & answering));
+    }
+    State { title: size.title("a quorum answers"), answering, tasks: READ_AND_WRITE, ..founded(size) }
+}

@@ -1,0 +1,109 @@
+//! The calls that are timed.
+
+use crate::engines::Calls;
+use crate::states::State;
+use reference::rows;
+use std::fmt;
+use std::hint::black_box;
+use std::time::{Duration, Instant};
+
+/// Stands for the whole file in a `Task`.
+const WHOLE: usize = usize::MAX;
+
+#[derive(Clone, Copy)]
+pub enum Task {
+    Found,
+    /// So many bytes, or the whole file if it is shorter.
+    Read(usize),
+    Write(usize),
+    Send,
+    RefusedSend,
+    CheckSame,
+    CheckNew,
+}
+
+pub const EVERY_TASK: [Task; 9] = [
+    Task::Found,
+    Task::Read(16),
+    Task::Read(WHOLE),
+    Task::Write(16),
+    Task::Write(WHOLE),
+    Task::Send,
+    Task::RefusedSend,
+    Task::CheckSame,
+    Task::CheckNew,
+];
+
+impl fmt::Display for Task {
+    fn fmt(&self, f: &mut fmt::Formatter) -> fmt::Result {
+        match self {
+            Task::Found => f.write_str("found"),
+            Task::Read(WHOLE) => f.write_str("read, whole file"),
+            Task::Read(length) => write!(f, "read, {length} bytes"),
+            Task::Write(WHOLE) => f.write_str("write, whole file"),
+            Task::Write(length) => write!(f, "write, {length} bytes"),
+            Task::Send => f.write_str("send"),
+            Task::RefusedSend => f.write_str("send, refused"),
+            Task::CheckSame => f.write_str("check, same list"),
+            Task::CheckNew => f.write_str("check, new list"),
+        }
+    }
+}
+
+impl Task {
+    /// The refusal number that every call of the task must have.
+    fn refusal(self) -> u64 {
+        match self {
+            Task::RefusedSend => 10,
+            _ => 0,
+        }
+    }
+
+    /// Makes `calls` calls on a fresh copy of the table; gives the time of all, the table and the last result.
+    pub fn run(self, engine: &impl Calls, state: &State, calls: u32) -> (Duration, Vec<u8>, u64) {
+        let State { size, answering, .. } = *state;
+        let mut table = state.table.clone();
+        let (all, but_one) = (answering, answering & !rows::only(size.used));
+        let names = size.names();
+        let mut bytes = match self {
+            Task::Read(length) | Task::Write(length) => vec![7; length.min(size.file_len)],
+            _ => Vec::new(),
+        };
+        let (one, two) = (size.row_at(1), size.row_at(2));
+        if let Task::Send = self {
+            // Row 1 has version 1; row 2 is behind it.
+            table[one + 4] = 1;
+        }
+        let mut result = 0;
+        let started = Instant::now();
+        for call in 0..calls {
+            result = match self {
+                Task::Found => engine.found(
+                    black_box(&mut table),
+                    size.capacity as u64,
+                    size.file_len as u64,
+                    black_box(&names),
+                ),
+                Task::Read(_) => engine.read(black_box(&table), 1, all, 0, black_box(&mut bytes)),
+                Task::Write(_) => engine.write(black_box(&mut table), 1, all, 0, black_box(&bytes)),
+                Task::Send => {
+                    make_stale(&mut table, two);
+                    engine.send(black_box(&mut table), 1, 2, 3)
+                }
+                Task::RefusedSend => engine.send(black_box(&mut table), 1, 2, 3),
+                Task::CheckSame => engine.check(black_box(&mut table), 1, all),
+                Task::CheckNew => {
+                    engine.check(black_box(&mut table), 1, if call % 2 == 0 { but_one } else { all })
+                }
+            };
+            assert!(black_box(result) >> 32 == self.refusal(), "{}: {self} has another refusal", state.title);
+        }
+        let time = started.elapsed();
+        (time, table, result)
+    }
+}
+
+/// Marks the row that begins here: version 0, desiring version 1.
+fn make_stale(table: &mut [u8], row: usize) {
+    table[row + 3..row + 12].copy_from_slice(&[1, 0, 0, 0, 0, 1, 0, 0, 0]);
+}

@@ -1,0 +1,102 @@
+//! Four machines, each holding its own row: a relay gathers the rows that answer, makes a call on them, and ships the
+//! rows that changed. Run with `cargo run --example relay`.
+
+use dyngrid::{Refusal, Rows, Table};
+
+const FILE_LEN: usize = 16;
+/// Bytes of a row, and of the header before the rows.
+const ROW: usize = 32 + FILE_LEN;
+const HEADER: usize = 16;
+
+struct Relay {
+    /// Header, names and links are the same on every machine.
+    founded: Table,
+    /// What each machine holds: row i at place i - 1.
+    machines: Vec<Vec<u8>>,
+}
+
+impl Relay {
+    fn found(names: &[u16]) -> Result<Relay, Refusal> {
+        let founded = Table::found(names.len(), FILE_LEN, names)?;
+        let machines = founded.rows().iter().filter_map(|row| founded.row(row)).map(<[u8]>::to_vec).collect();
+        Ok(Relay { founded, machines })
+    }
+
+    /// The table of a call: the rows that answered. The others stand there as founded, and count by name and link only.
+    fn gather(&self, answering: Rows) -> Result<Table, Refusal> {
+        let mut bytes = self.founded.as_bytes().to_vec();
+        for row in answering {
+            bytes[HEADER + (row - 1) * ROW..][..ROW].copy_from_slice(&self.machines[row - 1]);
+        }
+        Ok(Table::from_bytes(bytes)?)
+    }
+
+    /// Makes a call on the rows that answer, and ships the rows that it changed to their machines.
+    /// A real relay locks the rows before, and sees to it that all machines store what they get, or none.
+    fn call<T>(
+        &mut self,
+        what: &str,
+        answering: Rows,
+        call: impl FnOnce(&mut Table) -> Result<T, Refusal>,
+    ) -> Result<T, Refusal> {
+        let before = self.gather(answering)?;
+        let mut table = before.clone();
+        let value = call(&mut table)?;
+        let changed: Rows = answering.iter().filter(|&row| table.row(row) != before.row(row)).collect();
+        for row in changed {
+            self.machines[row - 1].copy_from_slice(&table.as_bytes()[HEADER + (row - 1) * ROW..][..ROW]);
+        }
+        println!("{what}, {answering} answer: rows {changed} change");
+        Ok(value)
+    }
+
+    fn write(&mut self, by: usize, answering: Rows, score: &[u8]) -> Result<u32, Refusal> {
+        self.call(&format!("write by row {by}"), answering, |table| table.write(by, answering, 0, score))
+    }
+
+    fn read(&mut self, by: usize, answering: Rows) -> Result<[u8; 3], Refusal> {
+        let mut score = [0; 3];
+        self.call(&format!("read by row {by}"), answering, |table| table.read(by, answering, 0, &mut score))?;
+        Ok(score)
+    }
+
+    fn send(&mut self, from: usize, to: usize) -> Result<u32, Refusal> {
+        let ends = Rows::of(&[from, to])?;
+        self.call(&format!("send from row {from} to row {to}"), ends, |table| table.send(from, to, ends))
+    }
+
+    fn check(&mut self, by: usize, answering: Rows) -> Result<u32, Refusal> {
+        self.call(&format!("check by row {by}"), answering, |table| table.check(by, answering))
+    }
+
+    /// Is the row marked as stale on its machine?
+    fn is_stale(&self, row: usize) -> bool {
+        self.machines[row - 1][3] == 1
+    }
+}
+
+fn main() -> Result<(), Refusal> {
+    let mut relay = Relay::found(&[10, 20, 30, 40])?;
+
+    // The own choice of row 4, by its name, is {1, 2, 3}. All of them answer, so the write is theirs alone.
+    relay.write(4, Rows::first(4), b"1-0")?;
+    // Row 4 missed the write, unmarked. With row 3 it still reads the new score.
+    assert_eq!(relay.read(4, Rows::of(&[3, 4])?)?, *b"1-0");
+
+    // Machine 30 is away. Too few of the own choice are left, so the set is all that answer, and row 4 is marked.
+    relay.write(4, Rows::of(&[1, 2, 4])?, b"0-1")?;
+    assert!(relay.is_stale(4));
+    relay.send(1, 4)?;
+
+    // It stays away: the three that are left become the list, and two of them are enough for a write.
+    relay.check(1, Rows::of(&[1, 2, 4])?)?;
+    relay.write(1, Rows::of(&[1, 2])?, b"1/2")?;
+
+    // It is back: a check takes it in and marks the rows that are behind; sends bring them up.
+    relay.check(1, Rows::first(4))?;
+    for row in (1..=4).filter(|&row| relay.is_stale(row)).collect::<Vec<_>>() {
+        relay.send(1, row)?;
+    }
+    assert_eq!(relay.read(3, Rows::of(&[3, 4])?)?, *b"1/2");
+    Ok(())
+}

@@ -1,0 +1,58 @@
+//! No call takes memory: the benchmark's yardstick must not waste time.
+
+use reference::{rows, Engine, Table};
+use std::alloc::{GlobalAlloc, Layout, System};
+use std::cell::Cell;
+
+/// Counts what each thread takes.
+struct Counting;
+
+thread_local! {
+    static TAKEN: Cell<usize> = const { Cell::new(0) };
+}
+
+// SAFETY: the system's allocator does the work.
+unsafe impl GlobalAlloc for Counting {
+    unsafe fn alloc(&self, layout: Layout) -> *mut u8 {
+        TAKEN.set(TAKEN.get() + 1);
+        System.alloc(layout)
+    }
+
+    unsafe fn dealloc(&self, pointer: *mut u8, layout: Layout) {
+        System.dealloc(pointer, layout)
+    }
+}
+
+#[global_allocator]
+static COUNTING: Counting = Counting;
+
+/// Sends from the first row that is not stale to row 64, which is.
+fn send(engine: Engine, table: &mut [u8]) -> u64 {
+    let judged = Table::decode(table).expect("well formed");
+    let from = (1..=64).find(|&row| !judged.row(table, row).stale).expect("a current row");
+    engine.send(table, from as u64, 64, rows::first(64))
+}
+
+#[test]
+fn no_call_takes_memory() {
+    let engine = Engine::default();
+    let names: Vec<u8> = (1..=64u16).flat_map(u16::to_le_bytes).collect();
+    let mut table = vec![0; Table::length(64, 100)];
+    let (all, but_one) = (rows::first(64), rows::first(63));
+    let mut buffer = [0; 100];
+    let before = TAKEN.get();
+    let results = [
+        engine.found(&mut table, 64, 100, &names),
+        engine.write(&mut table, 5, all, 0, &[1; 100]),
+        engine.read(&table, 64, all, 0, 100, &mut buffer),
+        engine.check(&mut table, 1, but_one),
+        engine.check(&mut table, 1, but_one),
+        engine.write(&mut table, 1, but_one & !2, 0, &[2; 7]),
+        engine.check(&mut table, 1, all),
+        send(engine, &mut table),
+        engine.read(&table, 1, 1, 0, 100, &mut buffer),
+    ];
+    assert_eq!(TAKEN.get(), before);
+    assert_eq!(results.map(|result| result >> 32), [0, 0, 0, 0, 0, 0, 0, 0, 6]);
+    assert!(TAKEN.get() > 0, "the count works");
+}
