@@ -2,6 +2,14 @@
 ghost use mathlib.Core.Path.{_≡_};
 ghost use Rattle.protocol.specs.Calls.{founding, read, write, send, check, resultOf, outcome};
 
+// The number of this interface: it rises with every change of a signature, so that header and archive can be compared.
+#[no_mangle]
+pub extern "C" fn grid_interface() -> u64
+    ensures { λ r. ⌜ r ≡ 1 ⌝ }
+{
+    1
+}
+
 #[no_mangle]
 pub extern "C" fn grid_found(table: &mut [u8], capacity: u64, file: u64, names: &[u8]) -> u64
     ensures { λ r. ⌜ (r ≡ resultOf (outcome (now (table .entry)) (founding capacity file (now (names .entry))))) × (now (table .exit) ≡ outcome (now (table .entry)) (founding capacity file (now (names .entry))) .table) ⌝ }
