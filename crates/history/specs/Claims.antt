@@ -8,7 +8,7 @@ use Rattle.sets.specs.Sets.{has}
 use Rattle.quorums.specs.declared.Kind.{Kind}
 use Rattle.quorums.specs.declared.Kind.the-variants.{Read, Write}
 use Rattle.table.specs.WellFormed.{wellFormed}
-use Rattle.protocol.specs.Calls.{Call, founding, read, write, check, firstNo, upTo, questions, outcome, namesIn}
+use Rattle.protocol.specs.Calls.{Founding, Reading, Writing, Checking, Call, founding, read, write, check, firstNo, upTo, questions, outcome}
 use Rattle.history.specs.Book.{Book, opened, holdsQuorum, someHasAll, entered}
 use Rattle.history.specs.Demand3.{verdict, Right}
 
@@ -23,8 +23,8 @@ bookAfter t b (k ∷ ks) = bookAfter (outcome t k .table) (entered b k (eqb (out
 
 -- a table, and the book, after a done founding and any list of calls
 pub data Reached : List ℕ → Book → Type 0 where
-  after : (t : List ℕ) (capacity file : ℕ) (names : List ℕ) (ks : List Call) → outcome t (founding capacity file names) .refusal ≡ 0
-      → Reached (tableAfter (outcome t (founding capacity file names) .table) ks) (bookAfter (outcome t (founding capacity file names) .table) (opened file (namesIn names)) ks)
+  after : (t : List ℕ) (a : Founding) (ks : List Call) → outcome t (founding a) .refusal ≡ 0
+      → Reached (tableAfter (outcome t (founding a) .table) ks) (bookAfter (outcome t (founding a) .table) (opened a) ks)
 
 -- "after a founding this never happens": question 1 turns no table down
 unfoldable pub AlwaysWellFormed : Type 0
@@ -32,14 +32,14 @@ AlwaysWellFormed = (t : List ℕ) (b : Book) → Reached t b → wellFormed t �
 
 -- a check that passes 1 to 3 meets 6 and 7 by the book: a write quorum of the list in force; R that list, or a row of R with every done write
 unfoldable pub ChecksByBook : Type 0
-ChecksByBook = (t : List ℕ) (b : Book) → Reached t b → (c r : ℕ) → firstNo (upTo 3 (questions t (check c r))) ≡ 0
-    → firstNo (upTo 7 (questions t (check c r))) ≡ cond (holdsQuorum b Write (has r)) (cond (eqb r (b .inForce) || someHasAll b (has r)) 0 7) 6
+ChecksByBook = (t : List ℕ) (b : Book) → Reached t b → (a : Checking) → firstNo (upTo 3 (questions t (check a))) ≡ 0
+    → firstNo (upTo 7 (questions t (check a))) ≡ cond (holdsQuorum b Write (has (a .r))) (cond (eqb (a .r) (b .inForce) || someHasAll b (has (a .r))) 0 7) 6
 
 -- ---- 1,000,000 from both sides
 -- k is a read or a write, with the answering set R
 pub data Asks : Call → Kind → ℕ → Type 0 where
-  aRead : {c r offset count : ℕ} {buffer : List ℕ} → Asks (read c r offset count buffer) Read r
-  aWrite : {c r offset : ℕ} {patch : List ℕ} → Asks (write c r offset patch) Write r
+  aRead : {a : Reading} → Asks (read a) Read (a .r)
+  aWrite : {a : Writing} → Asks (write a) Write (a .r)
 
 -- "After fewer than 1,000,000 done writes": after 999,999 too, reads and writes are refused by the book
 unfoldable pub BelowTheLimit : Type 0
