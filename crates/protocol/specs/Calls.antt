@@ -60,6 +60,22 @@ pub record Outcome : Type 0 where
   pub table : List ℕ
   pub buffer : List ℕ
 
+-- the read buffer that a call is lent
+unfoldable pub lent : Call → List ℕ
+lent (founding a) = []
+lent (read a) = a .buffer
+lent (write a) = []
+lent (send a) = []
+lent (check a) = []
+
+-- what a call leaves that alters no more than the table: all else is as it was lent
+abbrev pub leaves : Call → ℕ → ℕ → List ℕ → Outcome
+leaves k refusal value table = record { refusal = refusal; value = value; table = table; buffer = lent k }
+
+-- the same with these bytes in the read buffer
+abbrev pub buffered : List ℕ → Outcome → Outcome
+buffered bytes o = record { refusal = o .refusal; value = o .value; table = o .table; buffer = bytes }
+
 -- "A result is one 64-bit number: refusal number times 2^32, plus value."
 unfoldable pub resultOf : Outcome → ℕ
 resultOf o = o .refusal * 2 ^ 32 + o .value
@@ -180,43 +196,31 @@ questions t (check a) =
 
 -- ---- what a done call leaves
 unfoldable pub done : List ℕ → Call → Outcome
-done t (founding a) = record { refusal = 0; value = length (namesIn (a .names)); table = founded (a .capacity) (a .fileLength) (namesIn (a .names)); buffer = [] }
+done t (founding a) = leaves (founding a) 0 (length (namesIn (a .names))) (founded (a .capacity) (a .fileLength) (namesIn (a .names)))
 -- "copies the range from the good row of lowest index. Value: its version."
 done t (read a) =
     let p = answers t (a .r) in
     let s = workSet Read t (a .c) (a .r) in
-    record { refusal = 0; value = goodVersion p s; table = t; buffer = part (a .offset) (a .count) (contentsOf t (lowest 64 (good p s))) }
+    buffered (part (a .offset) (a .count) (contentsOf t (lowest 64 (good p s)))) (leaves (read a) 0 (goodVersion p s) t)
 -- "Value: the new version."
 done t (write a) =
     let p = answers t (a .r) in
     let s = workSet Write t (a .c) (a .r) in
     let v = goodVersion p s + 1 in
-    record { refusal = 0; value = v; table = withRows t s (wroteRow (good p s) v (a .offset) (a .patch)) (usedOf t); buffer = [] }
+    leaves (write a) 0 v (withRows t s (wroteRow (good p s) v (a .offset) (a .patch)) (usedOf t))
 -- "Value: that version."
-done t (send a) = record { refusal = 0; value = versionOf t (a .f); table = withRow t (a .t) (refreshedRow (rowBytes t (a .f))); buffer = [] }
+done t (send a) = leaves (send a) 0 (versionOf t (a .f)) (withRow t (a .t) (refreshedRow (rowBytes t (a .f))))
 -- "if R equals V, nothing changes. .. Value: the epoch number in force."
 done t (check a) =
     let p = answers t (a .r) in
     let e = highestEpoch p (has (a .r)) in
     let same = eqb (a .r) (inForce p (has (a .r))) in
-    record {
-      refusal = 0;
-      value = cond same e (e + 1);
-      table = cond same t (withRows t (has (a .r)) (checkedRow (good p (has (a .r))) (goodVersion p (has (a .r))) (e + 1) (a .r)) (usedOf t));
-      buffer = [];
-    }
-
--- the read buffer that a call is lent
-unfoldable pub lent : Call → List ℕ
-lent (founding a) = []
-lent (read a) = a .buffer
-lent (write a) = []
-lent (send a) = []
-lent (check a) = []
+    leaves (check a) 0 (cond same e (e + 1))
+    (cond same t (withRows t (has (a .r)) (checkedRow (good p (has (a .r))) (goodVersion p (has (a .r))) (e + 1) (a .r)) (usedOf t)))
 
 -- "A refusal has value 0 and alters no byte of the table, of a read's buffer .."
 unfoldable pub refused : List ℕ → Call → ℕ → Outcome
-refused t k n = record { refusal = n; value = 0; table = t; buffer = lent k }
+refused t k n = leaves k n 0 t
 
 unfoldable pub outcome : List ℕ → Call → Outcome
 outcome t k = let n = firstNo (questions t k) in cond (eqb n 0) (done t k) (refused t k n)
