@@ -16,7 +16,7 @@ use Rattle.fields.specs.Layout.{usedOf, contentsOf}
 use Rattle.table.specs.Chain.{orderOf}
 use Rattle.table.specs.WellFormed.{limit}
 use Rattle.protocol.specs.Polls.{inForce, goodVersion, good, current, quorumHeld}
-use Rattle.protocol.specs.Calls.{Reading, Writing, Call, founding, read, write, send, check, firstNo, upTo, inFile, questions, done, outcome, answers, workSet}
+use Rattle.protocol.specs.Calls.{Reading, Writing, Call, founding, read, write, send, check, firstNo, before, inFile, questions, done, outcome, answers, workSet}
 use Rattle.protocol.proofs.ListLaws.{reads}
 use Rattle.protocol.proofs.PollLaws.{lowest-good}
 use Rattle.protocol.proofs.QuestionLaws.{refusal-is, when-done, yes-first, no-first, ByCoordinator, early-passed, read-yes}
@@ -73,19 +73,19 @@ module _ (t : List ℕ) (b : Book) (e : ℕ) (S : State t b e) where
       })
 
   -- however many writes were done
-  pub read-refused : (a : Reading) → firstNo (upTo 5 (questions t (read a))) ≡ 0 → outcome t (read a) .refusal ≡ verdict b Read (a .r)
-  unfolding questions upTo firstNo
+  pub read-refused : (a : Reading) → firstNo (before 6 (questions t (read a))) ≡ 0 → outcome t (read a) .refusal ≡ verdict b Read (a .r)
+  unfolding questions before firstNo
   read-refused a h =
-      let x = early-passed t (a .c) (a .r) _ 5 (omega arith) h in
+      let x = early-passed t (a .c) (a .r) _ 6 (omega arith) h in
       let d = yes-first 3 (inFile t (a .offset) (a .count)) (record { ask = 5; yes = eqb (length (a .buffer)) (a .count) } ∷ []) (x .1) in
       let f = yes-first 4 (eqb (length (a .buffer)) (a .count)) [] (d .1) in
       refusal-is t (read a) ∙ x .2 ∙ rw (d .0, f .0) (six-seven Read (a .c) (a .r) (x .0))
 
   -- ---- writes
   write-refused : (a : Writing) → RefusedRight t b (write a) Write (a .r) (outcome t (write a))
-  unfolding RefusedRight questions upTo firstNo limit
+  unfolding RefusedRight questions before firstNo limit
   write-refused a h l =
-      let x = early-passed t (a .c) (a .r) _ 5 (omega arith) h in
+      let x = early-passed t (a .c) (a .r) _ 6 (omega arith) h in
       let d = yes-first 3 (inFile t (a .offset) (length (a .patch))) [] (x .1) in
       refusal-is t (write a) ∙ x .2
       ∙ rw (d .0) (go (x .0) (quorumHeld Write (orderOf t) (answers t (a .r)) (workSet Write t (a .c) (a .r))) refl (current (answers t (a .r)) (workSet Write t (a .c) (a .r))) refl ∙ six-seven Write (a .c) (a .r) (x .0))
@@ -96,19 +96,19 @@ module _ (t : List ℕ) (b : Book) (e : ℕ) (S : State t b e) where
       go B true p false q = refl
       go B false p y q = refl
 
-  -- what passes the questions up to 7 has only 8 left
-  pub passed-seven : (a : Writing) → firstNo (upTo 7 (questions t (write a))) ≡ 0
+  -- what passes the questions before 8 has only 8 left
+  pub passed-seven : (a : Writing) → firstNo (before 8 (questions t (write a))) ≡ 0
       → ByCoordinator t (a .c) (a .r) × (quorumHeld Write (orderOf t) (answers t (a .r)) (workSet Write t (a .c) (a .r)) ≡ true) × (current (answers t (a .r)) (workSet Write t (a .c) (a .r)) ≡ true)
       × (firstNo (questions t (write a)) ≡ firstNo (record { ask = 8; yes = ltb (goodVersion (answers t (a .r)) (workSet Write t (a .c) (a .r))) limit } ∷ []))
-  unfolding questions upTo
+  unfolding questions before
   passed-seven a h =
-      let x = early-passed t (a .c) (a .r) _ 7 (omega arith) h in
+      let x = early-passed t (a .c) (a .r) _ 8 (omega arith) h in
       let d = yes-first 3 (inFile t (a .offset) (length (a .patch))) _ (x .1) in
       let q = yes-first 5 (quorumHeld Write (orderOf t) (answers t (a .r)) (workSet Write t (a .c) (a .r))) _ (d .1) in
       let m = yes-first 6 (current (answers t (a .r)) (workSet Write t (a .c) (a .r))) [] (q .1) in
       (x .0, q .0, m .0, x .2 ∙ no-first 4 _ _ (d .0) ∙ no-first 6 _ _ (q .0) ∙ no-first 7 _ _ (m .0))
 
-  pub write-full : b .writes ≡ 1_000_000 → (a : Writing) → firstNo (upTo 7 (questions t (write a))) ≡ 0 → outcome t (write a) .refusal ≡ 8
+  pub write-full : b .writes ≡ 1_000_000 → (a : Writing) → firstNo (before 8 (questions t (write a))) ≡ 0 → outcome t (write a) .refusal ≡ 8
   unfolding firstNo limit
   write-full w a h =
       let x = passed-seven a h in

@@ -21,7 +21,7 @@ use Rattle.table.specs.WellFormed.{between, limit, onlyRows}
 use Rattle.table.proofs.FormLaws.{well-formed-of}
 use Rattle.protocol.specs.Lists.{listChoice}
 use Rattle.protocol.specs.Polls.{goodVersion, current, quorumHeld}
-use Rattle.protocol.specs.Calls.{Founding, Writing, founding, write, firstNo, upTo, isUsed, inFile, byCoordinator, questions, outcome, answers, workSet, namesIn, namesRise, zeros}
+use Rattle.protocol.specs.Calls.{Founding, Writing, founding, write, firstNo, before, isUsed, inFile, byCoordinator, questions, outcome, answers, workSet, namesIn, namesRise, zeros}
 use Rattle.protocol.proofs.ListLaws.{one-holds}
 use Rattle.protocol.proofs.PollLaws.{cut-in}
 use Rattle.protocol.proofs.QuestionLaws.{refusal-is, ByCoordinator}
@@ -89,8 +89,8 @@ module _ (b : Book) (L : Lone b) where
         let u : usedOf t ≡ 1 = S .used ∙ ap length (L .names) in
         record { formed = well-formed-of t (S .formed); coordinator = omega arith; rows = rw u (omega arith); answered = refl }
 
-    seven : firstNo (upTo 7 (questions t (write again))) ≡ 0
-    unfolding again questions upTo byCoordinator firstNo isUsed between onlyRows inFile has
+    seven : firstNo (before 8 (questions t (write again))) ≡ 0
+    unfolding again questions before byCoordinator firstNo isUsed between onlyRows inFile has
     seven =
         let u : usedOf t ≡ 1 = S .used ∙ ap length (L .names) in
         let f : fileOf t ≡ 1 = sym (S .file) ∙ L .file in
@@ -118,7 +118,7 @@ first = record { names = refl; list = refl; file = refl; all = refl }
 
 -- m writes more
 many : (m : ℕ) (t : List ℕ) (b : Book) (e : ℕ) → State t b e → Lone b → b .writes + m ≤ 1_000_000
-    → let c = bookAfter t b (replicate m (write again)) in (c .writes ≡ b .writes + m) × (firstNo (upTo 7 (questions (tableAfter t (replicate m (write again))) (write again))) ≡ 0)
+    → let c = bookAfter t b (replicate m (write again)) in (c .writes ≡ b .writes + m) × (firstNo (before 8 (questions (tableAfter t (replicate m (write again))) (write again))) ≡ 0)
 unfolding again tableAfter bookAfter entered written
 many zero t b e S L h = (omega arith, seven b L t e S)
 many (suc m) t b e S L h =

@@ -14,7 +14,7 @@ use Rattle.table.specs.Chain.{orderOf}
 use Rattle.table.specs.WellFormed.{limit, onlyRows, wellFormed}
 use Rattle.table.proofs.FormLaws.{well-formed-of}
 use Rattle.protocol.specs.Polls.{highestEpoch, inForce, current, quorumHeld}
-use Rattle.protocol.specs.Calls.{Founding, Checking, Call, founding, read, write, send, check, firstNo, upTo, isUsed, byCoordinator, questions, done, outcome, answers}
+use Rattle.protocol.specs.Calls.{Founding, Checking, Call, founding, read, write, send, check, firstNo, before, isUsed, byCoordinator, questions, done, outcome, answers}
 use Rattle.protocol.proofs.QuestionLaws.{yes-first, ByCoordinator, passed-first, refusal-is, when-done, when-refused, write-yes, send-yes, CheckYes, check-yes}
 use Rattle.protocol.proofs.FoundedLaws.{founds-of}
 use Rattle.protocol.proofs.DoneLaws.{writeTable, sendTable, checkTable}
@@ -99,9 +99,9 @@ module _ (t : List ℕ) (b : Book) (e : ℕ) (S : State t b e) (a : Checking) wh
       go true q = let w = seven-check t b e S (a .c) (a .r) B q in rw (w .0, w .1)
       go false q = refl
 
-  check-right : firstNo (upTo 3 (questions t (check a))) ≡ 0
-      → firstNo (upTo 7 (questions t (check a))) ≡ cond (holdsQuorum b Write (has (a .r))) (cond (eqb (a .r) (b .inForce) || someHasAll b (has (a .r))) 0 7) 6
-  unfolding questions upTo byCoordinator firstNo
+  check-right : firstNo (before 6 (questions t (check a))) ≡ 0
+      → firstNo (before 8 (questions t (check a))) ≡ cond (holdsQuorum b Write (has (a .r))) (cond (eqb (a .r) (b .inForce) || someHasAll b (has (a .r))) 0 7) 6
+  unfolding questions before byCoordinator firstNo
   check-right h =
       let x = yes-first 0 (wellFormed t) (record { ask = 2; yes = isUsed t (a .c) && onlyRows (usedOf t) (a .r) } ∷ record { ask = 3; yes = has (a .r) (a .c) } ∷ []) h in
       let d = yes-first 1 (isUsed t (a .c) && onlyRows (usedOf t) (a .r)) (record { ask = 3; yes = has (a .r) (a .c) } ∷ []) (x .1) in
@@ -125,7 +125,7 @@ unfolding BelowTheLimit Demand3 Right RefusedRight
 below-the-limit t b (after t₀ a ks h) w k kind r x p =
     go k kind r x (last-right (outcome t₀ (founding a) .table) (opened a) ks k (demand-3 t₀ a (ks ++ (k ∷ [])) h)) p
   where
-    go : (k : Call) (kind : Kind) (r : ℕ) → Asks k kind r → Right t b k (outcome t k) → firstNo (upTo 5 (questions t k)) ≡ 0 → outcome t k .refusal ≡ verdict b kind r
+    go : (k : Call) (kind : Kind) (r : ℕ) → Asks k kind r → Right t b k (outcome t k) → firstNo (before 6 (questions t k)) ≡ 0 → outcome t k .refusal ≡ verdict b kind r
     go k kind r aRead a p = a .1 p (omega arith)
     go k kind r aWrite a p = a p (omega arith)
 
@@ -137,8 +137,8 @@ at-the-limit t b x w = let l = reached t b x in record {
   gives = right t b (l .0) (l .1);
 }
   where
-    full : (k : Call) (r e : ℕ) → State t b e → Asks k Write r → firstNo (upTo 7 (questions t k)) ≡ 0 → outcome t k .refusal ≡ 8
+    full : (k : Call) (r e : ℕ) → State t b e → Asks k Write r → firstNo (before 8 (questions t k)) ≡ 0 → outcome t k .refusal ≡ 8
     full k r e S aWrite p = write-full t b e S w _ p
 
-    same : (k : Call) (r e : ℕ) → State t b e → Asks k Read r → firstNo (upTo 5 (questions t k)) ≡ 0 → outcome t k .refusal ≡ verdict b Read r
+    same : (k : Call) (r e : ℕ) → State t b e → Asks k Read r → firstNo (before 6 (questions t k)) ≡ 0 → outcome t k .refusal ≡ verdict b Read r
     same k r e S aRead p = read-refused t b e S _ p

@@ -8,7 +8,7 @@ use Rattle.sets.specs.Sets.{has}
 use Rattle.quorums.specs.declared.Kind.{Kind}
 use Rattle.quorums.specs.declared.Kind.the-variants.{Read, Write}
 use Rattle.bytes.specs.Bytes.{part}
-use Rattle.protocol.specs.Calls.{Founding, Reading, Call, founding, read, write, send, check, Outcome, firstNo, upTo, questions, outcome}
+use Rattle.protocol.specs.Calls.{Founding, Reading, Call, founding, read, write, send, check, Outcome, firstNo, before, questions, outcome}
 use Rattle.history.specs.Book.{Book, opened, holdsQuorum, someHasAll, entered}
 
 -- "The refusals in demand 3 are by 6 where the quorum is wanting, and by 7 where it is held and no row of R has every done write."
@@ -22,7 +22,7 @@ pub record ReadGives (b : Book) (a : Reading) (o : Outcome) : Type 0 where
 
 -- "After fewer than 1,000,000 done writes, a read (write) that passes document 01's questions 1 to 5 is refused exactly when .."
 unfoldable pub RefusedRight : List ℕ → Book → Call → Kind → ℕ → Outcome → Type 0
-RefusedRight t b k kind r o = firstNo (upTo 5 (questions t k)) ≡ 0 → b .writes < 1_000_000 → o .refusal ≡ verdict b kind r
+RefusedRight t b k kind r o = firstNo (before 6 (questions t k)) ≡ 0 → b .writes < 1_000_000 → o .refusal ≡ verdict b kind r
 
 -- what is claimed of one call, made on the table t with the book b
 unfoldable pub Right : List ℕ → Book → Call → Outcome → Type 0

@@ -7,7 +7,7 @@ use native.Mathlib.Omega.{arith}
 use lib.Dec.{eqb, leb, ltb, eqb·suc-zero}
 use lib.ListN.{length}
 use lib.Pow.{high, low}
-use borrow.Author.Tests.{eqb-false, eq-eqb, ltb-true, leb-true, le-leb, not-true}
+use borrow.Author.Tests.{eqb-false, eq-eqb, ne-eqb, ltb-true, leb-true, not-true}
 use Rattle.sets.specs.Upto.{Within}
 use Rattle.sets.specs.Sets.{has}
 use Rattle.bools.proofs.BoolLaws.{and-l, and-r}
@@ -105,19 +105,19 @@ module _ (t : List ℕ) (c r : ℕ) (qs : List Calls.Question) where
         λ rs. no-first 1 (wellFormed t) _ (a .0) ∙ no-first 2 (Calls.isUsed t c && onlyRows (usedOf t) r) _ (b .0) ∙ no-first 3 (has r c) rs (d .0),
       )
 
-  -- the first n of them, 1 to 3 included
-  early-is : (n : ℕ) → 3 ≤ n → Calls.upTo n (Calls.byCoordinator t c r qs) ≡ Calls.byCoordinator t c r (Calls.upTo n qs)
-  unfolding Calls.byCoordinator Calls.upTo
-  early-is n h = rw (le-leb 1 n (omega arith), le-leb 2 n (omega arith), le-leb 3 n h)
+  -- 1 to 3 come before any other
+  early-is : (n : ℕ) → 3 < n → Calls.before n (Calls.byCoordinator t c r qs) ≡ Calls.byCoordinator t c r (Calls.before n qs)
+  unfolding Calls.byCoordinator Calls.before
+  early-is n h = rw (ne-eqb 1 n (λ e. omega arith), ne-eqb 2 n (λ e. omega arith), ne-eqb 3 n (λ e. omega arith))
 
   -- rows that answered are used rows
   pub answered-used : ByCoordinator t c r → (i : ℕ) → has r i ≡ true → Within (usedOf t) i
   answered-used b i m = has-within (usedOf t) r i (b .rows) m
 
--- what passes the questions up to n, and then meets those after
-pub early-passed : (t : List ℕ) (c r : ℕ) (qs : List Calls.Question) (n : ℕ) → 3 ≤ n → Calls.firstNo (Calls.upTo n (Calls.byCoordinator t c r qs)) ≡ 0
-    → ByCoordinator t c r × (Calls.firstNo (Calls.upTo n qs) ≡ 0) × (Calls.firstNo (Calls.byCoordinator t c r qs) ≡ Calls.firstNo qs)
-early-passed t c r qs n l h = let a = passed-first t c r (Calls.upTo n qs) (rw (early-is t c r qs n l) at h) in (a .0, a .1, a .2 qs)
+-- what passes the questions before n, and then meets the others
+pub early-passed : (t : List ℕ) (c r : ℕ) (qs : List Calls.Question) (n : ℕ) → 3 < n → Calls.firstNo (Calls.before n (Calls.byCoordinator t c r qs)) ≡ 0
+    → ByCoordinator t c r × (Calls.firstNo (Calls.before n qs) ≡ 0) × (Calls.firstNo (Calls.byCoordinator t c r qs) ≡ Calls.firstNo qs)
+early-passed t c r qs n l h = let a = passed-first t c r (Calls.before n qs) (rw (early-is t c r qs n l) at h) in (a .0, a .1, a .2 qs)
 
 pub record ReadYes (t : List ℕ) (a : Calls.Reading) : Type 0 where
   pub first : ByCoordinator t (a .c) (a .r)

@@ -90,10 +90,10 @@ unfoldable pub firstNo : List Question → ℕ
 firstNo [] = 0
 firstNo (q ∷ qs) = cond (q .yes) (firstNo qs) (q .ask)
 
--- the questions up to number n
-unfoldable pub upTo : ℕ → List Question → List Question
-upTo n [] = []
-upTo n (q ∷ qs) = cond (leb (q .ask) n) (q ∷ upTo n qs) (upTo n qs)
+-- the questions asked before number n
+unfoldable pub before : ℕ → List Question → List Question
+before n [] = []
+before n (q ∷ qs) = cond (eqb (q .ask) n) [] (q ∷ before n qs)
 
 -- i is a used row
 unfoldable pub isUsed : List ℕ → ℕ → Bool
