@@ -62,7 +62,7 @@ fn examine(t: &[u8], answering: RowSet) -> Verdict
 // An epoch check: the rows that answered become the list of a new epoch, unless they are the list in force.
 // Value: the epoch number in force.
 pub fn check(t: &mut [u8], c: usize, r: u64) -> u64
-    ensures { λ x. ⌜ (x ≡ resultOf (outcome (now (t .entry)) (check c r))) × (now (t .exit) ≡ outcome (now (t .entry)) (check c r) .table) ⌝ }
+    ensures { λ x. ⌜ (let o = outcome (now (t .entry)) (check (record { c = c; r = r })) in (x ≡ resultOf o) × (now (t .exit) ≡ o .table)) ⌝ }
 {
     let answering = RowSet { bits: r };
     let no = coordinator_asked(t, c, answering);

@@ -12,7 +12,7 @@ pub extern "C" fn grid_interface() -> u64
 
 #[no_mangle]
 pub extern "C" fn grid_found(table: &mut [u8], capacity: u64, file: u64, names: &[u8]) -> u64
-    ensures { λ r. ⌜ (r ≡ resultOf (outcome (now (table .entry)) (founding capacity file (now (names .entry))))) × (now (table .exit) ≡ outcome (now (table .entry)) (founding capacity file (now (names .entry))) .table) ⌝ }
+    ensures { λ r. ⌜ (let o = outcome (now (table .entry)) (founding (record { capacity = capacity; fileLength = file; names = now (names .entry) })) in (r ≡ resultOf o) × (now (table .exit) ≡ o .table)) ⌝ }
 {
     founding::found(table, capacity as usize, file as usize, names)
 }
@@ -26,7 +26,7 @@ pub extern "C" fn grid_read(
     length: u64,
     buffer: &mut [u8],
 ) -> u64
-    ensures { λ r. ⌜ (r ≡ resultOf (outcome (now (table .entry)) (read coordinator answering offset length (now (buffer .entry))))) × (now (table .entry) ≡ outcome (now (table .entry)) (read coordinator answering offset length (now (buffer .entry))) .table) × (now (buffer .exit) ≡ outcome (now (table .entry)) (read coordinator answering offset length (now (buffer .entry))) .buffer) ⌝ }
+    ensures { λ r. ⌜ (let o = outcome (now (table .entry)) (read (record { c = coordinator; r = answering; offset = offset; count = length; buffer = now (buffer .entry) })) in (r ≡ resultOf o) × (now (table .entry) ≡ o .table) × (now (buffer .exit) ≡ o .buffer)) ⌝ }
 {
     let reader = coordinator as usize;
     let from = offset as usize;
@@ -41,7 +41,7 @@ pub extern "C" fn grid_write(
     offset: u64,
     patch: &[u8],
 ) -> u64
-    ensures { λ r. ⌜ (r ≡ resultOf (outcome (now (table .entry)) (write coordinator answering offset (now (patch .entry))))) × (now (table .exit) ≡ outcome (now (table .entry)) (write coordinator answering offset (now (patch .entry))) .table) ⌝ }
+    ensures { λ r. ⌜ (let o = outcome (now (table .entry)) (write (record { c = coordinator; r = answering; offset = offset; patch = now (patch .entry) })) in (r ≡ resultOf o) × (now (table .exit) ≡ o .table)) ⌝ }
 {
     let writer = coordinator as usize;
     let to = offset as usize;
@@ -50,14 +50,14 @@ pub extern "C" fn grid_write(
 
 #[no_mangle]
 pub extern "C" fn grid_send(table: &mut [u8], from: u64, to: u64, answering: u64) -> u64
-    ensures { λ r. ⌜ (r ≡ resultOf (outcome (now (table .entry)) (send from to answering))) × (now (table .exit) ≡ outcome (now (table .entry)) (send from to answering) .table) ⌝ }
+    ensures { λ r. ⌜ (let o = outcome (now (table .entry)) (send (record { f = from; t = to; r = answering })) in (r ≡ resultOf o) × (now (table .exit) ≡ o .table)) ⌝ }
 {
     sends::send(table, from as usize, to as usize, answering)
 }
 
 #[no_mangle]
 pub extern "C" fn grid_check(table: &mut [u8], coordinator: u64, answering: u64) -> u64
-    ensures { λ r. ⌜ (r ≡ resultOf (outcome (now (table .entry)) (check coordinator answering))) × (now (table .exit) ≡ outcome (now (table .entry)) (check coordinator answering) .table) ⌝ }
+    ensures { λ r. ⌜ (let o = outcome (now (table .entry)) (check (record { c = coordinator; r = answering })) in (r ≡ resultOf o) × (now (table .exit) ≡ o .table)) ⌝ }
 {
     checks::check(table, coordinator as usize, answering)
 }

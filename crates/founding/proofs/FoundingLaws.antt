@@ -11,7 +11,7 @@ use borrow.Author.Tests.{le-leb, eqb-true}
 use Rattle.sets.specs.Upto.{Within}
 use Rattle.bools.proofs.BoolLaws.{and-l, and-r, and-assoc}
 use Rattle.table.specs.WellFormed.{between}
-use Rattle.protocol.specs.Calls.{Outcome, founding, firstNo, questions, namesIn, namesRise, founded, done, outcome, resultOf}
+use Rattle.protocol.specs.Calls.{Founding, Outcome, founding, firstNo, questions, namesIn, namesRise, founded, done, outcome, resultOf}
 use Rattle.protocol.proofs.QuestionLaws.{refusal-is, when-done}
 use Rattle.protocol.proofs.FoundedLaws.{founds-of}
 use Rattle.laying.proofs.NameLaws.{names-even}
@@ -36,38 +36,38 @@ module _ (names : List ℕ) (k low : ℕ) (ok : Bool) (so-far : (ok && namesRise
       sym (and-true ok) ∙ ap (λ (xs : List ℕ). ok && namesRise low xs) (sym z) ∙ so-far
 
 -- ---- the two questions
-module _ (t : List ℕ) (capacity file : ℕ) (names : List ℕ) where
+module _ (t : List ℕ) (a : Founding) where
   abbrev pub NamesRight : Bool
-  NamesRight = eqb (length names % 2) 0 && between 1 (length (namesIn names)) 64 && namesRise 0 (namesIn names)
+  NamesRight = eqb (length (a .names) % 2) 0 && between 1 (length (namesIn (a .names))) 64 && namesRise 0 (namesIn (a .names))
 
   abbrev pub SizesRight : Bool
-  SizesRight = between 1 capacity 64 && leb (length (namesIn names)) capacity && between 1 file 4_096 && eqb (length t) (16 + capacity * (32 + file))
+  SizesRight = between 1 (a .capacity) 64 && leb (length (namesIn (a .names))) (a .capacity) && between 1 (a .fileLength) 4_096 && eqb (length t) (16 + a .capacity * (32 + a .fileLength))
 
-  pub found-answers : (x y : Bool) → NamesRight ≡ x → SizesRight ≡ y → cond x (cond y 0 12) 11 ≡ firstNo (questions t (founding capacity file names))
+  pub found-answers : (x y : Bool) → NamesRight ≡ x → SizesRight ≡ y → cond x (cond y 0 12) 11 ≡ firstNo (questions t (founding a))
   unfolding questions firstNo
   found-answers x y ex ey = rw (ex, ey) refl
 
   -- as many bytes as two for each name
-  pub two-each : NamesRight ≡ true → length names ≡ 2 * length (namesIn names)
-  two-each h = names-even names (eqb-true (length names % 2) 0 (and-l _ _ (and-l (eqb (length names % 2) 0 && between 1 (length (namesIn names)) 64) _ h)))
+  pub two-each : NamesRight ≡ true → length (a .names) ≡ 2 * length (namesIn (a .names))
+  two-each h = names-even (a .names) (eqb-true (length (a .names) % 2) 0 (and-l _ _ (and-l (eqb (length (a .names) % 2) 0 && between 1 (length (namesIn (a .names))) 64) _ h)))
 
   module _ (eleven : NamesRight ≡ true) (twelve : SizesRight ≡ true) where
-    all-yes : firstNo (questions t (founding capacity file names)) ≡ 0
+    all-yes : firstNo (questions t (founding a)) ≡ 0
     all-yes = sym (found-answers true true eleven twelve)
 
-    pub found-fits : (length t ≡ 16 + capacity * (32 + file)) × Within 4_096 file × (capacity ≤ 64) × (length names ≡ 2 * length (namesIn names)) × Within capacity (length (namesIn names))
+    pub found-fits : (length t ≡ 16 + a .capacity * (32 + a .fileLength)) × Within 4_096 (a .fileLength) × (a .capacity ≤ 64) × (length (a .names) ≡ 2 * length (namesIn (a .names))) × Within (a .capacity) (length (namesIn (a .names)))
     found-fits =
-        let f = founds-of t capacity file names all-yes in (
-          eqb-true (length t) (16 + capacity * (32 + file)) (and-r (between 1 capacity 64 && leb (length (namesIn names)) capacity && between 1 file 4_096) _ twelve),
+        let f = founds-of t a all-yes in (
+          eqb-true (length t) (16 + a .capacity * (32 + a .fileLength)) (and-r (between 1 (a .capacity) 64 && leb (length (namesIn (a .names))) (a .capacity) && between 1 (a .fileLength) 4_096) _ twelve),
           f .bytes,
           f .most,
           two-each eleven,
           (f .some, f .room),
         )
 
-    pub found-done : (0 * 2 ^ 32 + length (namesIn names) ≡ resultOf (outcome t (founding capacity file names)))
-        × (founded capacity file (namesIn names) ≡ outcome t (founding capacity file names) .table)
+    pub found-done : (0 * 2 ^ 32 + length (namesIn (a .names)) ≡ resultOf (outcome t (founding a)))
+        × (founded (a .capacity) (a .fileLength) (namesIn (a .names)) ≡ outcome t (founding a) .table)
     unfolding done resultOf
     found-done =
-        let o = when-done t (founding capacity file names) (refusal-is t (founding capacity file names) ∙ all-yes) in
+        let o = when-done t (founding a) (refusal-is t (founding a) ∙ all-yes) in
         (sym (ap resultOf o), sym (ap (λ (x : Outcome). x .table) o))

@@ -54,7 +54,7 @@ fn sizes_right(bytes: usize, capacity: usize, file: usize, n: usize) -> bool
 
 // A founding: a table of so many rows for a file of so many bytes, with the named machines in it. Value: how many.
 pub fn found(t: &mut [u8], capacity: usize, file: usize, names: &[u8]) -> u64
-    ensures { λ x. ⌜ (x ≡ resultOf (outcome (now (t .entry)) (founding capacity file (now (names .entry))))) × (now (t .exit) ≡ outcome (now (t .entry)) (founding capacity file (now (names .entry))) .table) ⌝ }
+    ensures { λ x. ⌜ (let o = outcome (now (t .entry)) (founding (record { capacity = capacity; fileLength = file; names = now (names .entry) })) in (x ≡ resultOf o) × (now (t .exit) ≡ o .table)) ⌝ }
 {
     if !names_right(names) {
         return result(11, 0);

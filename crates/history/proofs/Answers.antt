@@ -16,7 +16,7 @@ use Rattle.fields.specs.Layout.{usedOf, contentsOf}
 use Rattle.table.specs.Chain.{orderOf}
 use Rattle.table.specs.WellFormed.{limit}
 use Rattle.protocol.specs.Polls.{inForce, goodVersion, good, current, quorumHeld}
-use Rattle.protocol.specs.Calls.{Call, founding, read, write, send, check, firstNo, upTo, inFile, questions, done, outcome, answers, workSet}
+use Rattle.protocol.specs.Calls.{Reading, Writing, Call, founding, read, write, send, check, firstNo, before, inFile, questions, done, outcome, answers, workSet}
 use Rattle.protocol.proofs.ListLaws.{reads}
 use Rattle.protocol.proofs.PollLaws.{lowest-good}
 use Rattle.protocol.proofs.QuestionLaws.{refusal-is, when-done, yes-first, no-first, ByCoordinator, early-passed, read-yes}
@@ -63,65 +63,62 @@ module _ (t : List ℕ) (b : Book) (e : ℕ) (S : State t b e) where
       go false q = refl
 
   -- ---- reads
-  read-gives : (c r offset count : ℕ) (buffer : List ℕ) → outcome t (read c r offset count buffer) .refusal ≡ 0
-      → ReadGives b offset count (outcome t (read c r offset count buffer))
+  read-gives : (a : Reading) → outcome t (read a) .refusal ≡ 0 → ReadGives b a (outcome t (read a))
   unfolding done
-  read-gives c r offset count buffer h =
-      let y = read-yes t c r offset count buffer (sym (refusal-is t (read c r offset count buffer)) ∙ h) in
-      rw (when-done t (read c r offset count buffer) h) (record {
-        value = version-now Read c r (y .first) (y .quorum) (y .current);
-        bytes = ap (part offset count) (contents-now Read c r (y .first) (y .quorum) (y .current));
+  read-gives a h =
+      let y = read-yes t a (sym (refusal-is t (read a)) ∙ h) in
+      rw (when-done t (read a) h) (record {
+        value = version-now Read (a .c) (a .r) (y .first) (y .quorum) (y .current);
+        bytes = ap (part (a .offset) (a .count)) (contents-now Read (a .c) (a .r) (y .first) (y .quorum) (y .current));
       })
 
   -- however many writes were done
-  pub read-refused : (c r offset count : ℕ) (buffer : List ℕ) → firstNo (upTo 5 (questions t (read c r offset count buffer))) ≡ 0
-      → outcome t (read c r offset count buffer) .refusal ≡ verdict b Read r
-  unfolding questions upTo firstNo
-  read-refused c r offset count buffer h =
-      let a = early-passed t c r _ 5 (omega arith) h in
-      let d = yes-first 3 (inFile t offset count) (record { ask = 5; yes = eqb (length buffer) count } ∷ []) (a .1) in
-      let f = yes-first 4 (eqb (length buffer) count) [] (d .1) in
-      refusal-is t (read c r offset count buffer) ∙ a .2 ∙ rw (d .0, f .0) (six-seven Read c r (a .0))
+  pub read-refused : (a : Reading) → firstNo (before 6 (questions t (read a))) ≡ 0 → outcome t (read a) .refusal ≡ verdict b Read (a .r)
+  unfolding questions before firstNo
+  read-refused a h =
+      let x = early-passed t (a .c) (a .r) _ 6 (omega arith) h in
+      let d = yes-first 3 (inFile t (a .offset) (a .count)) (record { ask = 5; yes = eqb (length (a .buffer)) (a .count) } ∷ []) (x .1) in
+      let f = yes-first 4 (eqb (length (a .buffer)) (a .count)) [] (d .1) in
+      refusal-is t (read a) ∙ x .2 ∙ rw (d .0, f .0) (six-seven Read (a .c) (a .r) (x .0))
 
   -- ---- writes
-  write-refused : (c r offset : ℕ) (patch : List ℕ) → RefusedRight t b (write c r offset patch) Write r (outcome t (write c r offset patch))
-  unfolding RefusedRight questions upTo firstNo limit
-  write-refused c r offset patch h l =
-      let a = early-passed t c r _ 5 (omega arith) h in
-      let d = yes-first 3 (inFile t offset (length patch)) [] (a .1) in
-      refusal-is t (write c r offset patch) ∙ a .2
-      ∙ rw (d .0) (go (a .0) (quorumHeld Write (orderOf t) (answers t r) (workSet Write t c r)) refl (current (answers t r) (workSet Write t c r)) refl ∙ six-seven Write c r (a .0))
+  write-refused : (a : Writing) → RefusedRight t b (write a) Write (a .r) (outcome t (write a))
+  unfolding RefusedRight questions before firstNo limit
+  write-refused a h l =
+      let x = early-passed t (a .c) (a .r) _ 6 (omega arith) h in
+      let d = yes-first 3 (inFile t (a .offset) (length (a .patch))) [] (x .1) in
+      refusal-is t (write a) ∙ x .2
+      ∙ rw (d .0) (go (x .0) (quorumHeld Write (orderOf t) (answers t (a .r)) (workSet Write t (a .c) (a .r))) refl (current (answers t (a .r)) (workSet Write t (a .c) (a .r))) refl ∙ six-seven Write (a .c) (a .r) (x .0))
     where
-      go : ByCoordinator t c r → (x : Bool) → quorumHeld Write (orderOf t) (answers t r) (workSet Write t c r) ≡ x → (y : Bool) → current (answers t r) (workSet Write t c r) ≡ y
-          → _≡_ {A = ℕ} (cond x (cond y (cond (ltb (goodVersion (answers t r) (workSet Write t c r)) limit) 0 8) 7) 6) (cond x (cond y 0 7) 6)
-      go B true p true q = rw (lt-ltb (goodVersion (answers t r) (workSet Write t c r)) limit (omega (arith, version-now Write c r B p q)))
+      go : ByCoordinator t (a .c) (a .r) → (x : Bool) → quorumHeld Write (orderOf t) (answers t (a .r)) (workSet Write t (a .c) (a .r)) ≡ x → (y : Bool) → current (answers t (a .r)) (workSet Write t (a .c) (a .r)) ≡ y
+          → _≡_ {A = ℕ} (cond x (cond y (cond (ltb (goodVersion (answers t (a .r)) (workSet Write t (a .c) (a .r))) limit) 0 8) 7) 6) (cond x (cond y 0 7) 6)
+      go B true p true q = rw (lt-ltb (goodVersion (answers t (a .r)) (workSet Write t (a .c) (a .r))) limit (omega (arith, version-now Write (a .c) (a .r) B p q)))
       go B true p false q = refl
       go B false p y q = refl
 
-  -- what passes the questions up to 7 has only 8 left
-  pub passed-seven : (c r offset : ℕ) (patch : List ℕ) → firstNo (upTo 7 (questions t (write c r offset patch))) ≡ 0
-      → ByCoordinator t c r × (quorumHeld Write (orderOf t) (answers t r) (workSet Write t c r) ≡ true) × (current (answers t r) (workSet Write t c r) ≡ true)
-      × (firstNo (questions t (write c r offset patch)) ≡ firstNo (record { ask = 8; yes = ltb (goodVersion (answers t r) (workSet Write t c r)) limit } ∷ []))
-  unfolding questions upTo
-  passed-seven c r offset patch h =
-      let a = early-passed t c r _ 7 (omega arith) h in
-      let d = yes-first 3 (inFile t offset (length patch)) _ (a .1) in
-      let q = yes-first 5 (quorumHeld Write (orderOf t) (answers t r) (workSet Write t c r)) _ (d .1) in
-      let m = yes-first 6 (current (answers t r) (workSet Write t c r)) [] (q .1) in
-      (a .0, q .0, m .0, a .2 ∙ no-first 4 _ _ (d .0) ∙ no-first 6 _ _ (q .0) ∙ no-first 7 _ _ (m .0))
+  -- what passes the questions before 8 has only 8 left
+  pub passed-seven : (a : Writing) → firstNo (before 8 (questions t (write a))) ≡ 0
+      → ByCoordinator t (a .c) (a .r) × (quorumHeld Write (orderOf t) (answers t (a .r)) (workSet Write t (a .c) (a .r)) ≡ true) × (current (answers t (a .r)) (workSet Write t (a .c) (a .r)) ≡ true)
+      × (firstNo (questions t (write a)) ≡ firstNo (record { ask = 8; yes = ltb (goodVersion (answers t (a .r)) (workSet Write t (a .c) (a .r))) limit } ∷ []))
+  unfolding questions before
+  passed-seven a h =
+      let x = early-passed t (a .c) (a .r) _ 8 (omega arith) h in
+      let d = yes-first 3 (inFile t (a .offset) (length (a .patch))) _ (x .1) in
+      let q = yes-first 5 (quorumHeld Write (orderOf t) (answers t (a .r)) (workSet Write t (a .c) (a .r))) _ (d .1) in
+      let m = yes-first 6 (current (answers t (a .r)) (workSet Write t (a .c) (a .r))) [] (q .1) in
+      (x .0, q .0, m .0, x .2 ∙ no-first 4 _ _ (d .0) ∙ no-first 6 _ _ (q .0) ∙ no-first 7 _ _ (m .0))
 
-  pub write-full : b .writes ≡ 1_000_000 → (c r offset : ℕ) (patch : List ℕ) → firstNo (upTo 7 (questions t (write c r offset patch))) ≡ 0
-      → outcome t (write c r offset patch) .refusal ≡ 8
+  pub write-full : b .writes ≡ 1_000_000 → (a : Writing) → firstNo (before 8 (questions t (write a))) ≡ 0 → outcome t (write a) .refusal ≡ 8
   unfolding firstNo limit
-  write-full w c r offset patch h =
-      let a = passed-seven c r offset patch h in
-      let none : limit ≤ goodVersion (answers t r) (workSet Write t c r) = omega (arith, version-now Write c r (a .0) (a .1) (a .2)) in
-      refusal-is t (write c r offset patch) ∙ a .3 ∙ rw (le-ltb (goodVersion (answers t r) (workSet Write t c r)) limit none)
+  write-full w a h =
+      let x = passed-seven a h in
+      let none : limit ≤ goodVersion (answers t (a .r)) (workSet Write t (a .c) (a .r)) = omega (arith, version-now Write (a .c) (a .r) (x .0) (x .1) (x .2)) in
+      refusal-is t (write a) ∙ x .3 ∙ rw (le-ltb (goodVersion (answers t (a .r)) (workSet Write t (a .c) (a .r))) limit none)
 
   pub right : (k : Call) → Right t b k (outcome t k)
   unfolding Right RefusedRight
-  right (founding capacity file names) = tt
-  right (read c r offset count buffer) = (read-gives c r offset count buffer, λ h l. read-refused c r offset count buffer h)
-  right (write c r offset patch) = write-refused c r offset patch
-  right (send f to r) = tt
-  right (check c r) = tt
+  right (founding a) = tt
+  right (read a) = (read-gives a, λ h l. read-refused a h)
+  right (write a) = write-refused a
+  right (send a) = tt
+  right (check a) = tt

@@ -14,42 +14,42 @@ use Rattle.sets.proofs.SetLaws.{has-within}
 use Rattle.quorums.specs.declared.Kind.the-variants.{Read}
 use Rattle.fields.specs.Layout.{get, mark, version, epoch, members, contents, epochOf, membersOf, staleOf, versionOf, contentsOf}
 use Rattle.protocol.specs.Polls.{polled}
-use Rattle.protocol.specs.Calls.{zeros, founded}
+use Rattle.protocol.specs.Calls.{Founding, namesIn, zeros, founded}
 use Rattle.protocol.proofs.ListLaws.{inhabited}
 use Rattle.protocol.proofs.FoundedLaws.{Founds, founded-used, founded-file, founded-name, founded-order, founded-formed, at-row, row-members, zero-mark, zero-version, zero-epoch, row-contents}
 use Rattle.history.specs.Book.{order, nameIn, opened}
 use Rattle.history.proofs.Invariant.{aim, Inv}
 use Rattle.history.proofs.State.{whole, State}
 
-module _ (c file : ℕ) (names : List ℕ) (f : Founds c file names) where
-  t : List ℕ
-  t = founded c file names
+module _ (a : Founding) (f : Founds a) where
+  abbrev names : List ℕ
+  names = namesIn (a .names)
 
-  n : ℕ
-  n = length names
+  t : List ℕ
+  t = founded (a .capacity) (a .fileLength) names
 
   -- each row: epoch, version and desired version 0, no mark, all rows its list, zero bytes
   epoch-zero : (i : ℕ) → Within (length names) i → epochOf t i ≡ 0
   unfolding epochOf t
-  epoch-zero = at-row c file names f (λ i r. get epoch r ≡ 0) (zero-epoch c file names f)
+  epoch-zero = at-row a f (λ i r. get epoch r ≡ 0) (zero-epoch a f)
 
   members-all : (i : ℕ) → Within (length names) i → membersOf t i ≡ 2 ^ length names - 1
   unfolding membersOf t
-  members-all = at-row c file names f (λ i r. get members r ≡ 2 ^ length names - 1) (row-members c file names f)
+  members-all = at-row a f (λ i r. get members r ≡ 2 ^ length names - 1) (row-members a f)
 
   version-zero : (i : ℕ) → Within (length names) i → versionOf t i ≡ 0
   unfolding versionOf t
-  version-zero = at-row c file names f (λ i r. get version r ≡ 0) (zero-version c file names f)
+  version-zero = at-row a f (λ i r. get version r ≡ 0) (zero-version a f)
 
   no-mark : (i : ℕ) → Within (length names) i → staleOf t i ≡ false
   unfolding staleOf t
-  no-mark = at-row c file names f (λ i r. eqb (get mark r) 1 ≡ false) (λ i x w h. ap (λ (m : ℕ). eqb m 1) (zero-mark c file names f i x w h))
+  no-mark = at-row a f (λ i r. eqb (get mark r) 1 ≡ false) (λ i x w h. ap (λ (m : ℕ). eqb m 1) (zero-mark a f i x w h))
 
-  zero-contents : (i : ℕ) → Within (length names) i → contentsOf t i ≡ zeros file
+  zero-contents : (i : ℕ) → Within (length names) i → contentsOf t i ≡ zeros (a .fileLength)
   unfolding contentsOf t
-  zero-contents = at-row c file names f (λ i r. contents r ≡ zeros file) (row-contents c file names f)
+  zero-contents = at-row a f (λ i r. contents r ≡ zeros (a .fileLength)) (row-contents a f)
 
-  start : Inv (length names) (whole t) (contentsOf t) (opened file names) 0
+  start : Inv (length names) (whole t) (contentsOf t) (opened a) 0
   unfolding opened aim whole polled order
   start = record {
     epochs = record {
@@ -72,13 +72,13 @@ module _ (c file : ℕ) (names : List ℕ) (f : Founds c file names) where
         (w .0, u, w .2, rw (no-mark (w .0) u) (version-zero (w .0) u));
   }
 
-  pub founded-state : State (founded c file names) (opened file names) 0
+  pub founded-state : State (founded (a .capacity) (a .fileLength) (namesIn (a .names))) (opened a) 0
   unfolding opened order nameIn t zeros
   founded-state = record {
-    formed = founded-formed c file names f;
-    used = founded-used c file names f;
-    chain = founded-order c file names f;
-    names = rw (founded-used c file names f) (founded-name c file names f);
-    file = length-replicate {A = ℕ} file 0 ∙ sym (founded-file c file names f);
-    inv = rw (founded-used c file names f) start;
+    formed = founded-formed a f;
+    used = founded-used a f;
+    chain = founded-order a f;
+    names = rw (founded-used a f) (founded-name a f);
+    file = length-replicate {A = ℕ} (a .fileLength) 0 ∙ sym (founded-file a f);
+    inv = rw (founded-used a f) start;
   }

@@ -15,7 +15,7 @@ use Rattle.table.specs.WellFormed.{limit}
 use Rattle.bytes.proofs.ByteLaws.{length-put}
 use Rattle.table.proofs.FormLaws.{Formed}
 use Rattle.protocol.specs.Polls.{polled, highestEpoch, inForce, goodVersion, good, current}
-use Rattle.protocol.specs.Calls.{answers, workSet}
+use Rattle.protocol.specs.Calls.{Writing, Sending, Checking, answers, workSet}
 use Rattle.protocol.proofs.RowLaws.{fieldAt, fieldsOf, changed}
 use Rattle.protocol.proofs.FrameLaws.{Frame, same-used, same-file, same-order}
 use Rattle.protocol.proofs.QuestionLaws.{WriteYes, SendYes, CheckYes}
@@ -61,78 +61,78 @@ framed {t} {u} {b} {b′} {e} {e′} S f w n l I = record {
 }
 
 -- ---- a done write
-module _ (t : List ℕ) (b : Book) (e : ℕ) (S : State t b e) (c r offset : ℕ) (patch : List ℕ) (y : WriteYes t c r offset patch) where
+module _ (t : List ℕ) (b : Book) (e : ℕ) (S : State t b e) (a : Writing) (y : WriteYes t a) where
   u : List ℕ
-  u = writeTable t c r offset patch y
+  u = writeTable t a y
 
   s : ℕ → Bool
-  s = workSet Write t c r
+  s = workSet Write t (a .c) (a .r)
 
-  sub : (i : ℕ) → s i ≡ true → has r i ≡ true
+  sub : (i : ℕ) → s i ≡ true → has (a .r) i ≡ true
   unfolding s
-  sub = work-sub t b e S r Write c (y .first)
+  sub = work-sub t b e S (a .r) Write (a .c) (y .first)
 
-  good-is : good (whole t) s ≡ good (answers t r) s
+  good-is : good (whole t) s ≡ good (answers t (a .r)) s
   unfolding s
-  good-is = sym (good-whole t b e S r s sub)
+  good-is = sym (good-whole t b e S (a .r) s sub)
 
-  version-is : goodVersion (whole t) s ≡ goodVersion (answers t r) s
+  version-is : goodVersion (whole t) s ≡ goodVersion (answers t (a .r)) s
   unfolding s
-  version-is = sym (version-whole t b e S r s sub)
+  version-is = sym (version-whole t b e S (a .r) s sub)
 
-  wrote : Wrote (usedOf t) (whole t) (contentsOf t) b e (few t b e S r) (S .inv) (whole u) (contentsOf u) s (goodVersion (whole t) s + 1) offset patch
+  wrote : Wrote (usedOf t) (whole t) (contentsOf t) b e (few t b e S (a .r)) (S .inv) (whole u) (contentsOf u) s (goodVersion (whole t) s + 1) (a .offset) (a .patch)
   unfolding u s whole polled changed fieldsOf fieldAt staleOf versionOf desiredOf contentsOf
   wrote = record {
-    epoch = λ i v. write-membership t c r offset patch y i v .0;
-    members = λ i v. write-membership t c r offset patch y i v .1;
-    out = λ i v m. stays-of t u i (write-leaves t c r offset patch y .out i v m);
-    taken = rw (good-is, version-is) (λ i v m g. is-of t u i (write-taken t c r offset patch y i v m g));
-    marked = rw (good-is, version-is) (λ i v m g. is-of t u i (write-marked t c r offset patch y i v m g));
+    epoch = λ i v. write-membership t a y i v .0;
+    members = λ i v. write-membership t a y i v .1;
+    out = λ i v m. stays-of t u i (write-leaves t a y .out i v m);
+    taken = rw (good-is, version-is) (λ i v m g. is-of t u i (write-taken t a y i v m g));
+    marked = rw (good-is, version-is) (λ i v m g. is-of t u i (write-marked t a y i v m g));
   }
 
-  pub next-write : State (writeTable t c r offset patch y) (written b (writeSet b c r) offset patch) e
+  pub next-write : State (writeTable t a y) (written b (writeSet b (a .c) (a .r)) (a .offset) (a .patch)) e
   unfolding u s written
-  next-write = framed S (write-leaves t c r offset patch y .frame) (write-formed t c r offset patch y) refl (length-put (b .file) offset patch (omega (arith, S .file, y .range)))
-      (subst (λ (x : ℕ → Bool). Inv (usedOf t) (whole u) (contentsOf u) (written b x offset patch) e) set
-      (keep-write (usedOf t) (whole t) (contentsOf t) b e (few t b e S r) (S .inv) (whole u) (contentsOf u) s offset patch
-      (work-used t b e S r Write c (y .first)) (work-quorum t b e S r Write c (y .first) (y .quorum)) (current-all t b e S Write c r (y .first) (y .quorum) (y .current)) wrote))
+  next-write = framed S (write-leaves t a y .frame) (write-formed t a y) refl (length-put (b .file) (a .offset) (a .patch) (omega (arith, S .file, y .range)))
+      (subst (λ (x : ℕ → Bool). Inv (usedOf t) (whole u) (contentsOf u) (written b x (a .offset) (a .patch)) e) set
+      (keep-write (usedOf t) (whole t) (contentsOf t) b e (few t b e S (a .r)) (S .inv) (whole u) (contentsOf u) s (a .offset) (a .patch)
+      (work-used t b e S (a .r) Write (a .c) (y .first)) (work-quorum t b e S (a .r) Write (a .c) (y .first) (y .quorum)) (current-all t b e S Write (a .c) (a .r) (y .first) (y .quorum) (y .current)) wrote))
     where
-      set : workSet Write t c r ≡ writeSet b c r
-      set = work-is t b e S r Write c (y .first)
-          ∙ set-is (usedOf t) (whole t) (contentsOf t) b e (few t b e S r) (S .inv) c r (y .first .coordinator) (answered t b e S r Write c (y .first))
+      set : workSet Write t (a .c) (a .r) ≡ writeSet b (a .c) (a .r)
+      set = work-is t b e S (a .r) Write (a .c) (y .first)
+          ∙ set-is (usedOf t) (whole t) (contentsOf t) b e (few t b e S (a .r)) (S .inv) (a .c) (a .r) (y .first .coordinator) (answered t b e S (a .r) Write (a .c) (y .first))
 
 -- ---- a done send
-module _ (t : List ℕ) (b : Book) (e : ℕ) (S : State t b e) (f to r : ℕ) (y : SendYes t f to r) where
+module _ (t : List ℕ) (b : Book) (e : ℕ) (S : State t b e) (a : Sending) (y : SendYes t a) where
   su : List ℕ
-  su = sendTable t f to r y
+  su = sendTable t a y
 
-  sent : Sent (usedOf t) (whole t) (contentsOf t) b e (few t b e S r) (S .inv) (whole su) (contentsOf su) f to
+  sent : Sent (usedOf t) (whole t) (contentsOf t) b e (few t b e S (a .r)) (S .inv) (whole su) (contentsOf su) (a .f) (a .t)
   unfolding su whole polled changed fieldsOf fieldAt staleOf versionOf desiredOf contentsOf
   sent = record {
-    epoch = λ i v. send-membership t f to r y i v .0;
-    members = λ i v. send-membership t f to r y i v .1;
-    out = λ i v m. stays-of t su i (send-leaves t f to r y .out i v (ne-eqb to i (λ q. eqb-false i to m (sym q))));
-    target = is-of t su to (send-target t f to r y);
+    epoch = λ i v. send-membership t a y i v .0;
+    members = λ i v. send-membership t a y i v .1;
+    out = λ i v m. stays-of t su i (send-leaves t a y .out i v (ne-eqb (a .t) i (λ q. eqb-false i (a .t) m (sym q))));
+    target = is-of t su (a .t) (send-target t a y);
   }
 
-  pub next-send : State (sendTable t f to r y) (passedOn b f to) e
+  pub next-send : State (sendTable t a y) (passedOn b (a .f) (a .t)) e
   unfolding su passedOn whole polled
-  next-send = framed S (send-leaves t f to r y .frame) (send-formed t f to r y) refl refl
-      (keep-send (usedOf t) (whole t) (contentsOf t) b e (few t b e S r) (S .inv) (whole su) (contentsOf su) f to (y .from-used) (y .to-used) (y .mark) (y .enough) sent)
+  next-send = framed S (send-leaves t a y .frame) (send-formed t a y) refl refl
+      (keep-send (usedOf t) (whole t) (contentsOf t) b e (few t b e S (a .r)) (S .inv) (whole su) (contentsOf su) (a .f) (a .t) (y .from-used) (y .to-used) (y .mark) (y .enough) sent)
 
 -- ---- a done check
-module _ (t : List ℕ) (b : Book) (e : ℕ) (S : State t b e) (c r : ℕ) (y : CheckYes t c r) where
-  all : (i : ℕ) → has r i ≡ true → has r i ≡ true
+module _ (t : List ℕ) (b : Book) (e : ℕ) (S : State t b e) (a : Checking) (y : CheckYes t a) where
+  all : (i : ℕ) → has (a .r) i ≡ true → has (a .r) i ≡ true
   all i m = m
 
-  check-quorum : holdsQuorum b Write (has r) ≡ true
-  check-quorum = sym (six-check t b e S c r (y .first)) ∙ y .quorum
+  check-quorum : holdsQuorum b Write (has (a .r)) ≡ true
+  check-quorum = sym (six-check t b e S (a .c) (a .r) (y .first)) ∙ y .quorum
 
   -- V is the list in force, and its epoch the highest
-  force-is : (highestEpoch (answers t r) (has r) ≡ e) × (inForce (answers t r) (has r) ≡ b .inForce)
-  force-is = force-check t b e S c r (y .first) check-quorum
+  force-is : (highestEpoch (answers t (a .r)) (has (a .r)) ≡ e) × (inForce (answers t (a .r)) (has (a .r)) ≡ b .inForce)
+  force-is = force-check t b e S (a .c) (a .r) (y .first) check-quorum
 
-  pub next-same : r ≡ inForce (answers t r) (has r) → State t (agreed b r) e
+  pub next-same : a .r ≡ inForce (answers t (a .r)) (has (a .r)) → State t (agreed b (a .r)) e
   unfolding agreed order nameIn
   next-same z = record {
     formed = S .formed;
@@ -140,29 +140,29 @@ module _ (t : List ℕ) (b : Book) (e : ℕ) (S : State t b e) (c r : ℕ) (y : 
     chain = S .chain;
     names = S .names;
     file = S .file;
-    inv = keep-list (usedOf t) (whole t) (contentsOf t) b e (few t b e S r) (S .inv) (whole t) (contentsOf t) r (y .first .rows) check-quorum (z ∙ force-is .1);
+    inv = keep-list (usedOf t) (whole t) (contentsOf t) b e (few t b e S (a .r)) (S .inv) (whole t) (contentsOf t) (a .r) (y .first .rows) check-quorum (z ∙ force-is .1);
   }
 
-  module _ (room : highestEpoch (answers t r) (has r) < limit) (cur : current (answers t r) (has r) ≡ true) where
+  module _ (room : highestEpoch (answers t (a .r)) (has (a .r)) < limit) (cur : current (answers t (a .r)) (has (a .r)) ≡ true) where
     cu : List ℕ
-    cu = checkTable t c r y room
+    cu = checkTable t a y room
 
-    fresh : (i : ℕ) → Within (usedOf t) i → has r i ≡ false → epochOf t i ≡ highestEpoch (answers t r) (has r) + 1 → ⊥
+    fresh : (i : ℕ) → Within (usedOf t) i → has (a .r) i ≡ false → epochOf t i ≡ highestEpoch (answers t (a .r)) (has (a .r)) + 1 → ⊥
     unfolding whole polled
     fresh i u m q = omega (arith, force-is .0, S .inv .epochs .below i u)
 
-    checked : Checked (usedOf t) (whole t) (contentsOf t) b e (few t b e S r) (S .inv) (whole cu) (contentsOf cu) r (highestEpoch (whole t) (has r) + 1)
+    checked : Checked (usedOf t) (whole t) (contentsOf t) b e (few t b e S (a .r)) (S .inv) (whole cu) (contentsOf cu) (a .r) (highestEpoch (whole t) (has (a .r)) + 1)
     unfolding cu whole polled changed fieldsOf fieldAt staleOf versionOf desiredOf contentsOf
     checked = record {
-      epoch = rw (sym (epoch-whole t b e S r (has r) all)) (λ i v. check-membership t c r y room cur i v .0);
-      members = λ i v. check-membership t c r y room cur i v .1;
-      out = λ i v m. stays-of t cu i (check-leaves t c r y room .out i v m);
-      taken = rw (sym (good-whole t b e S r (has r) all)) (λ i v m g. is-of t cu i (check-taken t c r y room i v m g));
-      marked = rw (sym (good-whole t b e S r (has r) all), sym (version-whole t b e S r (has r) all)) (λ i v m g. is-of t cu i (check-marked t c r y room i v m g));
+      epoch = rw (sym (epoch-whole t b e S (a .r) (has (a .r)) all)) (λ i v. check-membership t a y room cur i v .0);
+      members = λ i v. check-membership t a y room cur i v .1;
+      out = λ i v m. stays-of t cu i (check-leaves t a y room .out i v m);
+      taken = rw (sym (good-whole t b e S (a .r) (has (a .r)) all)) (λ i v m g. is-of t cu i (check-taken t a y room i v m g));
+      marked = rw (sym (good-whole t b e S (a .r) (has (a .r)) all), sym (version-whole t b e S (a .r) (has (a .r)) all)) (λ i v m g. is-of t cu i (check-marked t a y room i v m g));
     }
 
-    pub next-check : State (checkTable t c r y room) (agreed b r) (suc e)
+    pub next-check : State (checkTable t a y room) (agreed b (a .r)) (suc e)
     unfolding cu agreed
-    next-check = framed S (check-leaves t c r y room .frame) (check-formed t c r y room cur fresh) refl refl
-        (keep-check (usedOf t) (whole t) (contentsOf t) b e (few t b e S r) (S .inv) (whole cu) (contentsOf cu) r (y .first .rows) check-quorum
-        (sym (current-whole t b e S r (has r) all) ∙ cur) checked)
+    next-check = framed S (check-leaves t a y room .frame) (check-formed t a y room cur fresh) refl refl
+        (keep-check (usedOf t) (whole t) (contentsOf t) b e (few t b e S (a .r)) (S .inv) (whole cu) (contentsOf cu) (a .r) (y .first .rows) check-quorum
+        (sym (current-whole t b e S (a .r) (has (a .r)) all) ∙ cur) checked)

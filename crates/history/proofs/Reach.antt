@@ -21,7 +21,7 @@ use Rattle.table.specs.WellFormed.{between, limit, onlyRows}
 use Rattle.table.proofs.FormLaws.{well-formed-of}
 use Rattle.protocol.specs.Lists.{listChoice}
 use Rattle.protocol.specs.Polls.{goodVersion, current, quorumHeld}
-use Rattle.protocol.specs.Calls.{Call, founding, write, firstNo, upTo, isUsed, inFile, byCoordinator, questions, outcome, answers, workSet, namesIn, namesRise, zeros}
+use Rattle.protocol.specs.Calls.{Founding, Writing, founding, write, firstNo, before, isUsed, inFile, byCoordinator, questions, outcome, answers, workSet, namesIn, namesRise, zeros}
 use Rattle.protocol.proofs.ListLaws.{one-holds}
 use Rattle.protocol.proofs.PollLaws.{cut-in}
 use Rattle.protocol.proofs.QuestionLaws.{refusal-is, ByCoordinator}
@@ -32,8 +32,8 @@ use Rattle.history.proofs.Answers.{version-now, passed-seven}
 use Rattle.history.proofs.Theorems.{next, opens}
 
 -- the machine writes the only byte of its file
-unfoldable again : Call
-again = write 1 1 0 (7 ∷ [])
+unfoldable again : Writing
+again = record { c = 1; r = 1; offset = 0; patch = 7 ∷ [] }
 
 -- the book of a file of one byte on one machine
 record Lone (b : Book) : Type 0 where
@@ -68,7 +68,7 @@ module _ (b : Book) (L : Lone b) where
       go false h = refl
 
   -- the book after it
-  more : Lone (entered b again true)
+  more : Lone (entered b (write again) true)
   unfolding again entered written hasAll
   more = record {
     names = L .names;
@@ -89,8 +89,8 @@ module _ (b : Book) (L : Lone b) where
         let u : usedOf t ≡ 1 = S .used ∙ ap length (L .names) in
         record { formed = well-formed-of t (S .formed); coordinator = omega arith; rows = rw u (omega arith); answered = refl }
 
-    seven : firstNo (upTo 7 (questions t again)) ≡ 0
-    unfolding again questions upTo byCoordinator firstNo isUsed between onlyRows inFile has
+    seven : firstNo (before 8 (questions t (write again))) ≡ 0
+    unfolding again questions before byCoordinator firstNo isUsed between onlyRows inFile has
     seven =
         let u : usedOf t ≡ 1 = S .used ∙ ap length (L .names) in
         let f : fileOf t ≡ 1 = sym (S .file) ∙ L .file in
@@ -98,44 +98,48 @@ module _ (b : Book) (L : Lone b) where
         let cur : current (answers t 1) (workSet Write t 1 1) ≡ true = seven-is t b e S 1 Write 1 by-one holds ∙ someone in
         rw (well-formed-of t (S .formed), u, f, six, cur)
 
-    is-done : b .writes < 1_000_000 → outcome t again .refusal ≡ 0
+    is-done : b .writes < 1_000_000 → outcome t (write again) .refusal ≡ 0
     unfolding again firstNo limit
     is-done l =
-        let a = passed-seven t b e S 1 1 0 (7 ∷ []) seven in
-        refusal-is t again ∙ a .3 ∙ rw (lt-ltb (goodVersion (answers t 1) (workSet Write t 1 1)) limit (omega (arith, version-now t b e S Write 1 1 (a .0) (a .1) (a .2))))
+        let a = passed-seven t b e S again seven in
+        refusal-is t (write again) ∙ a .3 ∙ rw (lt-ltb (goodVersion (answers t 1) (workSet Write t 1 1)) limit (omega (arith, version-now t b e S Write 1 1 (a .0) (a .1) (a .2))))
 
-founds : outcome (zeros 49) (founding 1 1 (10 ∷ 0 ∷ [])) .refusal ≡ 0
-unfolding zeros questions firstNo namesIn namesRise between
-founds = refusal-is (zeros 49) (founding 1 1 (10 ∷ 0 ∷ []))
+-- one machine, named 10, and a file of one byte
+unfoldable alone : Founding
+alone = record { capacity = 1; fileLength = 1; names = 10 ∷ 0 ∷ [] }
 
-first : Lone (opened 1 (namesIn (10 ∷ 0 ∷ [])))
-unfolding opened namesIn zeros hasAll every
+founds : outcome (zeros 49) (founding alone) .refusal ≡ 0
+unfolding alone zeros questions firstNo namesIn namesRise between
+founds = refusal-is (zeros 49) (founding alone)
+
+first : Lone (opened alone)
+unfolding alone opened namesIn zeros hasAll every
 first = record { names = refl; list = refl; file = refl; all = refl }
 
 -- m writes more
 many : (m : ℕ) (t : List ℕ) (b : Book) (e : ℕ) → State t b e → Lone b → b .writes + m ≤ 1_000_000
-    → let c = bookAfter t b (replicate m again) in (c .writes ≡ b .writes + m) × (firstNo (upTo 7 (questions (tableAfter t (replicate m again)) again)) ≡ 0)
+    → let c = bookAfter t b (replicate m (write again)) in (c .writes ≡ b .writes + m) × (firstNo (before 8 (questions (tableAfter t (replicate m (write again))) (write again))) ≡ 0)
 unfolding again tableAfter bookAfter entered written
 many zero t b e S L h = (omega arith, seven b L t e S)
 many (suc m) t b e S L h =
-    let d : outcome t again .refusal ≡ 0 = is-done b L t e S (omega arith) in
-    let n = next t b e S again in
-    let S′ : State (outcome t again .table) (entered b again true) (n .0) = rw d at (n .1) in
-    let r = many m (outcome t again .table) (entered b again true) (n .0) S′ (more b L) (omega arith) in
-    let w : bookAfter (outcome t again .table) (entered b again (eqb (outcome t again .refusal) 0)) (replicate m again) .writes ≡ b .writes + 1 + m =
-    ap (λ (x : ℕ). bookAfter (outcome t again .table) (entered b again (eqb x 0)) (replicate m again) .writes) d ∙ r .0 in
+    let d : outcome t (write again) .refusal ≡ 0 = is-done b L t e S (omega arith) in
+    let n = next t b e S (write again) in
+    let S′ : State (outcome t (write again) .table) (entered b (write again) true) (n .0) = rw d at (n .1) in
+    let r = many m (outcome t (write again) .table) (entered b (write again) true) (n .0) S′ (more b L) (omega arith) in
+    let w : bookAfter (outcome t (write again) .table) (entered b (write again) (eqb (outcome t (write again) .refusal) 0)) (replicate m (write again)) .writes ≡ b .writes + 1 + m =
+    ap (λ (x : ℕ). bookAfter (outcome t (write again) .table) (entered b (write again) (eqb x 0)) (replicate m (write again)) .writes) d ∙ r .0 in
     (w ∙ omega arith, r .1)
 
 pub limit-reached : LimitReached
 unfolding LimitReached again opened
 limit-reached n h =
-    let r = many n (outcome (zeros 49) (founding 1 1 (10 ∷ 0 ∷ [])) .table) (opened 1 (namesIn (10 ∷ 0 ∷ []))) 0 (opens (zeros 49) 1 1 (10 ∷ 0 ∷ []) founds) first (omega arith) in
+    let r = many n (outcome (zeros 49) (founding alone) .table) (opened alone) 0 (opens (zeros 49) alone founds) first (omega arith) in
     record {
       table = _;
       book = _;
-      reached = after (zeros 49) 1 1 (10 ∷ 0 ∷ []) (replicate n again) founds;
+      reached = after (zeros 49) alone (replicate n (write again)) founds;
       writes = r .0 ∙ omega arith;
-      call = again;
+      call = write again;
       rows = 1;
       asks = aWrite;
       passes = r .1;

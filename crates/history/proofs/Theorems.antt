@@ -14,7 +14,7 @@ use Rattle.table.specs.Chain.{orderOf}
 use Rattle.table.specs.WellFormed.{limit, onlyRows, wellFormed}
 use Rattle.table.proofs.FormLaws.{well-formed-of}
 use Rattle.protocol.specs.Polls.{highestEpoch, inForce, current, quorumHeld}
-use Rattle.protocol.specs.Calls.{Call, founding, read, write, send, check, firstNo, upTo, isUsed, byCoordinator, questions, done, outcome, answers, namesIn}
+use Rattle.protocol.specs.Calls.{Founding, Checking, Call, founding, read, write, send, check, firstNo, before, isUsed, byCoordinator, questions, done, outcome, answers}
 use Rattle.protocol.proofs.QuestionLaws.{yes-first, ByCoordinator, passed-first, refusal-is, when-done, when-refused, write-yes, send-yes, CheckYes, check-yes}
 use Rattle.protocol.proofs.FoundedLaws.{founds-of}
 use Rattle.protocol.proofs.DoneLaws.{writeTable, sendTable, checkTable}
@@ -31,21 +31,21 @@ module _ (t : List ℕ) (b : Book) (e : ℕ) (S : State t b e) where
   -- after a done call
   next-done : (k : Call) → firstNo (questions t k) ≡ 0 → (e′ : ℕ) × State (done t k .table) (entered b k true) e′
   unfolding done entered writeTable sendTable checkTable
-  next-done (founding capacity file names) h = (0, founded-state capacity file (namesIn names) (founds-of t capacity file names h))
-  next-done (read c r offset count buffer) h = (e, S)
-  next-done (write c r offset patch) h = (e, next-write t b e S c r offset patch (write-yes t c r offset patch h))
-  next-done (send f to r) h = (e, next-send t b e S f to r (send-yes t f to r h))
-  next-done (check c r) h = go (eqb r (inForce (answers t r) (has r))) refl
+  next-done (founding a) h = (0, founded-state a (founds-of t a h))
+  next-done (read a) h = (e, S)
+  next-done (write a) h = (e, next-write t b e S a (write-yes t a h))
+  next-done (send a) h = (e, next-send t b e S a (send-yes t a h))
+  next-done (check a) h = go (eqb (a .r) (inForce (answers t (a .r)) (has (a .r)))) refl
     where
-      y : CheckYes t c r
-      y = check-yes t c r h
+      y : CheckYes t a
+      y = check-yes t a h
 
-      go : (x : Bool) → eqb r (inForce (answers t r) (has r)) ≡ x → (e′ : ℕ) × State (done t (check c r) .table) (agreed b r) e′
-      go true q = (e, rw q (next-same t b e S c r y (eqb-true _ _ q)))
+      go : (x : Bool) → eqb (a .r) (inForce (answers t (a .r)) (has (a .r))) ≡ x → (e′ : ℕ) × State (done t (check a) .table) (agreed b (a .r)) e′
+      go true q = (e, rw q (next-same t b e S a y (eqb-true _ _ q)))
       go false q =
-          let cur : current (answers t r) (has r) ≡ true = rw q at (y .current) in
-          let room : ltb (highestEpoch (answers t r) (has r)) limit ≡ true = rw q at (y .room) in
-          (suc e, rw q (next-check t b e S c r y (ltb-true _ _ room) cur))
+          let cur : current (answers t (a .r)) (has (a .r)) ≡ true = rw q at (y .current) in
+          let room : ltb (highestEpoch (answers t (a .r)) (has (a .r))) limit ≡ true = rw q at (y .room) in
+          (suc e, rw q (next-check t b e S a y (ltb-true _ _ room) cur))
 
   -- after any call
   pub next : (k : Call) → (e′ : ℕ) × State (outcome t k .table) (entered b k (eqb (outcome t k .refusal) 0)) e′
@@ -65,16 +65,13 @@ all-right t b e S (k ∷ ks) =
     (right t b e S k, all-right (outcome t k .table) (entered b k (eqb (outcome t k .refusal) 0)) (n .0) (n .1) ks)
 
 -- the state after a done founding
-pub opens : (t : List ℕ) (capacity file : ℕ) (names : List ℕ) → outcome t (founding capacity file names) .refusal ≡ 0
-    → State (outcome t (founding capacity file names) .table) (opened file (namesIn names)) 0
+pub opens : (t : List ℕ) (a : Founding) → outcome t (founding a) .refusal ≡ 0 → State (outcome t (founding a) .table) (opened a) 0
 unfolding done
-opens t capacity file names h =
-    rw (when-done t (founding capacity file names) h)
-    (founded-state capacity file (namesIn names) (founds-of t capacity file names (sym (refusal-is t (founding capacity file names)) ∙ h)))
+opens t a h = rw (when-done t (founding a) h) (founded-state a (founds-of t a (sym (refusal-is t (founding a)) ∙ h)))
 
 pub demand-3 : Demand3
 unfolding Demand3
-demand-3 t capacity file names ks h = all-right (outcome t (founding capacity file names) .table) (opened file (namesIn names)) 0 (opens t capacity file names h) ks
+demand-3 t a ks h = all-right (outcome t (founding a) .table) (opened a) 0 (opens t a h) ks
 
 -- ---- the state after a list of calls
 later : (t : List ℕ) (b : Book) (e : ℕ) → State t b e → (ks : List Call) → (e′ : ℕ) × State (tableAfter t ks) (bookAfter t b ks) e′
@@ -84,36 +81,36 @@ later t b e S (k ∷ ks) =
     let n = next t b e S k in later (outcome t k .table) (entered b k (eqb (outcome t k .refusal) 0)) (n .0) (n .1) ks
 
 reached : (t : List ℕ) (b : Book) → Reached t b → (e : ℕ) × State t b e
-reached t b (after t₀ capacity file names ks h) = later (outcome t₀ (founding capacity file names) .table) (opened file (namesIn names)) 0 (opens t₀ capacity file names h) ks
+reached t b (after t₀ a ks h) = later (outcome t₀ (founding a) .table) (opened a) 0 (opens t₀ a h) ks
 
 pub always-well-formed : AlwaysWellFormed
 unfolding AlwaysWellFormed
 always-well-formed t b x = well-formed-of t (reached t b x .1 .formed)
 
 -- ---- checks
-module _ (t : List ℕ) (b : Book) (e : ℕ) (S : State t b e) (c r : ℕ) where
-  six-seven : ByCoordinator t c r
-      → _≡_ {A = ℕ} (cond (quorumHeld Write (orderOf t) (answers t r) (has r)) (cond (eqb r (inForce (answers t r) (has r)) || current (answers t r) (has r)) 0 7) 6)
-      (cond (holdsQuorum b Write (has r)) (cond (eqb r (b .inForce) || someHasAll b (has r)) 0 7) 6)
-  six-seven B = rw (six-check t b e S c r B) (go (holdsQuorum b Write (has r)) refl)
+module _ (t : List ℕ) (b : Book) (e : ℕ) (S : State t b e) (a : Checking) where
+  six-seven : ByCoordinator t (a .c) (a .r)
+      → _≡_ {A = ℕ} (cond (quorumHeld Write (orderOf t) (answers t (a .r)) (has (a .r))) (cond (eqb (a .r) (inForce (answers t (a .r)) (has (a .r))) || current (answers t (a .r)) (has (a .r))) 0 7) 6)
+      (cond (holdsQuorum b Write (has (a .r))) (cond (eqb (a .r) (b .inForce) || someHasAll b (has (a .r))) 0 7) 6)
+  six-seven B = rw (six-check t b e S (a .c) (a .r) B) (go (holdsQuorum b Write (has (a .r))) refl)
     where
-      go : (x : Bool) → holdsQuorum b Write (has r) ≡ x
-          → _≡_ {A = ℕ} (cond x (cond (eqb r (inForce (answers t r) (has r)) || current (answers t r) (has r)) 0 7) 6) (cond x (cond (eqb r (b .inForce) || someHasAll b (has r)) 0 7) 6)
-      go true q = let w = seven-check t b e S c r B q in rw (w .0, w .1)
+      go : (x : Bool) → holdsQuorum b Write (has (a .r)) ≡ x
+          → _≡_ {A = ℕ} (cond x (cond (eqb (a .r) (inForce (answers t (a .r)) (has (a .r))) || current (answers t (a .r)) (has (a .r))) 0 7) 6) (cond x (cond (eqb (a .r) (b .inForce) || someHasAll b (has (a .r))) 0 7) 6)
+      go true q = let w = seven-check t b e S (a .c) (a .r) B q in rw (w .0, w .1)
       go false q = refl
 
-  check-right : firstNo (upTo 3 (questions t (check c r))) ≡ 0
-      → firstNo (upTo 7 (questions t (check c r))) ≡ cond (holdsQuorum b Write (has r)) (cond (eqb r (b .inForce) || someHasAll b (has r)) 0 7) 6
-  unfolding questions upTo byCoordinator firstNo
+  check-right : firstNo (before 6 (questions t (check a))) ≡ 0
+      → firstNo (before 8 (questions t (check a))) ≡ cond (holdsQuorum b Write (has (a .r))) (cond (eqb (a .r) (b .inForce) || someHasAll b (has (a .r))) 0 7) 6
+  unfolding questions before byCoordinator firstNo
   check-right h =
-      let a = yes-first 0 (wellFormed t) (record { ask = 2; yes = isUsed t c && onlyRows (usedOf t) r } ∷ record { ask = 3; yes = has r c } ∷ []) h in
-      let d = yes-first 1 (isUsed t c && onlyRows (usedOf t) r) (record { ask = 3; yes = has r c } ∷ []) (a .1) in
-      let g = yes-first 2 (has r c) [] (d .1) in
-      rw (a .0, d .0, g .0) (six-seven (passed-first t c r [] h .0))
+      let x = yes-first 0 (wellFormed t) (record { ask = 2; yes = isUsed t (a .c) && onlyRows (usedOf t) (a .r) } ∷ record { ask = 3; yes = has (a .r) (a .c) } ∷ []) h in
+      let d = yes-first 1 (isUsed t (a .c) && onlyRows (usedOf t) (a .r)) (record { ask = 3; yes = has (a .r) (a .c) } ∷ []) (x .1) in
+      let g = yes-first 2 (has (a .r) (a .c)) [] (d .1) in
+      rw (x .0, d .0, g .0) (six-seven (passed-first t (a .c) (a .r) [] h .0))
 
 pub checks-by-book : ChecksByBook
 unfolding ChecksByBook
-checks-by-book t b x c r = let l = reached t b x in check-right t b (l .0) (l .1) c r
+checks-by-book t b x a = let l = reached t b x in check-right t b (l .0) (l .1) a
 
 -- ---- 1,000,000 from both sides
 -- the claim of a list, for the call after it
@@ -125,10 +122,10 @@ last-right t b (x ∷ ks) k a = last-right (outcome t x .table) (entered b x (eq
 -- by demand 3 itself
 pub below-the-limit : BelowTheLimit
 unfolding BelowTheLimit Demand3 Right RefusedRight
-below-the-limit t b (after t₀ capacity file names ks h) w k kind r x p =
-    go k kind r x (last-right (outcome t₀ (founding capacity file names) .table) (opened file (namesIn names)) ks k (demand-3 t₀ capacity file names (ks ++ (k ∷ [])) h)) p
+below-the-limit t b (after t₀ a ks h) w k kind r x p =
+    go k kind r x (last-right (outcome t₀ (founding a) .table) (opened a) ks k (demand-3 t₀ a (ks ++ (k ∷ [])) h)) p
   where
-    go : (k : Call) (kind : Kind) (r : ℕ) → Asks k kind r → Right t b k (outcome t k) → firstNo (upTo 5 (questions t k)) ≡ 0 → outcome t k .refusal ≡ verdict b kind r
+    go : (k : Call) (kind : Kind) (r : ℕ) → Asks k kind r → Right t b k (outcome t k) → firstNo (before 6 (questions t k)) ≡ 0 → outcome t k .refusal ≡ verdict b kind r
     go k kind r aRead a p = a .1 p (omega arith)
     go k kind r aWrite a p = a p (omega arith)
 
@@ -140,8 +137,8 @@ at-the-limit t b x w = let l = reached t b x in record {
   gives = right t b (l .0) (l .1);
 }
   where
-    full : (k : Call) (r e : ℕ) → State t b e → Asks k Write r → firstNo (upTo 7 (questions t k)) ≡ 0 → outcome t k .refusal ≡ 8
-    full k r e S aWrite p = write-full t b e S w _ _ _ _ p
+    full : (k : Call) (r e : ℕ) → State t b e → Asks k Write r → firstNo (before 8 (questions t k)) ≡ 0 → outcome t k .refusal ≡ 8
+    full k r e S aWrite p = write-full t b e S w _ p
 
-    same : (k : Call) (r e : ℕ) → State t b e → Asks k Read r → firstNo (upTo 5 (questions t k)) ≡ 0 → outcome t k .refusal ≡ verdict b Read r
-    same k r e S aRead p = read-refused t b e S _ _ _ _ _ p
+    same : (k : Call) (r e : ℕ) → State t b e → Asks k Read r → firstNo (before 6 (questions t k)) ≡ 0 → outcome t k .refusal ≡ verdict b Read r
+    same k r e S aRead p = read-refused t b e S _ p

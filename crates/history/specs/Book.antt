@@ -10,7 +10,7 @@ use Rattle.quorums.specs.declared.Kind.{Kind}
 use Rattle.quorums.specs.declared.Kind.the-variants.{Write}
 use Rattle.bytes.specs.Bytes.{put}
 use Rattle.protocol.specs.Lists.{listQuorum, listChoice}
-use Rattle.protocol.specs.Calls.{Call, founding, read, write, send, check, namesIn, zeros}
+use Rattle.protocol.specs.Calls.{Founding, Call, founding, read, write, send, check, namesIn, zeros}
 
 pub record Book : Type 0 where
   -- the names of rows 1 upward, from the founding's arguments
@@ -32,15 +32,17 @@ unfoldable pub nameIn : Book → ℕ → ℕ
 nameIn b i = getD (b .names) (i - 1) 0
 
 -- "A done founding opens it with a file of L zero bytes and no writes. The list in force, and each row's own list, is all used rows."
-unfoldable pub opened : ℕ → List ℕ → Book
-opened file names = record {
-  names = names;
-  file = zeros file;
-  writes = 0;
-  inForce = 2 ^ length names - 1;
-  own = λ i. 2 ^ length names - 1;
-  hasWrite = λ i k. false;
-}
+unfoldable pub opened : Founding → Book
+opened a =
+    let names = namesIn (a .names) in
+    record {
+      names = names;
+      file = zeros (a .fileLength);
+      writes = 0;
+      inForce = 2 ^ length names - 1;
+      own = λ i. 2 ^ length names - 1;
+      hasWrite = λ i k. false;
+    }
 
 -- row i has every done write
 unfoldable pub hasAll : Book → ℕ → Bool
@@ -96,8 +98,8 @@ agreed b r = record {
 -- the book after a call, and whether that was done; "A read, or any refused call: nothing."
 unfoldable pub entered : Book → Call → Bool → Book
 entered b k false = b
-entered b (founding capacity file names) true = opened file (namesIn names)
-entered b (read c r offset count buffer) true = b
-entered b (write c r offset patch) true = written b (writeSet b c r) offset patch
-entered b (send f t r) true = passedOn b f t
-entered b (check c r) true = agreed b r
+entered b (founding a) true = opened a
+entered b (read a) true = b
+entered b (write a) true = written b (writeSet b (a .c) (a .r)) (a .offset) (a .patch)
+entered b (send a) true = passedOn b (a .f) (a .t)
+entered b (check a) true = agreed b (a .r)

@@ -8,7 +8,7 @@ use Rattle.sets.specs.Sets.{has}
 use Rattle.quorums.specs.declared.Kind.{Kind}
 use Rattle.quorums.specs.declared.Kind.the-variants.{Read, Write}
 use Rattle.table.specs.WellFormed.{wellFormed}
-use Rattle.protocol.specs.Calls.{Call, founding, read, write, check, firstNo, upTo, questions, outcome, namesIn}
+use Rattle.protocol.specs.Calls.{Founding, Reading, Writing, Checking, Call, founding, read, write, check, firstNo, before, questions, outcome}
 use Rattle.history.specs.Book.{Book, opened, holdsQuorum, someHasAll, entered}
 use Rattle.history.specs.Demand3.{verdict, Right}
 
@@ -23,8 +23,8 @@ bookAfter t b (k ∷ ks) = bookAfter (outcome t k .table) (entered b k (eqb (out
 
 -- a table, and the book, after a done founding and any list of calls
 pub data Reached : List ℕ → Book → Type 0 where
-  after : (t : List ℕ) (capacity file : ℕ) (names : List ℕ) (ks : List Call) → outcome t (founding capacity file names) .refusal ≡ 0
-      → Reached (tableAfter (outcome t (founding capacity file names) .table) ks) (bookAfter (outcome t (founding capacity file names) .table) (opened file (namesIn names)) ks)
+  after : (t : List ℕ) (a : Founding) (ks : List Call) → outcome t (founding a) .refusal ≡ 0
+      → Reached (tableAfter (outcome t (founding a) .table) ks) (bookAfter (outcome t (founding a) .table) (opened a) ks)
 
 -- "after a founding this never happens": question 1 turns no table down
 unfoldable pub AlwaysWellFormed : Type 0
@@ -32,24 +32,24 @@ AlwaysWellFormed = (t : List ℕ) (b : Book) → Reached t b → wellFormed t �
 
 -- a check that passes 1 to 3 meets 6 and 7 by the book: a write quorum of the list in force; R that list, or a row of R with every done write
 unfoldable pub ChecksByBook : Type 0
-ChecksByBook = (t : List ℕ) (b : Book) → Reached t b → (c r : ℕ) → firstNo (upTo 3 (questions t (check c r))) ≡ 0
-    → firstNo (upTo 7 (questions t (check c r))) ≡ cond (holdsQuorum b Write (has r)) (cond (eqb r (b .inForce) || someHasAll b (has r)) 0 7) 6
+ChecksByBook = (t : List ℕ) (b : Book) → Reached t b → (a : Checking) → firstNo (before 6 (questions t (check a))) ≡ 0
+    → firstNo (before 8 (questions t (check a))) ≡ cond (holdsQuorum b Write (has (a .r))) (cond (eqb (a .r) (b .inForce) || someHasAll b (has (a .r))) 0 7) 6
 
 -- ---- 1,000,000 from both sides
 -- k is a read or a write, with the answering set R
 pub data Asks : Call → Kind → ℕ → Type 0 where
-  aRead : {c r offset count : ℕ} {buffer : List ℕ} → Asks (read c r offset count buffer) Read r
-  aWrite : {c r offset : ℕ} {patch : List ℕ} → Asks (write c r offset patch) Write r
+  aRead : {a : Reading} → Asks (read a) Read (a .r)
+  aWrite : {a : Writing} → Asks (write a) Write (a .r)
 
 -- "After fewer than 1,000,000 done writes": after 999,999 too, reads and writes are refused by the book
 unfoldable pub BelowTheLimit : Type 0
 BelowTheLimit = (t : List ℕ) (b : Book) → Reached t b → b .writes ≡ 999_999 → (k : Call) (kind : Kind) (r : ℕ) → Asks k kind r
-    → firstNo (upTo 5 (questions t k)) ≡ 0 → outcome t k .refusal ≡ verdict b kind r
+    → firstNo (before 6 (questions t k)) ≡ 0 → outcome t k .refusal ≡ verdict b kind r
 
 -- after 1,000,000 a write that passes 1 to 7 is refused by 8, while reads are refused by the book and give the file
 pub record Full (t : List ℕ) (b : Book) : Type 0 where
-  pub writes : (k : Call) (r : ℕ) → Asks k Write r → firstNo (upTo 7 (questions t k)) ≡ 0 → outcome t k .refusal ≡ 8
-  pub reads : (k : Call) (r : ℕ) → Asks k Read r → firstNo (upTo 5 (questions t k)) ≡ 0 → outcome t k .refusal ≡ verdict b Read r
+  pub writes : (k : Call) (r : ℕ) → Asks k Write r → firstNo (before 8 (questions t k)) ≡ 0 → outcome t k .refusal ≡ 8
+  pub reads : (k : Call) (r : ℕ) → Asks k Read r → firstNo (before 6 (questions t k)) ≡ 0 → outcome t k .refusal ≡ verdict b Read r
   pub gives : (k : Call) → Right t b k (outcome t k)
 
 unfoldable pub AtTheLimit : Type 0
@@ -64,7 +64,7 @@ pub record WithWrites (n : ℕ) : Type 0 where
   pub call : Call
   pub rows : ℕ
   pub asks : Asks call Write rows
-  pub passes : firstNo (upTo 7 (questions table call)) ≡ 0
+  pub passes : firstNo (before 8 (questions table call)) ≡ 0
 
 unfoldable pub LimitReached : Type 0
 LimitReached = (n : ℕ) → n ≤ 1_000_000 → WithWrites n

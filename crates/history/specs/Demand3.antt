@@ -8,7 +8,7 @@ use Rattle.sets.specs.Sets.{has}
 use Rattle.quorums.specs.declared.Kind.{Kind}
 use Rattle.quorums.specs.declared.Kind.the-variants.{Read, Write}
 use Rattle.bytes.specs.Bytes.{part}
-use Rattle.protocol.specs.Calls.{Call, founding, read, write, send, check, Outcome, firstNo, upTo, questions, outcome, namesIn}
+use Rattle.protocol.specs.Calls.{Founding, Reading, Call, founding, read, write, send, check, Outcome, firstNo, before, questions, outcome}
 use Rattle.history.specs.Book.{Book, opened, holdsQuorum, someHasAll, entered}
 
 -- "The refusals in demand 3 are by 6 where the quorum is wanting, and by 7 where it is held and no row of R has every done write."
@@ -16,22 +16,21 @@ unfoldable pub verdict : Book → Kind → ℕ → ℕ
 verdict b kind r = cond (holdsQuorum b kind (has r)) (cond (someHasAll b (has r)) 0 7) 6
 
 -- "every done read in the list gives exactly its range of .. and its value is how many those are"
-pub record ReadGives (b : Book) (offset count : ℕ) (o : Outcome) : Type 0 where
+pub record ReadGives (b : Book) (a : Reading) (o : Outcome) : Type 0 where
   pub value : o .value ≡ b .writes
-  pub bytes : o .buffer ≡ part offset count (b .file)
+  pub bytes : o .buffer ≡ part (a .offset) (a .count) (b .file)
 
 -- "After fewer than 1,000,000 done writes, a read (write) that passes document 01's questions 1 to 5 is refused exactly when .."
 unfoldable pub RefusedRight : List ℕ → Book → Call → Kind → ℕ → Outcome → Type 0
-RefusedRight t b k kind r o = firstNo (upTo 5 (questions t k)) ≡ 0 → b .writes < 1_000_000 → o .refusal ≡ verdict b kind r
+RefusedRight t b k kind r o = firstNo (before 6 (questions t k)) ≡ 0 → b .writes < 1_000_000 → o .refusal ≡ verdict b kind r
 
 -- what is claimed of one call, made on the table t with the book b
 unfoldable pub Right : List ℕ → Book → Call → Outcome → Type 0
-Right t b (read c r offset count buffer) o =
-    (o .refusal ≡ 0 → ReadGives b offset count o) × RefusedRight t b (read c r offset count buffer) Read r o
-Right t b (write c r offset patch) o = RefusedRight t b (write c r offset patch) Write r o
-Right t b (founding capacity file names) o = Unit {0}
-Right t b (send f to r) o = Unit {0}
-Right t b (check c r) o = Unit {0}
+Right t b (read a) o = (o .refusal ≡ 0 → ReadGives b a o) × RefusedRight t b (read a) Read (a .r) o
+Right t b (write a) o = RefusedRight t b (write a) Write (a .r) o
+Right t b (founding a) o = Unit {0}
+Right t b (send a) o = Unit {0}
+Right t b (check a) o = Unit {0}
 
 -- and of a list of calls, each getting the table as the last one left it; the book is fed the call and whether it was done
 unfoldable pub AllRight : List ℕ → Book → List Call → Type 0
@@ -42,6 +41,6 @@ AllRight t b (k ∷ ks) =
 
 -- Further foundings may stand in the list: a done one opens the book anew.
 unfoldable pub Demand3 : Type 0
-Demand3 = (t : List ℕ) (capacity file : ℕ) (names : List ℕ) (ks : List Call)
-    → let o = outcome t (founding capacity file names) in
-    o .refusal ≡ 0 → AllRight (o .table) (opened file (namesIn names)) ks
+Demand3 = (t : List ℕ) (a : Founding) (ks : List Call)
+    → let o = outcome t (founding a) in
+    o .refusal ≡ 0 → AllRight (o .table) (opened a) ks

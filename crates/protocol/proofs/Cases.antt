@@ -7,8 +7,8 @@ use lib.ListN.{take, replicate}
 use Rattle.sets.specs.Upto.{upward}
 use Rattle.bytes.specs.Bytes.{bytesOf, put}
 use Rattle.fields.specs.Layout.{Field, get, mark, version, desired, epoch, members, rowBytes, contentsOf}
-use Rattle.protocol.specs.Calls.{Call, founding, read, write, check, outcome, zeros}
-use Rattle.protocol.proofs.Histories.{Made, same, stepsHold}
+use Rattle.protocol.specs.Calls.{Call, outcome, zeros}
+use Rattle.protocol.proofs.Histories.{fo, rd, wr, ck, Made, same, stepsHold}
 
 -- on these bytes a call has this refusal, value and buffer
 pub data Case : Type 0 where
@@ -42,10 +42,10 @@ unfoldable pub set : (place width value : ℕ) → List ℕ → List ℕ
 set place width value t = put place (bytesOf width value) t
 
 -- one used row, of a capacity and a file length
-unfoldable pub single : (capacity file : ℕ) → List ℕ
-single capacity file =
-    (1 ∷ capacity ∷ 1 ∷ 1 ∷ bytesOf 2 file) ++ (zeros 10
-    ++ ((10 ∷ 0 ∷ zeros 14) ++ ((1 ∷ zeros 15) ++ (replicate file 5 ++ zeros ((capacity - 1) * (32 + file))))))
+unfoldable pub single : (capacity fileLength : ℕ) → List ℕ
+single capacity fileLength =
+    (1 ∷ capacity ∷ 1 ∷ 1 ∷ bytesOf 2 fileLength) ++ (zeros 10
+    ++ ((10 ∷ 0 ∷ zeros 14) ++ ((1 ∷ zeros 15) ++ (replicate fileLength 5 ++ zeros ((capacity - 1) * (32 + fileLength))))))
 
 -- pair with a third row, at an epoch; its list is itself
 unfoldable pub third : ℕ → List ℕ
@@ -54,18 +54,18 @@ third e = set 2 1 3 (set (row2 + 2) 1 3 (set row3 2 30 (set (row3 + 12) 4 e (set
 -- ---- calls
 -- a check by row 0: refused by 1, or by 2 where question 1 is passed
 unfoldable pub malformed : List ℕ → Case
-malformed t = On t (check 0 0) 1 0 []
+malformed t = On t (ck 0 0) 1 0 []
 
 unfoldable pub formed : List ℕ → Case
-formed t = On t (check 0 0) 2 0 []
+formed t = On t (ck 0 0) 2 0 []
 
 -- a founding on so many bytes, by names below 256
 unfoldable pub twoBytes : List ℕ → List ℕ
 twoBytes [] = []
 twoBytes (x ∷ xs) = x ∷ 0 ∷ twoBytes xs
 
-unfoldable pub founds : (length capacity file : ℕ) (names : List ℕ) (refusal value : ℕ) → Case
-founds length capacity file names refusal value = On (zeros length) (founding capacity file names) refusal value []
+unfoldable pub founds : (length capacity fileLength : ℕ) (names : List ℕ) (refusal value : ℕ) → Case
+founds length capacity fileLength names refusal value = On (zeros length) (fo capacity fileLength names) refusal value []
 
 unfoldable pub cases : List Case
 cases =
@@ -139,18 +139,18 @@ cases =
     ∷ malformed (set row3 1 1 pair)
     ∷ malformed (set (row3 + 32) 1 1 pair)
     -- ---- a read copies from the good row of lowest index
-    ∷ On (set (row2 + 32) 1 6 pair) (read 2 3 0 1 (9 ∷ [])) 0 0 (5 ∷ [])
+    ∷ On (set (row2 + 32) 1 6 pair) (rd 2 3 0 1 (9 ∷ [])) 0 0 (5 ∷ [])
     -- ---- question 8, of a write and of a check that changes the list; one that does not is done
-    ∷ On (set (row1 + 4) 4 999_999 pair) (write 1 1 0 (7 ∷ [])) 0 1_000_000 []
-    ∷ On (set (row1 + 4) 4 1_000_000 pair) (write 1 1 0 (7 ∷ [])) 8 0 []
-    ∷ On (set (row1 + 12) 4 999_999 pair) (check 1 3) 0 1_000_000 []
-    ∷ On (set (row1 + 12) 4 1_000_000 pair) (check 1 3) 8 0 []
-    ∷ On (set (row1 + 12) 4 1_000_000 pair) (check 1 1) 0 1_000_000 []
+    ∷ On (set (row1 + 4) 4 999_999 pair) (wr 1 1 0 (7 ∷ [])) 0 1_000_000 []
+    ∷ On (set (row1 + 4) 4 1_000_000 pair) (wr 1 1 0 (7 ∷ [])) 8 0 []
+    ∷ On (set (row1 + 12) 4 999_999 pair) (ck 1 3) 0 1_000_000 []
+    ∷ On (set (row1 + 12) 4 1_000_000 pair) (ck 1 3) 8 0 []
+    ∷ On (set (row1 + 12) 4 1_000_000 pair) (ck 1 1) 0 1_000_000 []
     -- ---- a check may leave a table that question 1 turns down: row 3, which did not answer, has the new epoch with another list
     ∷ formed (third 2)
-    ∷ On (third 2) (check 1 3) 0 2 []
-    ∷ malformed (outcome (third 2) (check 1 3) .table)
-    ∷ formed (outcome (third 3) (check 1 3) .table)
+    ∷ On (third 2) (ck 1 3) 0 2 []
+    ∷ malformed (outcome (third 2) (ck 1 3) .table)
+    ∷ formed (outcome (third 3) (ck 1 3) .table)
     -- ---- question 11: 1 to 64 names, strictly rising, none 0, two bytes each
     ∷ founds 49 1 1 [] 11 0
     ∷ founds 49 1 1 (10 ∷ []) 11 0

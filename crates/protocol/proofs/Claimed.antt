@@ -16,7 +16,7 @@ use Rattle.table.specs.WellFormed.{limit, wellFormed}
 use Rattle.table.proofs.FormLaws.{formed, well-formed-of}
 use Rattle.protocol.specs.Polls.{highestEpoch, inForce}
 use Rattle.protocol.specs.Calls
-use Rattle.protocol.specs.Calls.{Call, founding, read, write, send, check, firstNo, questions, done, outcome, answers, workSet, namesIn}
+use Rattle.protocol.specs.Calls.{Checking, Call, founding, read, write, send, check, firstNo, questions, done, outcome, answers, workSet}
 use Rattle.protocol.specs.Claims
 use Rattle.protocol.proofs.PollLaws.{worked-in}
 use Rattle.protocol.proofs.QuestionLaws.{result-refusal, result-value, refusal-is, when-done, when-refused, read-yes, write-yes, send-yes, CheckYes, check-yes}
@@ -27,28 +27,28 @@ use Rattle.protocol.proofs.FoundedLaws.{founds-of, founded-formed}
 -- ---- the questions' numbers, in their order
 pub put-in-order : Claims.PutInOrder
 unfolding Claims.PutInOrder Claims.numbersPut questions Calls.byCoordinator
-put-in-order t (founding capacity file names) = refl
-put-in-order t (read c r offset count buffer) = refl
-put-in-order t (write c r offset patch) = refl
-put-in-order t (send f to r) = refl
-put-in-order t (check c r) = refl
+put-in-order t (founding a) = refl
+put-in-order t (read a) = refl
+put-in-order t (write a) = refl
+put-in-order t (send a) = refl
+put-in-order t (check a) = refl
 
 -- ---- the result tells refusal and value
 small-done : (t : List ℕ) (k : Call) → firstNo (questions t k) ≡ 0 → done t k .value ≤ limit
 unfolding done limit workSet versionOf
-small-done t (founding capacity file names) h = let f = founds-of t capacity file names h in omega (arith, f .room, f .most)
-small-done t (read c r offset count buffer) h =
-    version-small t c r (read-yes t c r offset count buffer h .first) (workSet Read t c r) (worked-in Read (orderOf t) (answers t r) c (nameOf t c) (has r))
-small-done t (write c r offset patch) h = omega (arith, write-yes t c r offset patch h .room)
-small-done t (send f to r) h = let y = send-yes t f to r h in formed t (y .formed) .rows f (y .from-used) .small-version
-small-done t (check c r) h = go (eqb r (inForce (answers t r) (has r))) refl
+small-done t (founding a) h = let f = founds-of t a h in omega (arith, f .room, f .most)
+small-done t (read a) h =
+    version-small t (a .c) (a .r) (read-yes t a h .first) (workSet Read t (a .c) (a .r)) (worked-in Read (orderOf t) (answers t (a .r)) (a .c) (nameOf t (a .c)) (has (a .r)))
+small-done t (write a) h = omega (arith, write-yes t a h .room)
+small-done t (send a) h = let y = send-yes t a h in formed t (y .formed) .rows (a .f) (y .from-used) .small-version
+small-done t (check a) h = go (eqb (a .r) (inForce (answers t (a .r)) (has (a .r)))) refl
   where
-    y : CheckYes t c r
-    y = check-yes t c r h
+    y : CheckYes t a
+    y = check-yes t a h
 
-    go : (b : Bool) → eqb r (inForce (answers t r) (has r)) ≡ b → cond b (highestEpoch (answers t r) (has r)) (highestEpoch (answers t r) (has r) + 1) ≤ limit
-    go true q = epoch-small t c r (y .first) (has r) (λ i m. m)
-    go false q = let room : ltb (highestEpoch (answers t r) (has r)) limit ≡ true = rw q at (y .room) in omega (arith, ltb-true)
+    go : (b : Bool) → eqb (a .r) (inForce (answers t (a .r)) (has (a .r))) ≡ b → cond b (highestEpoch (answers t (a .r)) (has (a .r))) (highestEpoch (answers t (a .r)) (has (a .r)) + 1) ≤ limit
+    go true q = epoch-small t (a .c) (a .r) (y .first) (has (a .r)) (λ i m. m)
+    go false q = let room : ltb (highestEpoch (answers t (a .r)) (has (a .r))) limit ≡ true = rw q at (y .room) in omega (arith, ltb-true)
 
 pub result-tells : Claims.ResultTells
 unfolding Claims.ResultTells limit
@@ -82,19 +82,19 @@ only-leaves {t} {u} {s} r sub l = record {
 
 only-done : (t : List ℕ) (k : Call) (r : ℕ) → Claims.Answering k r → firstNo (questions t k) ≡ 0 → Claims.OnlyRowsOf r t (done t k .table)
 unfolding done workSet writeTable sendTable checkTable
-only-done t (read c r offset count buffer) r′ Claims.byRead h = only-none r t
-only-done t (write c r offset patch) r′ Claims.byWrite h =
-    let y = write-yes t c r offset patch h in only-leaves r (λ i m. worked-in Write (orderOf t) (answers t r) c (nameOf t c) (has r) i m) (write-leaves t c r offset patch y)
-only-done t (send f to r) r′ Claims.bySend h =
-    let y = send-yes t f to r h in only-leaves r (λ i m. subst (λ (x : ℕ). has r x ≡ true) (eqb-true to i m) (y .to-answered)) (send-leaves t f to r y)
-only-done t (check c r) r′ Claims.byCheck h = go (eqb r (inForce (answers t r) (has r))) refl
+only-done t (read a) r Claims.byRead h = only-none (a .r) t
+only-done t (write a) r Claims.byWrite h =
+    let y = write-yes t a h in only-leaves (a .r) (λ i m. worked-in Write (orderOf t) (answers t (a .r)) (a .c) (nameOf t (a .c)) (has (a .r)) i m) (write-leaves t a y)
+only-done t (send a) r Claims.bySend h =
+    let y = send-yes t a h in only-leaves (a .r) (λ i m. subst (λ (x : ℕ). has (a .r) x ≡ true) (eqb-true (a .t) i m) (y .to-answered)) (send-leaves t a y)
+only-done t (check a) r Claims.byCheck h = go (eqb (a .r) (inForce (answers t (a .r)) (has (a .r)))) refl
   where
-    y : CheckYes t c r
-    y = check-yes t c r h
+    y : CheckYes t a
+    y = check-yes t a h
 
-    go : (b : Bool) → eqb r (inForce (answers t r) (has r)) ≡ b → Claims.OnlyRowsOf r t (done t (check c r) .table)
-    go true q = rw q (only-none r t)
-    go false q = rw q (only-leaves r (λ i m. m) (check-leaves t c r y (ltb-true _ _ (rw q at (y .room)))))
+    go : (b : Bool) → eqb (a .r) (inForce (answers t (a .r)) (has (a .r))) ≡ b → Claims.OnlyRowsOf (a .r) t (done t (check a) .table)
+    go true q = rw q (only-none (a .r) t)
+    go false q = rw q (only-leaves (a .r) (λ i m. m) (check-leaves t a y (ltb-true _ _ (rw q at (y .room)))))
 
 pub alters-only-answered : Claims.AltersOnlyAnswered
 unfolding Claims.AltersOnlyAnswered
@@ -103,11 +103,11 @@ alters-only-answered t k r a h = rw (when-done t k h) (only-done t k r a (sym (r
 -- ---- every call but a check keeps a well-formed table well formed
 formed-done : (t : List ℕ) (k : Call) → Claims.NoCheck k → wellFormed t ≡ true → firstNo (questions t k) ≡ 0 → wellFormed (done t k .table) ≡ true
 unfolding done writeTable sendTable
-formed-done t (founding capacity file names) Claims.aFounding w h =
-    well-formed-of _ (founded-formed capacity file (namesIn names) (founds-of t capacity file names h))
-formed-done t (read c r offset count buffer) Claims.aRead w h = w
-formed-done t (write c r offset patch) Claims.aWrite w h = well-formed-of _ (write-formed t c r offset patch (write-yes t c r offset patch h))
-formed-done t (send f to r) Claims.aSend w h = well-formed-of _ (send-formed t f to r (send-yes t f to r h))
+formed-done t (founding a) Claims.aFounding w h =
+    well-formed-of _ (founded-formed a (founds-of t a h))
+formed-done t (read a) Claims.aRead w h = w
+formed-done t (write a) Claims.aWrite w h = well-formed-of _ (write-formed t a (write-yes t a h))
+formed-done t (send a) Claims.aSend w h = well-formed-of _ (send-formed t a (send-yes t a h))
 
 pub stays-well-formed : Claims.StaysWellFormed
 unfolding Claims.StaysWellFormed
@@ -120,7 +120,7 @@ stays-well-formed t k n w = go (outcome t k .refusal) refl
 -- ---- a founding takes nothing from the table but its length
 pub founds-on-anything : Claims.FoundsOnAnything
 unfolding Claims.FoundsOnAnything outcome questions done
-founds-on-anything t u capacity file names e h =
-    let q : firstNo (questions t (founding capacity file names)) ≡ firstNo (questions u (founding capacity file names)) = rw e in
-    let z : firstNo (questions t (founding capacity file names)) ≡ 0 = sym (refusal-is t (founding capacity file names)) ∙ h in
-    when-done t (founding capacity file names) h ∙ sym (when-done u (founding capacity file names) (refusal-is u (founding capacity file names) ∙ sym q ∙ z))
+founds-on-anything t u a e h =
+    let q : firstNo (questions t (founding a)) ≡ firstNo (questions u (founding a)) = rw e in
+    let z : firstNo (questions t (founding a)) ≡ 0 = sym (refusal-is t (founding a)) ∙ h in
+    when-done t (founding a) h ∙ sym (when-done u (founding a) (refusal-is u (founding a) ∙ sym q ∙ z))

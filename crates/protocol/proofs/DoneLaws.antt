@@ -19,7 +19,7 @@ use Rattle.table.specs.WellFormed.{limit}
 use Rattle.table.proofs.FormLaws.{RowFacts, Formed, formed, header-facts, rows-room}
 use Rattle.protocol.specs.Polls.{Poll, polled, highestEpoch, goodVersion, good}
 use Rattle.protocol.specs.Rows.{refreshedRow, withRow, withRows, wroteRow, checkedRow}
-use Rattle.protocol.specs.Calls.{answers, workSet}
+use Rattle.protocol.specs.Calls.{Writing, Sending, Checking, answers, workSet}
 use Rattle.protocol.proofs.RowLaws.{fieldAt, Becomes, fieldsOf, changed, unchanged, marked-row, patched-row, then-enrolled, refreshed-row}
 use Rattle.protocol.proofs.TableLaws.{row-long, Changed, one-row, many-rows}
 use Rattle.protocol.proofs.PollLaws.{worked-in, version-under, epoch-under}
@@ -77,160 +77,160 @@ becomes-at : {row new new′ c : List ℕ} {f : ℕ → ℕ} → new′ ≡ new 
 becomes-at {row} {new} {new′} {c} {f} e b = subst (λ (x : List ℕ). Becomes row x f c) (sym e) b
 
 -- ---- a write
-module _ (t : List ℕ) (c r offset : ℕ) (patch : List ℕ) (y : WriteYes t c r offset patch) where
+module _ (t : List ℕ) (a : Writing) (y : WriteYes t a) where
   w : Formed t
   w = formed t (y .first .formed)
 
   s : ℕ → Bool
-  s = workSet Write t c r
+  s = workSet Write t (a .c) (a .r)
 
   p : Poll
-  p = answers t r
+  p = answers t (a .r)
 
   v : ℕ
   v = goodVersion p s + 1
 
-  pub write-used : (i : ℕ) → workSet Write t c r i ≡ true → Within (usedOf t) i
+  pub write-used : (i : ℕ) → workSet Write t (a .c) (a .r) i ≡ true → Within (usedOf t) i
   unfolding workSet
-  write-used i m = answered-used t c r [] (y .first) i (worked-in Write (orderOf t) (answers t r) c (nameOf t c) (has r) i m)
+  write-used i m = answered-used t (a .c) (a .r) [] (y .first) i (worked-in Write (orderOf t) (answers t (a .r)) (a .c) (nameOf t (a .c)) (has (a .r)) i m)
 
   v-fits : v < 256 ^ 4
   unfolding v s p limit
   v-fits = omega (arith, y .room)
 
   unfoldable pub writeTable : List ℕ
-  writeTable = withRows t (workSet Write t c r) (wroteRow (good (answers t r) (workSet Write t c r)) (goodVersion (answers t r) (workSet Write t c r) + 1) offset patch) (usedOf t)
+  writeTable = withRows t (workSet Write t (a .c) (a .r)) (wroteRow (good (answers t (a .r)) (workSet Write t (a .c) (a .r))) (goodVersion (answers t (a .r)) (workSet Write t (a .c) (a .r)) + 1) (a .offset) (a .patch)) (usedOf t)
 
   wrote : (i : ℕ) → Within (usedOf t) i → (b : Bool) → good p s i ≡ b
-      → Becomes (rowBytes t i) (wroteRow (good p s) v offset patch i (rowBytes t i))
+      → Becomes (rowBytes t i) (wroteRow (good p s) v (a .offset) (a .patch) i (rowBytes t i))
       (cond b (changed (fieldsOf (rowBytes t i)) 4 v) (changed (changed (fieldsOf (rowBytes t i)) 3 1) 5 v))
-      (cond b (put offset patch (contents (rowBytes t i))) (contents (rowBytes t i)))
+      (cond b (put (a .offset) (a .patch) (contents (rowBytes t i))) (contents (rowBytes t i)))
   unfolding wroteRow
-  wrote i u true e = rw e (patched-row (rowBytes t i) (long-row t w i u) v offset patch v-fits (omega (arith, row-length t w i u, y .range)))
+  wrote i u true e = rw e (patched-row (rowBytes t i) (long-row t w i u) v (a .offset) (a .patch) v-fits (omega (arith, row-length t w i u, y .range)))
   wrote i u false e = rw e (marked-row (rowBytes t i) (long-row t w i u) v v-fits)
 
-  write-changed : Changed t writeTable (usedOf t) s (wroteRow (good p s) v offset patch)
+  write-changed : Changed t writeTable (usedOf t) s (wroteRow (good p s) v (a .offset) (a .patch))
   unfolding writeTable s p v rowLength fileOf
-  write-changed = many-rows t s (wroteRow (good p s) v offset patch) (usedOf t) (rows-room t w) (λ i u m. wrote i u (good p s i) refl .long ∙ row-length t w i u)
+  write-changed = many-rows t s (wroteRow (good p s) v (a .offset) (a .patch)) (usedOf t) (rows-room t w) (λ i u m. wrote i u (good p s i) refl .long ∙ row-length t w i u)
 
-  pub write-rows : Changed t writeTable (usedOf t) (workSet Write t c r)
-      (wroteRow (good (answers t r) (workSet Write t c r)) (goodVersion (answers t r) (workSet Write t c r) + 1) offset patch)
+  pub write-rows : Changed t writeTable (usedOf t) (workSet Write t (a .c) (a .r))
+      (wroteRow (good (answers t (a .r)) (workSet Write t (a .c) (a .r))) (goodVersion (answers t (a .r)) (workSet Write t (a .c) (a .r)) + 1) (a .offset) (a .patch))
   unfolding s p v
   write-rows = write-changed
 
-  pub write-leaves : Leaves t writeTable (workSet Write t c r)
+  pub write-leaves : Leaves t writeTable (workSet Write t (a .c) (a .r))
   unfolding s changed fieldsOf fieldAt
-  write-leaves = leaves-of t writeTable s (wroteRow (good p s) v offset patch) write-changed (λ i u m. go i u (good p s i) refl)
+  write-leaves = leaves-of t writeTable s (wroteRow (good p s) v (a .offset) (a .patch)) write-changed (λ i u m. go i u (good p s i) refl)
     where
       go : (i : ℕ) → Within (usedOf t) i → (b : Bool) → good p s i ≡ b
-          → (f : ℕ → ℕ) × (d : List ℕ) × Becomes (rowBytes t i) (wroteRow (good p s) v offset patch i (rowBytes t i)) f d × (f 1 ≡ get name (rowBytes t i)) × (f 2 ≡ get link (rowBytes t i))
+          → (f : ℕ → ℕ) × (d : List ℕ) × Becomes (rowBytes t i) (wroteRow (good p s) v (a .offset) (a .patch) i (rowBytes t i)) f d × (f 1 ≡ get name (rowBytes t i)) × (f 2 ≡ get link (rowBytes t i))
       go i u true e = (_, _, wrote i u true e, refl, refl)
       go i u false e = (_, _, wrote i u false e, refl, refl)
 
-  pub write-taken : (i : ℕ) → Within (usedOf t) i → workSet Write t c r i ≡ true → good (answers t r) (workSet Write t c r) i ≡ true
-      → RowBecomes t writeTable i (changed (fieldsOf (rowBytes t i)) 4 (goodVersion (answers t r) (workSet Write t c r) + 1)) (put offset patch (contents (rowBytes t i)))
+  pub write-taken : (i : ℕ) → Within (usedOf t) i → workSet Write t (a .c) (a .r) i ≡ true → good (answers t (a .r)) (workSet Write t (a .c) (a .r)) i ≡ true
+      → RowBecomes t writeTable i (changed (fieldsOf (rowBytes t i)) 4 (goodVersion (answers t (a .r)) (workSet Write t (a .c) (a .r)) + 1)) (put (a .offset) (a .patch) (contents (rowBytes t i)))
   unfolding s p v
   write-taken i u m e = becomes-at (changed-row write-changed i u m) (wrote i u true e)
 
-  pub write-marked : (i : ℕ) → Within (usedOf t) i → workSet Write t c r i ≡ true → good (answers t r) (workSet Write t c r) i ≡ false
-      → RowBecomes t writeTable i (changed (changed (fieldsOf (rowBytes t i)) 3 1) 5 (goodVersion (answers t r) (workSet Write t c r) + 1)) (contents (rowBytes t i))
+  pub write-marked : (i : ℕ) → Within (usedOf t) i → workSet Write t (a .c) (a .r) i ≡ true → good (answers t (a .r)) (workSet Write t (a .c) (a .r)) i ≡ false
+      → RowBecomes t writeTable i (changed (changed (fieldsOf (rowBytes t i)) 3 1) 5 (goodVersion (answers t (a .r)) (workSet Write t (a .c) (a .r)) + 1)) (contents (rowBytes t i))
   unfolding s p v
   write-marked i u m e = becomes-at (changed-row write-changed i u m) (wrote i u false e)
 
 -- ---- a send
-module _ (t : List ℕ) (f to r : ℕ) (y : SendYes t f to r) where
+module _ (t : List ℕ) (a : Sending) (y : SendYes t a) where
   sw : Formed t
   sw = formed t (y .formed)
 
   unfoldable pub sendTable : List ℕ
-  sendTable = withRow t to (refreshedRow (rowBytes t f))
+  sendTable = withRow t (a .t) (refreshedRow (rowBytes t (a .f)))
 
-  refreshed : Becomes (rowBytes t to) (refreshedRow (rowBytes t f) (rowBytes t to))
-      (changed (changed (changed (fieldsOf (rowBytes t to)) 3 0) 4 (versionOf t f)) 5 0) (contents (rowBytes t f))
+  refreshed : Becomes (rowBytes t (a .t)) (refreshedRow (rowBytes t (a .f)) (rowBytes t (a .t)))
+      (changed (changed (changed (fieldsOf (rowBytes t (a .t))) 3 0) 4 (versionOf t (a .f))) 5 0) (contents (rowBytes t (a .f)))
   unfolding versionOf limit
-  refreshed = refreshed-row (rowBytes t to) (long-row t sw to (y .to-used)) (rowBytes t f) (omega (arith, sw .rows f (y .from-used) .small-version))
-      (row-length t sw f (y .from-used) ∙ sym (row-length t sw to (y .to-used)))
+  refreshed = refreshed-row (rowBytes t (a .t)) (long-row t sw (a .t) (y .to-used)) (rowBytes t (a .f)) (omega (arith, sw .rows (a .f) (y .from-used) .small-version))
+      (row-length t sw (a .f) (y .from-used) ∙ sym (row-length t sw (a .t) (y .to-used)))
 
-  pub send-changed : Changed t sendTable (usedOf t) (eqb to) (λ i. refreshedRow (rowBytes t f))
+  pub send-changed : Changed t sendTable (usedOf t) (eqb (a .t)) (λ i. refreshedRow (rowBytes t (a .f)))
   unfolding sendTable rowLength fileOf
-  send-changed = go to (y .to-used) (refreshed .long ∙ row-length t sw to (y .to-used))
+  send-changed = go (a .t) (y .to-used) (refreshed .long ∙ row-length t sw (a .t) (y .to-used))
     where
-      go : (i : ℕ) → Within (usedOf t) i → length (refreshedRow (rowBytes t f) (rowBytes t i)) ≡ 32 + fileOf t
-          → Changed t (withRow t i (refreshedRow (rowBytes t f))) (usedOf t) (eqb i) (λ i. refreshedRow (rowBytes t f))
+      go : (i : ℕ) → Within (usedOf t) i → length (refreshedRow (rowBytes t (a .f)) (rowBytes t i)) ≡ 32 + fileOf t
+          → Changed t (withRow t i (refreshedRow (rowBytes t (a .f)))) (usedOf t) (eqb i) (λ i. refreshedRow (rowBytes t (a .f)))
       go zero u l = absurd (omega arith)
-      go (suc k) u l = one-row t (usedOf t) k (rows-room t sw) (omega arith) (refreshedRow (rowBytes t f)) l
+      go (suc k) u l = one-row t (usedOf t) k (rows-room t sw) (omega arith) (refreshedRow (rowBytes t (a .f))) l
 
-  pub send-target : RowBecomes t sendTable to (changed (changed (changed (fieldsOf (rowBytes t to)) 3 0) 4 (versionOf t f)) 5 0) (contentsOf t f)
+  pub send-target : RowBecomes t sendTable (a .t) (changed (changed (changed (fieldsOf (rowBytes t (a .t))) 3 0) 4 (versionOf t (a .f))) 5 0) (contentsOf t (a .f))
   unfolding contentsOf
-  send-target = becomes-at (changed-row send-changed to (y .to-used) (eq-eqb to to refl)) refreshed
+  send-target = becomes-at (changed-row send-changed (a .t) (y .to-used) (eq-eqb (a .t) (a .t) refl)) refreshed
 
-  pub send-leaves : Leaves t sendTable (eqb to)
+  pub send-leaves : Leaves t sendTable (eqb (a .t))
   unfolding changed fieldsOf fieldAt
-  send-leaves = leaves-of t sendTable (eqb to) (λ i. refreshedRow (rowBytes t f)) send-changed (λ i u m. go i (eqb-true to i m))
+  send-leaves = leaves-of t sendTable (eqb (a .t)) (λ i. refreshedRow (rowBytes t (a .f))) send-changed (λ i u m. go i (eqb-true (a .t) i m))
     where
-      go : (i : ℕ) → to ≡ i
-          → (g : ℕ → ℕ) × (d : List ℕ) × Becomes (rowBytes t i) (refreshedRow (rowBytes t f) (rowBytes t i)) g d × (g 1 ≡ get name (rowBytes t i)) × (g 2 ≡ get link (rowBytes t i))
-      go i e = subst (λ (x : ℕ). (g : ℕ → ℕ) × (d : List ℕ) × Becomes (rowBytes t x) (refreshedRow (rowBytes t f) (rowBytes t x)) g d × (g 1 ≡ get name (rowBytes t x)) × (g 2 ≡ get link (rowBytes t x))) e
+      go : (i : ℕ) → a .t ≡ i
+          → (g : ℕ → ℕ) × (d : List ℕ) × Becomes (rowBytes t i) (refreshedRow (rowBytes t (a .f)) (rowBytes t i)) g d × (g 1 ≡ get name (rowBytes t i)) × (g 2 ≡ get link (rowBytes t i))
+      go i e = subst (λ (x : ℕ). (g : ℕ → ℕ) × (d : List ℕ) × Becomes (rowBytes t x) (refreshedRow (rowBytes t (a .f)) (rowBytes t x)) g d × (g 1 ≡ get name (rowBytes t x)) × (g 2 ≡ get link (rowBytes t x))) e
           (_, _, refreshed, refl, refl)
 
 -- ---- a check that changes the list
-module _ (t : List ℕ) (c r : ℕ) (y : CheckYes t c r) (room : highestEpoch (answers t r) (has r) < limit) where
+module _ (t : List ℕ) (a : Checking) (y : CheckYes t a) (room : highestEpoch (answers t (a .r)) (has (a .r)) < limit) where
   cw : Formed t
   cw = formed t (y .first .formed)
 
   cg : ℕ → Bool
-  cg = good (answers t r) (has r)
+  cg = good (answers t (a .r)) (has (a .r))
 
   cv : ℕ
-  cv = goodVersion (answers t r) (has r)
+  cv = goodVersion (answers t (a .r)) (has (a .r))
 
   ce : ℕ
-  ce = highestEpoch (answers t r) (has r) + 1
+  ce = highestEpoch (answers t (a .r)) (has (a .r)) + 1
 
-  pub check-version : goodVersion (answers t r) (has r) ≤ limit
-  check-version = version-small t c r (y .first) (has r) (λ i m. m)
+  pub check-version : goodVersion (answers t (a .r)) (has (a .r)) ≤ limit
+  check-version = version-small t (a .c) (a .r) (y .first) (has (a .r)) (λ i m. m)
 
   unfoldable pub checkTable : List ℕ
-  checkTable = withRows t (has r) (checkedRow (good (answers t r) (has r)) (goodVersion (answers t r) (has r)) (highestEpoch (answers t r) (has r) + 1) r) (usedOf t)
+  checkTable = withRows t (has (a .r)) (checkedRow (good (answers t (a .r)) (has (a .r))) (goodVersion (answers t (a .r)) (has (a .r))) (highestEpoch (answers t (a .r)) (has (a .r)) + 1) (a .r)) (usedOf t)
 
-  list-fits : r < 256 ^ 8
+  list-fits : a .r < 256 ^ 8
   list-fits =
       let h = header-facts t (cw .header) in
       let few : usedOf t ≤ 64 = omega arith in
       lt-of-lt-of-le (y .first .rows) (pow-mono few)
 
   enrolled : (i : ℕ) → Within (usedOf t) i → (b : Bool) → cg i ≡ b
-      → Becomes (rowBytes t i) (checkedRow cg cv ce r i (rowBytes t i))
-      (changed (changed (cond b (fieldsOf (rowBytes t i)) (changed (changed (fieldsOf (rowBytes t i)) 3 1) 5 cv)) 6 ce) 7 r) (contents (rowBytes t i))
+      → Becomes (rowBytes t i) (checkedRow cg cv ce (a .r) i (rowBytes t i))
+      (changed (changed (cond b (fieldsOf (rowBytes t i)) (changed (changed (fieldsOf (rowBytes t i)) 3 1) 5 cv)) 6 ce) 7 (a .r)) (contents (rowBytes t i))
   unfolding checkedRow cv ce limit
-  enrolled i u true e = rw e (then-enrolled (rowBytes t i) (long-row t cw i u) ce r (omega arith) list-fits (unchanged (rowBytes t i)))
-  enrolled i u false e = rw e (then-enrolled (rowBytes t i) (long-row t cw i u) ce r (omega arith) list-fits (marked-row (rowBytes t i) (long-row t cw i u) cv (omega (arith, check-version))))
+  enrolled i u true e = rw e (then-enrolled (rowBytes t i) (long-row t cw i u) ce (a .r) (omega arith) list-fits (unchanged (rowBytes t i)))
+  enrolled i u false e = rw e (then-enrolled (rowBytes t i) (long-row t cw i u) ce (a .r) (omega arith) list-fits (marked-row (rowBytes t i) (long-row t cw i u) cv (omega (arith, check-version))))
 
-  check-changed : Changed t checkTable (usedOf t) (has r) (checkedRow cg cv ce r)
+  check-changed : Changed t checkTable (usedOf t) (has (a .r)) (checkedRow cg cv ce (a .r))
   unfolding checkTable cg cv ce rowLength fileOf
-  check-changed = many-rows t (has r) (checkedRow cg cv ce r) (usedOf t) (rows-room t cw) (λ i u m. enrolled i u (cg i) refl .long ∙ row-length t cw i u)
+  check-changed = many-rows t (has (a .r)) (checkedRow cg cv ce (a .r)) (usedOf t) (rows-room t cw) (λ i u m. enrolled i u (cg i) refl .long ∙ row-length t cw i u)
 
-  pub check-rows : Changed t checkTable (usedOf t) (has r)
-      (checkedRow (good (answers t r) (has r)) (goodVersion (answers t r) (has r)) (highestEpoch (answers t r) (has r) + 1) r)
+  pub check-rows : Changed t checkTable (usedOf t) (has (a .r))
+      (checkedRow (good (answers t (a .r)) (has (a .r))) (goodVersion (answers t (a .r)) (has (a .r))) (highestEpoch (answers t (a .r)) (has (a .r)) + 1) (a .r))
   unfolding cg cv ce
   check-rows = check-changed
 
-  pub check-leaves : Leaves t checkTable (has r)
+  pub check-leaves : Leaves t checkTable (has (a .r))
   unfolding changed fieldsOf fieldAt
-  check-leaves = leaves-of t checkTable (has r) (checkedRow cg cv ce r) check-changed (λ i u m. go i u (cg i) refl)
+  check-leaves = leaves-of t checkTable (has (a .r)) (checkedRow cg cv ce (a .r)) check-changed (λ i u m. go i u (cg i) refl)
     where
       go : (i : ℕ) → Within (usedOf t) i → (b : Bool) → cg i ≡ b
-          → (f : ℕ → ℕ) × (d : List ℕ) × Becomes (rowBytes t i) (checkedRow cg cv ce r i (rowBytes t i)) f d × (f 1 ≡ get name (rowBytes t i)) × (f 2 ≡ get link (rowBytes t i))
+          → (f : ℕ → ℕ) × (d : List ℕ) × Becomes (rowBytes t i) (checkedRow cg cv ce (a .r) i (rowBytes t i)) f d × (f 1 ≡ get name (rowBytes t i)) × (f 2 ≡ get link (rowBytes t i))
       go i u true e = (_, _, enrolled i u true e, refl, refl)
       go i u false e = (_, _, enrolled i u false e, refl, refl)
 
-  pub check-taken : (i : ℕ) → Within (usedOf t) i → has r i ≡ true → good (answers t r) (has r) i ≡ true
-      → RowBecomes t checkTable i (changed (changed (fieldsOf (rowBytes t i)) 6 (highestEpoch (answers t r) (has r) + 1)) 7 r) (contents (rowBytes t i))
+  pub check-taken : (i : ℕ) → Within (usedOf t) i → has (a .r) i ≡ true → good (answers t (a .r)) (has (a .r)) i ≡ true
+      → RowBecomes t checkTable i (changed (changed (fieldsOf (rowBytes t i)) 6 (highestEpoch (answers t (a .r)) (has (a .r)) + 1)) 7 (a .r)) (contents (rowBytes t i))
   unfolding cg cv ce
   check-taken i u m e = becomes-at (changed-row check-changed i u m) (enrolled i u true e)
 
-  pub check-marked : (i : ℕ) → Within (usedOf t) i → has r i ≡ true → good (answers t r) (has r) i ≡ false
+  pub check-marked : (i : ℕ) → Within (usedOf t) i → has (a .r) i ≡ true → good (answers t (a .r)) (has (a .r)) i ≡ false
       → RowBecomes t checkTable i
-      (changed (changed (changed (changed (fieldsOf (rowBytes t i)) 3 1) 5 (goodVersion (answers t r) (has r))) 6 (highestEpoch (answers t r) (has r) + 1)) 7 r) (contents (rowBytes t i))
+      (changed (changed (changed (changed (fieldsOf (rowBytes t i)) 3 1) 5 (goodVersion (answers t (a .r)) (has (a .r)))) 6 (highestEpoch (answers t (a .r)) (has (a .r)) + 1)) 7 (a .r)) (contents (rowBytes t i))
   unfolding cg cv ce
   check-marked i u m e = becomes-at (changed-row check-changed i u m) (enrolled i u false e)

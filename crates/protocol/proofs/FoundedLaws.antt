@@ -27,27 +27,27 @@ use Rattle.protocol.specs.Calls
 use Rattle.protocol.proofs.QuestionLaws.{yes-first}
 
 -- what the founding's questions settle
-pub record Founds (capacity file : ℕ) (names : List ℕ) : Type 0 where
-  pub some : 1 ≤ length names
-  pub room : length names ≤ capacity
-  pub most : capacity ≤ 64
-  pub bytes : Within 4_096 file
-  pub rising : Calls.namesRise 0 names ≡ true
+pub record Founds (a : Calls.Founding) : Type 0 where
+  pub some : 1 ≤ length (Calls.namesIn (a .names))
+  pub room : length (Calls.namesIn (a .names)) ≤ a .capacity
+  pub most : a .capacity ≤ 64
+  pub bytes : Within 4_096 (a .fileLength)
+  pub rising : Calls.namesRise 0 (Calls.namesIn (a .names)) ≡ true
 
-pub founds-of : (t : List ℕ) (capacity file : ℕ) (names : List ℕ) → Calls.firstNo (Calls.questions t (Calls.founding capacity file names)) ≡ 0 → Founds capacity file (Calls.namesIn names)
+pub founds-of : (t : List ℕ) (a : Calls.Founding) → Calls.firstNo (Calls.questions t (Calls.founding a)) ≡ 0 → Founds a
 unfolding Calls.questions
-founds-of t capacity file names h =
-    let a = yes-first 10 (eqb (length names % 2) 0 && between 1 (length (Calls.namesIn names)) 64 && Calls.namesRise 0 (Calls.namesIn names)) _ h in
-    let b = yes-first 11 (between 1 capacity 64 && leb (length (Calls.namesIn names)) capacity && between 1 file 4_096 && eqb (length t) (16 + capacity * (32 + file))) _ (a .1) in
-    let a1 = and-l (eqb (length names % 2) 0 && between 1 (length (Calls.namesIn names)) 64) _ (a .0) in
-    let b1 = and-l (between 1 capacity 64 && leb (length (Calls.namesIn names)) capacity && between 1 file 4_096) _ (b .0) in
-    let b2 = and-l (between 1 capacity 64 && leb (length (Calls.namesIn names)) capacity) _ b1 in
+founds-of t a h =
+    let x = yes-first 10 (eqb (length (a .names) % 2) 0 && between 1 (length (Calls.namesIn (a .names))) 64 && Calls.namesRise 0 (Calls.namesIn (a .names))) _ h in
+    let b = yes-first 11 (between 1 (a .capacity) 64 && leb (length (Calls.namesIn (a .names))) (a .capacity) && between 1 (a .fileLength) 4_096 && eqb (length t) (16 + a .capacity * (32 + a .fileLength))) _ (x .1) in
+    let a1 = and-l (eqb (length (a .names) % 2) 0 && between 1 (length (Calls.namesIn (a .names))) 64) _ (x .0) in
+    let b1 = and-l (between 1 (a .capacity) 64 && leb (length (Calls.namesIn (a .names))) (a .capacity) && between 1 (a .fileLength) 4_096) _ (b .0) in
+    let b2 = and-l (between 1 (a .capacity) 64 && leb (length (Calls.namesIn (a .names))) (a .capacity)) _ b1 in
     record {
-      some = between-is 1 (length (Calls.namesIn names)) 64 (and-r (eqb (length names % 2) 0) _ a1) .0;
-      room = leb-true _ _ (and-r (between 1 capacity 64) _ b2);
-      most = between-is 1 capacity 64 (and-l _ _ b2) .1;
-      bytes = between-is 1 file 4_096 (and-r (between 1 capacity 64 && leb (length (Calls.namesIn names)) capacity) _ b1);
-      rising = and-r (eqb (length names % 2) 0 && between 1 (length (Calls.namesIn names)) 64) _ (a .0);
+      some = between-is 1 (length (Calls.namesIn (a .names))) 64 (and-r (eqb (length (a .names) % 2) 0) _ a1) .0;
+      room = leb-true _ _ (and-r (between 1 (a .capacity) 64) _ b2);
+      most = between-is 1 (a .capacity) 64 (and-l _ _ b2) .1;
+      bytes = between-is 1 (a .fileLength) 4_096 (and-r (between 1 (a .capacity) 64 && leb (length (Calls.namesIn (a .names))) (a .capacity)) _ b1);
+      rising = and-r (eqb (length (a .names) % 2) 0 && between 1 (length (Calls.namesIn (a .names))) 64) _ (x .0);
     }
 
 -- ---- the pieces
@@ -94,7 +94,16 @@ rows-at n file (x ∷ l) i (suc k) tail h =
     )
     (rows-at n file l (suc i) k tail (le-of-suc-le-suc h) ∙ ap (λ (j : ℕ). Calls.foundedRow n file j (getD l k 0)) q)
 
-module _ (c file : ℕ) (names : List ℕ) (f : Founds c file names) where
+module _ (a : Calls.Founding) (f : Founds a) where
+  abbrev c : ℕ
+  c = a .capacity
+
+  abbrev file : ℕ
+  file = a .fileLength
+
+  abbrev names : List ℕ
+  names = Calls.namesIn (a .names)
+
   n : ℕ
   n = length names
 

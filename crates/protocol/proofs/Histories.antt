@@ -7,6 +7,22 @@ use lib.ListN.{replicate}
 use Rattle.fields.specs.Layout.{rowBytes}
 use Rattle.protocol.specs.Calls.{Call, founding, read, write, send, check, outcome}
 
+-- ---- calls by their arguments, in the order of their fields
+unfoldable pub fo : (capacity fileLength : ℕ) (names : List ℕ) → Call
+fo capacity fileLength names = founding (record { capacity = capacity; fileLength = fileLength; names = names })
+
+unfoldable pub rd : (c r offset count : ℕ) (buffer : List ℕ) → Call
+rd c r offset count buffer = read (record { c = c; r = r; offset = offset; count = count; buffer = buffer })
+
+unfoldable pub wr : (c r offset : ℕ) (patch : List ℕ) → Call
+wr c r offset patch = write (record { c = c; r = r; offset = offset; patch = patch })
+
+unfoldable pub sn : (f t r : ℕ) → Call
+sn f t r = send (record { f = f; t = t; r = r })
+
+unfoldable pub ck : (c r : ℕ) → Call
+ck c r = check (record { c = c; r = r })
+
 pub data Step : Type 0 where
   -- a call is made: its refusal, value and buffer
   Made : Call → (refusal value : ℕ) (buffer : List ℕ) → Step
@@ -15,7 +31,7 @@ pub data Step : Type 0 where
 
 pub record History : Type 0 where
   pub capacity : ℕ
-  pub file : ℕ
+  pub fileLength : ℕ
   pub names : List ℕ
   pub steps : List Step
 
@@ -35,7 +51,7 @@ stepsHold t (Row i bytes ∷ ss) = same (rowBytes t i) bytes && stepsHold t ss
 -- the founding is made on a table of ones, which leave no trace
 unfoldable pub replays : History → Bool
 replays h =
-    let o = outcome (replicate (16 + h .capacity * (32 + h .file)) 1) (founding (h .capacity) (h .file) (h .names)) in
+    let o = outcome (replicate (16 + h .capacity * (32 + h .fileLength)) 1) (fo (h .capacity) (h .fileLength) (h .names)) in
     eqb (o .refusal) 0 && stepsHold (o .table) (h .steps)
 
 unfoldable pub allReplay : List History → Bool
@@ -47,138 +63,138 @@ histories =
     -- the walk of document 01
     record {
       capacity = 4;
-      file = 4;
+      fileLength = 4;
       names = 1 ∷ 0 ∷ 2 ∷ 0 ∷ 3 ∷ 0 ∷ 4 ∷ 0 ∷ [];
       steps =
-          Made (write 1 7 0 (9 ∷ [])) 0 1 [] ∷
-          Made (read 4 12 0 1 (0 ∷ [])) 0 1 (9 ∷ []) ∷
-          Made (write 2 11 0 (8 ∷ [])) 0 2 [] ∷
-          Made (read 4 12 0 1 (0 ∷ [])) 7 0 (0 ∷ []) ∷
-          Made (send 3 4 12) 10 0 [] ∷
-          Made (check 1 11) 0 1 [] ∷
-          Made (write 3 4 0 (7 ∷ [])) 6 0 [] ∷
+          Made (wr 1 7 0 (9 ∷ [])) 0 1 [] ∷
+          Made (rd 4 12 0 1 (0 ∷ [])) 0 1 (9 ∷ []) ∷
+          Made (wr 2 11 0 (8 ∷ [])) 0 2 [] ∷
+          Made (rd 4 12 0 1 (0 ∷ [])) 7 0 (0 ∷ []) ∷
+          Made (sn 3 4 12) 10 0 [] ∷
+          Made (ck 1 11) 0 1 [] ∷
+          Made (wr 3 4 0 (7 ∷ [])) 6 0 [] ∷
           [];
     }
     -- the desired-version test: a read that meets only rows left behind; row bytes
     ∷ record {
       capacity = 5;
-      file = 3;
+      fileLength = 3;
       names = 10 ∷ 0 ∷ 20 ∷ 0 ∷ 30 ∷ 0 ∷ 40 ∷ 0 ∷ [];
       steps =
-          Made (write 1 7 1 (7 ∷ 8 ∷ [])) 0 1 [] ∷
-          Made (write 1 11 0 (9 ∷ [])) 0 2 [] ∷
+          Made (wr 1 7 1 (7 ∷ 8 ∷ [])) 0 1 [] ∷
+          Made (wr 1 11 0 (9 ∷ [])) 0 2 [] ∷
           Row 1 (10 ∷ 0 ∷ 2 ∷ 0 ∷ 2 ∷ 0 ∷ 0 ∷ 0 ∷ 0 ∷ 0 ∷ 0 ∷ 0 ∷ 0 ∷ 0 ∷ 0 ∷ 0 ∷ 15 ∷ 0 ∷ 0 ∷ 0 ∷ 0 ∷ 0 ∷ 0 ∷ 0 ∷ 0 ∷ 0 ∷ 0 ∷ 0 ∷ 0 ∷ 0 ∷ 0 ∷ 0 ∷ 9 ∷ 7 ∷ 8 ∷ []) ∷
           Row 3 (30 ∷ 0 ∷ 4 ∷ 0 ∷ 1 ∷ 0 ∷ 0 ∷ 0 ∷ 0 ∷ 0 ∷ 0 ∷ 0 ∷ 0 ∷ 0 ∷ 0 ∷ 0 ∷ 15 ∷ 0 ∷ 0 ∷ 0 ∷ 0 ∷ 0 ∷ 0 ∷ 0 ∷ 0 ∷ 0 ∷ 0 ∷ 0 ∷ 0 ∷ 0 ∷ 0 ∷ 0 ∷ 0 ∷ 7 ∷ 8 ∷ []) ∷
           Row 4 (40 ∷ 0 ∷ 0 ∷ 1 ∷ 0 ∷ 0 ∷ 0 ∷ 0 ∷ 2 ∷ 0 ∷ 0 ∷ 0 ∷ 0 ∷ 0 ∷ 0 ∷ 0 ∷ 15 ∷ 0 ∷ 0 ∷ 0 ∷ 0 ∷ 0 ∷ 0 ∷ 0 ∷ 0 ∷ 0 ∷ 0 ∷ 0 ∷ 0 ∷ 0 ∷ 0 ∷ 0 ∷ 0 ∷ 0 ∷ 0 ∷ []) ∷
-          Made (read 3 12 0 1 (5 ∷ [])) 7 0 (5 ∷ []) ∷
-          Made (read 2 15 0 3 (0 ∷ 0 ∷ 0 ∷ [])) 0 2 (9 ∷ 7 ∷ 8 ∷ []) ∷
+          Made (rd 3 12 0 1 (5 ∷ [])) 7 0 (5 ∷ []) ∷
+          Made (rd 2 15 0 3 (0 ∷ 0 ∷ 0 ∷ [])) 0 2 (9 ∷ 7 ∷ 8 ∷ []) ∷
           [];
     }
     -- a send wants the desired version too; a good send; its value
     ∷ record {
       capacity = 4;
-      file = 2;
+      fileLength = 2;
       names = 10 ∷ 0 ∷ 20 ∷ 0 ∷ 30 ∷ 0 ∷ 40 ∷ 0 ∷ [];
       steps =
-          Made (write 1 7 0 (1 ∷ [])) 0 1 [] ∷
-          Made (write 1 11 1 (2 ∷ [])) 0 2 [] ∷
-          Made (send 3 4 12) 10 0 [] ∷
-          Made (read 3 12 0 2 (0 ∷ 0 ∷ [])) 7 0 (0 ∷ 0 ∷ []) ∷
-          Made (send 3 1 5) 10 0 [] ∷
-          Made (send 1 4 9) 0 2 [] ∷
+          Made (wr 1 7 0 (1 ∷ [])) 0 1 [] ∷
+          Made (wr 1 11 1 (2 ∷ [])) 0 2 [] ∷
+          Made (sn 3 4 12) 10 0 [] ∷
+          Made (rd 3 12 0 2 (0 ∷ 0 ∷ [])) 7 0 (0 ∷ 0 ∷ []) ∷
+          Made (sn 3 1 5) 10 0 [] ∷
+          Made (sn 1 4 9) 0 2 [] ∷
           Row 4 (40 ∷ 0 ∷ 0 ∷ 0 ∷ 2 ∷ 0 ∷ 0 ∷ 0 ∷ 0 ∷ 0 ∷ 0 ∷ 0 ∷ 0 ∷ 0 ∷ 0 ∷ 0 ∷ 15 ∷ 0 ∷ 0 ∷ 0 ∷ 0 ∷ 0 ∷ 0 ∷ 0 ∷ 0 ∷ 0 ∷ 0 ∷ 0 ∷ 0 ∷ 0 ∷ 0 ∷ 0 ∷ 1 ∷ 2 ∷ []) ∷
-          Made (send 1 4 9) 10 0 [] ∷
-          Made (send 4 4 8) 2 0 [] ∷
-          Made (send 1 4 1) 3 0 [] ∷
-          Made (read 3 12 0 2 (0 ∷ 0 ∷ [])) 0 2 (1 ∷ 2 ∷ []) ∷
+          Made (sn 1 4 9) 10 0 [] ∷
+          Made (sn 4 4 8) 2 0 [] ∷
+          Made (sn 1 4 1) 3 0 [] ∷
+          Made (rd 3 12 0 2 (0 ∷ 0 ∷ [])) 0 2 (1 ∷ 2 ∷ []) ∷
           [];
     }
     -- a check marks the rows that are not good
     ∷ record {
       capacity = 4;
-      file = 2;
+      fileLength = 2;
       names = 10 ∷ 0 ∷ 20 ∷ 0 ∷ 30 ∷ 0 ∷ 40 ∷ 0 ∷ [];
       steps =
-          Made (check 1 7) 0 1 [] ∷
-          Made (write 1 3 0 (4 ∷ [])) 0 1 [] ∷
-          Made (check 2 14) 0 2 [] ∷
+          Made (ck 1 7) 0 1 [] ∷
+          Made (wr 1 3 0 (4 ∷ [])) 0 1 [] ∷
+          Made (ck 2 14) 0 2 [] ∷
           Row 3 (30 ∷ 0 ∷ 4 ∷ 1 ∷ 0 ∷ 0 ∷ 0 ∷ 0 ∷ 1 ∷ 0 ∷ 0 ∷ 0 ∷ 2 ∷ 0 ∷ 0 ∷ 0 ∷ 14 ∷ 0 ∷ 0 ∷ 0 ∷ 0 ∷ 0 ∷ 0 ∷ 0 ∷ 0 ∷ 0 ∷ 0 ∷ 0 ∷ 0 ∷ 0 ∷ 0 ∷ 0 ∷ 0 ∷ 0 ∷ []) ∷
           Row 2 (20 ∷ 0 ∷ 3 ∷ 0 ∷ 1 ∷ 0 ∷ 0 ∷ 0 ∷ 0 ∷ 0 ∷ 0 ∷ 0 ∷ 2 ∷ 0 ∷ 0 ∷ 0 ∷ 14 ∷ 0 ∷ 0 ∷ 0 ∷ 0 ∷ 0 ∷ 0 ∷ 0 ∷ 0 ∷ 0 ∷ 0 ∷ 0 ∷ 0 ∷ 0 ∷ 0 ∷ 0 ∷ 4 ∷ 0 ∷ []) ∷
-          Made (read 3 12 0 1 (0 ∷ [])) 7 0 (0 ∷ []) ∷
-          Made (check 2 14) 0 2 [] ∷
+          Made (rd 3 12 0 1 (0 ∷ [])) 7 0 (0 ∷ []) ∷
+          Made (ck 2 14) 0 2 [] ∷
           [];
     }
     -- the own choice: P is {1, 2}, so row 3 does not take the write
     ∷ record {
       capacity = 3;
-      file = 1;
+      fileLength = 1;
       names = 10 ∷ 0 ∷ 20 ∷ 0 ∷ 30 ∷ 0 ∷ [];
       steps =
-          Made (check 1 3) 0 1 [] ∷
-          Made (write 1 7 0 (6 ∷ [])) 0 1 [] ∷
+          Made (ck 1 3) 0 1 [] ∷
+          Made (wr 1 7 0 (6 ∷ [])) 0 1 [] ∷
           Row 3 (30 ∷ 0 ∷ 0 ∷ 0 ∷ 0 ∷ 0 ∷ 0 ∷ 0 ∷ 0 ∷ 0 ∷ 0 ∷ 0 ∷ 0 ∷ 0 ∷ 0 ∷ 0 ∷ 7 ∷ 0 ∷ 0 ∷ 0 ∷ 0 ∷ 0 ∷ 0 ∷ 0 ∷ 0 ∷ 0 ∷ 0 ∷ 0 ∷ 0 ∷ 0 ∷ 0 ∷ 0 ∷ 0 ∷ []) ∷
-          Made (write 3 6 0 (1 ∷ [])) 6 0 [] ∷
+          Made (wr 3 6 0 (1 ∷ [])) 6 0 [] ∷
           [];
     }
     -- m rows are not wanted of a short column
     ∷ record {
       capacity = 3;
-      file = 1;
+      fileLength = 1;
       names = 10 ∷ 0 ∷ 20 ∷ 0 ∷ 30 ∷ 0 ∷ [];
       steps =
-          Made (write 1 3 0 (5 ∷ [])) 0 1 [] ∷
-          Made (read 1 3 0 1 (0 ∷ [])) 0 1 (5 ∷ []) ∷
-          Made (read 1 5 0 1 (0 ∷ [])) 6 0 (0 ∷ []) ∷
+          Made (wr 1 3 0 (5 ∷ [])) 0 1 [] ∷
+          Made (rd 1 3 0 1 (0 ∷ [])) 0 1 (5 ∷ []) ∷
+          Made (rd 1 5 0 1 (0 ∷ [])) 6 0 (0 ∷ []) ∷
           [];
     }
     -- the list in force answers, and a read is refused all the same
     ∷ record {
       capacity = 4;
-      file = 1;
+      fileLength = 1;
       names = 1 ∷ 0 ∷ 2 ∷ 0 ∷ 3 ∷ 0 ∷ 4 ∷ 0 ∷ [];
       steps =
-          Made (write 1 7 0 (1 ∷ [])) 0 1 [] ∷
-          Made (write 1 11 0 (2 ∷ [])) 0 2 [] ∷
-          Made (check 1 13) 0 1 [] ∷
-          Made (write 2 14 0 (3 ∷ [])) 0 3 [] ∷
-          Made (read 1 13 0 1 (0 ∷ [])) 7 0 (0 ∷ []) ∷
+          Made (wr 1 7 0 (1 ∷ [])) 0 1 [] ∷
+          Made (wr 1 11 0 (2 ∷ [])) 0 2 [] ∷
+          Made (ck 1 13) 0 1 [] ∷
+          Made (wr 2 14 0 (3 ∷ [])) 0 3 [] ∷
+          Made (rd 1 13 0 1 (0 ∷ [])) 7 0 (0 ∷ []) ∷
           [];
     }
     -- the early questions, in their order; ranges at the end of the file
     ∷ record {
       capacity = 2;
-      file = 2;
+      fileLength = 2;
       names = 2 ∷ 1 ∷ 3 ∷ 2 ∷ [];
       steps =
-          Made (read 3 3 0 1 (0 ∷ [])) 2 0 (0 ∷ []) ∷
-          Made (read 1 7 0 1 (0 ∷ [])) 2 0 (0 ∷ []) ∷
-          Made (read 1 2 0 1 (0 ∷ [])) 3 0 (0 ∷ []) ∷
-          Made (read 1 3 1 2 (0 ∷ [])) 4 0 (0 ∷ []) ∷
-          Made (read 1 3 0 0 (0 ∷ [])) 4 0 (0 ∷ []) ∷
-          Made (read 1 3 0 1 (0 ∷ 0 ∷ [])) 5 0 (0 ∷ 0 ∷ []) ∷
-          Made (write 1 3 2 (1 ∷ [])) 4 0 [] ∷
-          Made (write 2 3 1 (3 ∷ [])) 0 1 [] ∷
-          Made (read 2 3 1 1 (0 ∷ [])) 0 1 (3 ∷ []) ∷
+          Made (rd 3 3 0 1 (0 ∷ [])) 2 0 (0 ∷ []) ∷
+          Made (rd 1 7 0 1 (0 ∷ [])) 2 0 (0 ∷ []) ∷
+          Made (rd 1 2 0 1 (0 ∷ [])) 3 0 (0 ∷ []) ∷
+          Made (rd 1 3 1 2 (0 ∷ [])) 4 0 (0 ∷ []) ∷
+          Made (rd 1 3 0 0 (0 ∷ [])) 4 0 (0 ∷ []) ∷
+          Made (rd 1 3 0 1 (0 ∷ 0 ∷ [])) 5 0 (0 ∷ 0 ∷ []) ∷
+          Made (wr 1 3 2 (1 ∷ [])) 4 0 [] ∷
+          Made (wr 2 3 1 (3 ∷ [])) 0 1 [] ∷
+          Made (rd 2 3 1 1 (0 ∷ [])) 0 1 (3 ∷ []) ∷
           Row 2 (3 ∷ 2 ∷ 0 ∷ 0 ∷ 1 ∷ 0 ∷ 0 ∷ 0 ∷ 0 ∷ 0 ∷ 0 ∷ 0 ∷ 0 ∷ 0 ∷ 0 ∷ 0 ∷ 3 ∷ 0 ∷ 0 ∷ 0 ∷ 0 ∷ 0 ∷ 0 ∷ 0 ∷ 0 ∷ 0 ∷ 0 ∷ 0 ∷ 0 ∷ 0 ∷ 0 ∷ 0 ∷ 0 ∷ 3 ∷ []) ∷
-          Made (write 1 3 0 []) 4 0 [] ∷
-          Made (check 1 3) 0 0 [] ∷
+          Made (wr 1 3 0 []) 4 0 [] ∷
+          Made (ck 1 3) 0 0 [] ∷
           [];
     }
     -- six machines whose names are not their indexes: choices go by the name
     ∷ record {
       capacity = 6;
-      file = 1;
+      fileLength = 1;
       names = 9 ∷ 0 ∷ 10 ∷ 0 ∷ 12 ∷ 0 ∷ 16 ∷ 0 ∷ 20 ∷ 0 ∷ 25 ∷ 0 ∷ [];
       steps =
-          Made (write 1 63 0 (1 ∷ [])) 0 1 [] ∷
+          Made (wr 1 63 0 (1 ∷ [])) 0 1 [] ∷
           Row 1 (9 ∷ 0 ∷ 2 ∷ 0 ∷ 1 ∷ 0 ∷ 0 ∷ 0 ∷ 0 ∷ 0 ∷ 0 ∷ 0 ∷ 0 ∷ 0 ∷ 0 ∷ 0 ∷ 63 ∷ 0 ∷ 0 ∷ 0 ∷ 0 ∷ 0 ∷ 0 ∷ 0 ∷ 0 ∷ 0 ∷ 0 ∷ 0 ∷ 0 ∷ 0 ∷ 0 ∷ 0 ∷ 1 ∷ []) ∷
           Row 2 (10 ∷ 0 ∷ 3 ∷ 0 ∷ 0 ∷ 0 ∷ 0 ∷ 0 ∷ 0 ∷ 0 ∷ 0 ∷ 0 ∷ 0 ∷ 0 ∷ 0 ∷ 0 ∷ 63 ∷ 0 ∷ 0 ∷ 0 ∷ 0 ∷ 0 ∷ 0 ∷ 0 ∷ 0 ∷ 0 ∷ 0 ∷ 0 ∷ 0 ∷ 0 ∷ 0 ∷ 0 ∷ 0 ∷ []) ∷
           Row 3 (12 ∷ 0 ∷ 4 ∷ 0 ∷ 0 ∷ 0 ∷ 0 ∷ 0 ∷ 0 ∷ 0 ∷ 0 ∷ 0 ∷ 0 ∷ 0 ∷ 0 ∷ 0 ∷ 63 ∷ 0 ∷ 0 ∷ 0 ∷ 0 ∷ 0 ∷ 0 ∷ 0 ∷ 0 ∷ 0 ∷ 0 ∷ 0 ∷ 0 ∷ 0 ∷ 0 ∷ 0 ∷ 0 ∷ []) ∷
           Row 4 (16 ∷ 0 ∷ 5 ∷ 0 ∷ 1 ∷ 0 ∷ 0 ∷ 0 ∷ 0 ∷ 0 ∷ 0 ∷ 0 ∷ 0 ∷ 0 ∷ 0 ∷ 0 ∷ 63 ∷ 0 ∷ 0 ∷ 0 ∷ 0 ∷ 0 ∷ 0 ∷ 0 ∷ 0 ∷ 0 ∷ 0 ∷ 0 ∷ 0 ∷ 0 ∷ 0 ∷ 0 ∷ 1 ∷ []) ∷
           Row 5 (20 ∷ 0 ∷ 6 ∷ 0 ∷ 1 ∷ 0 ∷ 0 ∷ 0 ∷ 0 ∷ 0 ∷ 0 ∷ 0 ∷ 0 ∷ 0 ∷ 0 ∷ 0 ∷ 63 ∷ 0 ∷ 0 ∷ 0 ∷ 0 ∷ 0 ∷ 0 ∷ 0 ∷ 0 ∷ 0 ∷ 0 ∷ 0 ∷ 0 ∷ 0 ∷ 0 ∷ 0 ∷ 1 ∷ []) ∷
           Row 6 (25 ∷ 0 ∷ 0 ∷ 0 ∷ 1 ∷ 0 ∷ 0 ∷ 0 ∷ 0 ∷ 0 ∷ 0 ∷ 0 ∷ 0 ∷ 0 ∷ 0 ∷ 0 ∷ 63 ∷ 0 ∷ 0 ∷ 0 ∷ 0 ∷ 0 ∷ 0 ∷ 0 ∷ 0 ∷ 0 ∷ 0 ∷ 0 ∷ 0 ∷ 0 ∷ 0 ∷ 0 ∷ 1 ∷ []) ∷
-          Made (read 2 63 0 1 (0 ∷ [])) 0 1 (1 ∷ []) ∷
-          Made (write 5 63 0 (2 ∷ [])) 0 2 [] ∷
+          Made (rd 2 63 0 1 (0 ∷ [])) 0 1 (1 ∷ []) ∷
+          Made (wr 5 63 0 (2 ∷ [])) 0 2 [] ∷
           Row 4 (16 ∷ 0 ∷ 5 ∷ 0 ∷ 1 ∷ 0 ∷ 0 ∷ 0 ∷ 0 ∷ 0 ∷ 0 ∷ 0 ∷ 0 ∷ 0 ∷ 0 ∷ 0 ∷ 63 ∷ 0 ∷ 0 ∷ 0 ∷ 0 ∷ 0 ∷ 0 ∷ 0 ∷ 0 ∷ 0 ∷ 0 ∷ 0 ∷ 0 ∷ 0 ∷ 0 ∷ 0 ∷ 1 ∷ []) ∷
           Row 5 (20 ∷ 0 ∷ 6 ∷ 0 ∷ 1 ∷ 0 ∷ 0 ∷ 0 ∷ 0 ∷ 0 ∷ 0 ∷ 0 ∷ 0 ∷ 0 ∷ 0 ∷ 0 ∷ 63 ∷ 0 ∷ 0 ∷ 0 ∷ 0 ∷ 0 ∷ 0 ∷ 0 ∷ 0 ∷ 0 ∷ 0 ∷ 0 ∷ 0 ∷ 0 ∷ 0 ∷ 0 ∷ 1 ∷ []) ∷
           Row 6 (25 ∷ 0 ∷ 0 ∷ 0 ∷ 2 ∷ 0 ∷ 0 ∷ 0 ∷ 0 ∷ 0 ∷ 0 ∷ 0 ∷ 0 ∷ 0 ∷ 0 ∷ 0 ∷ 63 ∷ 0 ∷ 0 ∷ 0 ∷ 0 ∷ 0 ∷ 0 ∷ 0 ∷ 0 ∷ 0 ∷ 0 ∷ 0 ∷ 0 ∷ 0 ∷ 0 ∷ 0 ∷ 2 ∷ []) ∷
@@ -187,27 +203,27 @@ histories =
     -- a marked row is no sender
     ∷ record {
       capacity = 4;
-      file = 1;
+      fileLength = 1;
       names = 10 ∷ 0 ∷ 20 ∷ 0 ∷ 30 ∷ 0 ∷ 40 ∷ 0 ∷ [];
       steps =
-          Made (write 4 15 0 (1 ∷ [])) 0 1 [] ∷
-          Made (check 2 11) 0 1 [] ∷
-          Made (write 2 7 0 (2 ∷ [])) 0 2 [] ∷
-          Made (write 3 15 0 (3 ∷ [])) 0 3 [] ∷
+          Made (wr 4 15 0 (1 ∷ [])) 0 1 [] ∷
+          Made (ck 2 11) 0 1 [] ∷
+          Made (wr 2 7 0 (2 ∷ [])) 0 2 [] ∷
+          Made (wr 3 15 0 (3 ∷ [])) 0 3 [] ∷
           Row 3 (30 ∷ 0 ∷ 4 ∷ 1 ∷ 1 ∷ 0 ∷ 0 ∷ 0 ∷ 3 ∷ 0 ∷ 0 ∷ 0 ∷ 0 ∷ 0 ∷ 0 ∷ 0 ∷ 15 ∷ 0 ∷ 0 ∷ 0 ∷ 0 ∷ 0 ∷ 0 ∷ 0 ∷ 0 ∷ 0 ∷ 0 ∷ 0 ∷ 0 ∷ 0 ∷ 0 ∷ 0 ∷ 1 ∷ []) ∷
           Row 4 (40 ∷ 0 ∷ 0 ∷ 1 ∷ 0 ∷ 0 ∷ 0 ∷ 0 ∷ 1 ∷ 0 ∷ 0 ∷ 0 ∷ 1 ∷ 0 ∷ 0 ∷ 0 ∷ 11 ∷ 0 ∷ 0 ∷ 0 ∷ 0 ∷ 0 ∷ 0 ∷ 0 ∷ 0 ∷ 0 ∷ 0 ∷ 0 ∷ 0 ∷ 0 ∷ 0 ∷ 0 ∷ 0 ∷ []) ∷
-          Made (send 3 4 12) 9 0 [] ∷
+          Made (sn 3 4 12) 9 0 [] ∷
           [];
     }
     -- a check wants a write quorum
     ∷ record {
       capacity = 4;
-      file = 1;
+      fileLength = 1;
       names = 10 ∷ 0 ∷ 20 ∷ 0 ∷ 30 ∷ 0 ∷ 40 ∷ 0 ∷ [];
       steps =
-          Made (check 1 3) 6 0 [] ∷
-          Made (read 1 3 0 1 (9 ∷ [])) 0 0 (0 ∷ []) ∷
-          Made (check 1 7) 0 1 [] ∷
+          Made (ck 1 3) 6 0 [] ∷
+          Made (rd 1 3 0 1 (9 ∷ [])) 0 0 (0 ∷ []) ∷
+          Made (ck 1 7) 0 1 [] ∷
           [];
     }
     ∷ []

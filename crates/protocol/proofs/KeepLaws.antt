@@ -15,7 +15,7 @@ use Rattle.fields.specs.Layout.{get, name, link, desired, epoch, members, rowBy
 use Rattle.table.specs.WellFormed.{limit}
 use Rattle.table.proofs.FormLaws.{RowFacts, Formed, formed, header-facts}
 use Rattle.protocol.specs.Polls.{polled, highestEpoch, goodVersion, good, current}
-use Rattle.protocol.specs.Calls.{answers, workSet}
+use Rattle.protocol.specs.Calls.{Writing, Sending, Checking, answers, workSet}
 use Rattle.protocol.proofs.RowLaws.{fieldAt, Becomes, fieldsOf, changed}
 use Rattle.protocol.proofs.PollLaws.{good-at, good-of, version-le, current-desired, worked-in}
 use Rattle.protocol.proofs.FrameLaws.{same-used, same-header, same-long, same-visits, same-rise, zero-stays}
@@ -105,25 +105,25 @@ module _ (t : List ℕ) (r : ℕ) (s : ℕ → Bool) (w : Formed t) (sub : (i : 
   good-clean i m g = rw (sub i m) at (good-at (answers t r) s i g .clean)
 
 -- ---- a write
-module _ (t : List ℕ) (c r offset : ℕ) (patch : List ℕ) (y : WriteYes t c r offset patch) where
+module _ (t : List ℕ) (a : Writing) (y : WriteYes t a) where
   ww : Formed t
   ww = formed t (y .first .formed)
 
-  write-sub : (i : ℕ) → workSet Write t c r i ≡ true → has r i ≡ true
+  write-sub : (i : ℕ) → workSet Write t (a .c) (a .r) i ≡ true → has (a .r) i ≡ true
   unfolding workSet
-  write-sub i m = worked-in Write _ (answers t r) c _ (has r) i m
+  write-sub i m = worked-in Write _ (answers t (a .r)) (a .c) _ (has (a .r)) i m
 
-  write-facts : (i : ℕ) → Within (usedOf t) i → workSet Write t c r i ≡ true → RowFacts (usedOf t) i (rowBytes (writeTable t c r offset patch y) i)
+  write-facts : (i : ℕ) → Within (usedOf t) i → workSet Write t (a .c) (a .r) i ≡ true → RowFacts (usedOf t) i (rowBytes (writeTable t a y) i)
   unfolding changed fieldsOf fieldAt staleOf versionOf
-  write-facts i u m = go (good (answers t r) (workSet Write t c r) i) refl
+  write-facts i u m = go (good (answers t (a .r)) (workSet Write t (a .c) (a .r)) i) refl
     where
       f : RowFacts (usedOf t) i (rowBytes t i)
       f = ww .rows i u
 
-      go : (b : Bool) → good (answers t r) (workSet Write t c r) i ≡ b → RowFacts (usedOf t) i (rowBytes (writeTable t c r offset patch y) i)
+      go : (b : Bool) → good (answers t (a .r)) (workSet Write t (a .c) (a .r)) i ≡ b → RowFacts (usedOf t) i (rowBytes (writeTable t a y) i)
       go true g =
-          let z = good-clean t r (workSet Write t c r) ww write-sub (write-used t c r offset patch y) (y .current) i m g in
-          facts-after f (write-taken t c r offset patch y i u m g) refl refl (record {
+          let z = good-clean t (a .r) (workSet Write t (a .c) (a .r)) ww write-sub (write-used t a y) (y .current) i m g in
+          facts-after f (write-taken t a y i u m g) refl refl (record {
             flag = f .flag;
             small-version = omega (arith, y .room);
             small-desired = f .small-desired;
@@ -134,8 +134,8 @@ module _ (t : List ℕ) (c r offset : ℕ) (patch : List ℕ) (y : WriteYes t c 
             own = f .own;
           })
       go false g =
-          let l = version-at t r (workSet Write t c r) ww write-sub (write-used t c r offset patch y) (y .current) i m in
-          facts-after f (write-marked t c r offset patch y i u m g) refl refl (record {
+          let l = version-at t (a .r) (workSet Write t (a .c) (a .r)) ww write-sub (write-used t a y) (y .current) i m in
+          facts-after f (write-marked t a y i u m g) refl refl (record {
             flag = omega arith;
             small-version = f .small-version;
             small-desired = omega (arith, y .room);
@@ -148,80 +148,80 @@ module _ (t : List ℕ) (c r offset : ℕ) (patch : List ℕ) (y : WriteYes t c 
 
   -- epochs and lists stay
   pub write-membership : (i : ℕ) → Within (usedOf t) i
-      → (epochOf (writeTable t c r offset patch y) i ≡ epochOf t i) × (membersOf (writeTable t c r offset patch y) i ≡ membersOf t i)
+      → (epochOf (writeTable t a y) i ≡ epochOf t i) × (membersOf (writeTable t a y) i ≡ membersOf t i)
   unfolding changed fieldsOf fieldAt epochOf membersOf
-  write-membership i u = go (workSet Write t c r i) refl (good (answers t r) (workSet Write t c r) i) refl
+  write-membership i u = go (workSet Write t (a .c) (a .r) i) refl (good (answers t (a .r)) (workSet Write t (a .c) (a .r)) i) refl
     where
       new : List ℕ
-      new = rowBytes (writeTable t c r offset patch y) i
+      new = rowBytes (writeTable t a y) i
 
-      go : (a : Bool) → workSet Write t c r i ≡ a → (b : Bool) → good (answers t r) (workSet Write t c r) i ≡ b
+      go : (x : Bool) → workSet Write t (a .c) (a .r) i ≡ x → (b : Bool) → good (answers t (a .r)) (workSet Write t (a .c) (a .r)) i ≡ b
           → (get epoch new ≡ get epoch (rowBytes t i)) × (get members new ≡ get members (rowBytes t i))
-      go false m b g = let e = write-leaves t c r offset patch y .out i u m in (ap (get epoch) e, ap (get members) e)
-      go true m true g = let e = write-taken t c r offset patch y i u m g .fields in (e 6 (omega arith), e 7 (omega arith))
-      go true m false g = let e = write-marked t c r offset patch y i u m g .fields in (e 6 (omega arith), e 7 (omega arith))
+      go false m b g = let e = write-leaves t a y .out i u m in (ap (get epoch) e, ap (get members) e)
+      go true m true g = let e = write-taken t a y i u m g .fields in (e 6 (omega arith), e 7 (omega arith))
+      go true m false g = let e = write-marked t a y i u m g .fields in (e 6 (omega arith), e 7 (omega arith))
 
-  pub write-formed : Formed (writeTable t c r offset patch y)
+  pub write-formed : Formed (writeTable t a y)
   unfolding epochOf membersOf
-  write-formed = keep-formed ww (write-leaves t c r offset patch y) write-facts (λ i j u v e.
-      let a = write-membership i u in
+  write-formed = keep-formed ww (write-leaves t a y) write-facts (λ i j u v e.
+      let x = write-membership i u in
       let b = write-membership j v in
-      a .1 ∙ ww .agree i j u v (sym (a .0) ∙ e ∙ b .0) ∙ sym (b .1))
+      x .1 ∙ ww .agree i j u v (sym (x .0) ∙ e ∙ b .0) ∙ sym (b .1))
 
 -- ---- a send
-module _ (t : List ℕ) (f to r : ℕ) (y : SendYes t f to r) where
+module _ (t : List ℕ) (a : Sending) (y : SendYes t a) where
   sw : Formed t
   sw = formed t (y .formed)
 
-  send-facts : (i : ℕ) → Within (usedOf t) i → eqb to i ≡ true → RowFacts (usedOf t) i (rowBytes (sendTable t f to r y) i)
+  send-facts : (i : ℕ) → Within (usedOf t) i → eqb (a .t) i ≡ true → RowFacts (usedOf t) i (rowBytes (sendTable t a y) i)
   unfolding changed fieldsOf fieldAt versionOf limit
-  send-facts i u m = subst (λ (x : ℕ). RowFacts (usedOf t) x (rowBytes (sendTable t f to r y) x)) (eqb-true to i m)
-      (facts-after (sw .rows to (y .to-used)) (send-target t f to r y) refl refl (record {
+  send-facts i u m = subst (λ (x : ℕ). RowFacts (usedOf t) x (rowBytes (sendTable t a y) x)) (eqb-true (a .t) i m)
+      (facts-after (sw .rows (a .t) (y .to-used)) (send-target t a y) refl refl (record {
         flag = omega arith;
-        small-version = sw .rows f (y .from-used) .small-version;
+        small-version = sw .rows (a .f) (y .from-used) .small-version;
         small-desired = omega arith;
-        small-epoch = sw .rows to (y .to-used) .small-epoch;
+        small-epoch = sw .rows (a .t) (y .to-used) .small-epoch;
         behind = λ e. absurd (clash e);
         level = λ e. refl;
-        only = sw .rows to (y .to-used) .only;
-        own = sw .rows to (y .to-used) .own;
+        only = sw .rows (a .t) (y .to-used) .only;
+        own = sw .rows (a .t) (y .to-used) .own;
       }))
 
   pub send-membership : (i : ℕ) → Within (usedOf t) i
-      → (epochOf (sendTable t f to r y) i ≡ epochOf t i) × (membersOf (sendTable t f to r y) i ≡ membersOf t i)
+      → (epochOf (sendTable t a y) i ≡ epochOf t i) × (membersOf (sendTable t a y) i ≡ membersOf t i)
   unfolding changed fieldsOf fieldAt epochOf membersOf
-  send-membership i u = go (eqb to i) refl
+  send-membership i u = go (eqb (a .t) i) refl
     where
-      go : (a : Bool) → eqb to i ≡ a
-          → (get epoch (rowBytes (sendTable t f to r y) i) ≡ get epoch (rowBytes t i)) × (get members (rowBytes (sendTable t f to r y) i) ≡ get members (rowBytes t i))
-      go false m = let e = send-leaves t f to r y .out i u m in (ap (get epoch) e, ap (get members) e)
-      go true m = subst (λ (x : ℕ). (get epoch (rowBytes (sendTable t f to r y) x) ≡ get epoch (rowBytes t x)) × (get members (rowBytes (sendTable t f to r y) x) ≡ get members (rowBytes t x))) (eqb-true to i m)
-          (let e = send-target t f to r y .fields in (e 6 (omega arith), e 7 (omega arith)))
+      go : (x : Bool) → eqb (a .t) i ≡ x
+          → (get epoch (rowBytes (sendTable t a y) i) ≡ get epoch (rowBytes t i)) × (get members (rowBytes (sendTable t a y) i) ≡ get members (rowBytes t i))
+      go false m = let e = send-leaves t a y .out i u m in (ap (get epoch) e, ap (get members) e)
+      go true m = subst (λ (x : ℕ). (get epoch (rowBytes (sendTable t a y) x) ≡ get epoch (rowBytes t x)) × (get members (rowBytes (sendTable t a y) x) ≡ get members (rowBytes t x))) (eqb-true (a .t) i m)
+          (let e = send-target t a y .fields in (e 6 (omega arith), e 7 (omega arith)))
 
-  pub send-formed : Formed (sendTable t f to r y)
+  pub send-formed : Formed (sendTable t a y)
   unfolding epochOf membersOf
-  send-formed = keep-formed sw (send-leaves t f to r y) send-facts (λ i j u v e.
-      let a = send-membership i u in
+  send-formed = keep-formed sw (send-leaves t a y) send-facts (λ i j u v e.
+      let x = send-membership i u in
       let b = send-membership j v in
-      a .1 ∙ sw .agree i j u v (sym (a .0) ∙ e ∙ b .0) ∙ sym (b .1))
+      x .1 ∙ sw .agree i j u v (sym (x .0) ∙ e ∙ b .0) ∙ sym (b .1))
 
 -- ---- a check that changes the list
-module _ (t : List ℕ) (c r : ℕ) (y : CheckYes t c r) (room : highestEpoch (answers t r) (has r) < limit) (cur : current (answers t r) (has r) ≡ true) where
+module _ (t : List ℕ) (a : Checking) (y : CheckYes t a) (room : highestEpoch (answers t (a .r)) (has (a .r)) < limit) (cur : current (answers t (a .r)) (has (a .r)) ≡ true) where
   chw : Formed t
   chw = formed t (y .first .formed)
 
-  check-used : (i : ℕ) → has r i ≡ true → Within (usedOf t) i
-  check-used = answered-used t c r [] (y .first)
+  check-used : (i : ℕ) → has (a .r) i ≡ true → Within (usedOf t) i
+  check-used = answered-used t (a .c) (a .r) [] (y .first)
 
-  check-facts : (i : ℕ) → Within (usedOf t) i → has r i ≡ true → RowFacts (usedOf t) i (rowBytes (checkTable t c r y room) i)
+  check-facts : (i : ℕ) → Within (usedOf t) i → has (a .r) i ≡ true → RowFacts (usedOf t) i (rowBytes (checkTable t a y room) i)
   unfolding changed fieldsOf fieldAt versionOf
-  check-facts i u m = go (good (answers t r) (has r) i) refl
+  check-facts i u m = go (good (answers t (a .r)) (has (a .r)) i) refl
     where
       f : RowFacts (usedOf t) i (rowBytes t i)
       f = chw .rows i u
 
-      go : (b : Bool) → good (answers t r) (has r) i ≡ b → RowFacts (usedOf t) i (rowBytes (checkTable t c r y room) i)
-      go true g = facts-after f (check-taken t c r y room i u m g) refl refl (record {
+      go : (b : Bool) → good (answers t (a .r)) (has (a .r)) i ≡ b → RowFacts (usedOf t) i (rowBytes (checkTable t a y room) i)
+      go true g = facts-after f (check-taken t a y room i u m g) refl refl (record {
         flag = f .flag;
         small-version = f .small-version;
         small-desired = f .small-desired;
@@ -232,11 +232,11 @@ module _ (t : List ℕ) (c r : ℕ) (y : CheckYes t c r) (room : highestEpoch (a
         own = m;
       })
       go false g =
-          let l = version-less t r (has r) chw (λ j h. h) check-used cur i m g in
-          facts-after f (check-marked t c r y room i u m g) refl refl (record {
+          let l = version-less t (a .r) (has (a .r)) chw (λ j h. h) check-used cur i m g in
+          facts-after f (check-marked t a y room i u m g) refl refl (record {
             flag = omega arith;
             small-version = f .small-version;
-            small-desired = check-version t c r y room;
+            small-desired = check-version t a y room;
             small-epoch = omega arith;
             behind = λ e. l;
             level = λ e. absurd (clash (sym e));
@@ -246,33 +246,33 @@ module _ (t : List ℕ) (c r : ℕ) (y : CheckYes t c r) (room : highestEpoch (a
 
   -- rows that answered have the new epoch and list, the others keep theirs
   pub check-membership : (i : ℕ) → Within (usedOf t) i
-      → (epochOf (checkTable t c r y room) i ≡ cond (has r i) (highestEpoch (answers t r) (has r) + 1) (epochOf t i)) × (membersOf (checkTable t c r y room) i ≡ cond (has r i) r (membersOf t i))
+      → (epochOf (checkTable t a y room) i ≡ cond (has (a .r) i) (highestEpoch (answers t (a .r)) (has (a .r)) + 1) (epochOf t i)) × (membersOf (checkTable t a y room) i ≡ cond (has (a .r) i) (a .r) (membersOf t i))
   unfolding changed fieldsOf fieldAt epochOf membersOf
-  check-membership i u = go (has r i) refl (good (answers t r) (has r) i) refl
+  check-membership i u = go (has (a .r) i) refl (good (answers t (a .r)) (has (a .r)) i) refl
     where
       new : List ℕ
-      new = rowBytes (checkTable t c r y room) i
+      new = rowBytes (checkTable t a y room) i
 
-      go : (a : Bool) → has r i ≡ a → (b : Bool) → good (answers t r) (has r) i ≡ b
-          → (get epoch new ≡ cond a (highestEpoch (answers t r) (has r) + 1) (get epoch (rowBytes t i))) × (get members new ≡ cond a r (get members (rowBytes t i)))
-      go false m b g = let e = check-leaves t c r y room .out i u m in (ap (get epoch) e, ap (get members) e)
-      go true m true g = let e = check-taken t c r y room i u m g .fields in (e 6 (omega arith), e 7 (omega arith))
-      go true m false g = let e = check-marked t c r y room i u m g .fields in (e 6 (omega arith), e 7 (omega arith))
+      go : (x : Bool) → has (a .r) i ≡ x → (b : Bool) → good (answers t (a .r)) (has (a .r)) i ≡ b
+          → (get epoch new ≡ cond x (highestEpoch (answers t (a .r)) (has (a .r)) + 1) (get epoch (rowBytes t i))) × (get members new ≡ cond x (a .r) (get members (rowBytes t i)))
+      go false m b g = let e = check-leaves t a y room .out i u m in (ap (get epoch) e, ap (get members) e)
+      go true m true g = let e = check-taken t a y room i u m g .fields in (e 6 (omega arith), e 7 (omega arith))
+      go true m false g = let e = check-marked t a y room i u m g .fields in (e 6 (omega arith), e 7 (omega arith))
 
   old-agree : (i j : ℕ) → Within (usedOf t) i → Within (usedOf t) j → epochOf t i ≡ epochOf t j → membersOf t i ≡ membersOf t j
   unfolding epochOf membersOf
   old-agree = chw .agree
 
   -- where no used row outside R has the new epoch already
-  pub check-formed : ((i : ℕ) → Within (usedOf t) i → has r i ≡ false → epochOf t i ≡ highestEpoch (answers t r) (has r) + 1 → ⊥) → Formed (checkTable t c r y room)
-  check-formed new = keep-formed chw (check-leaves t c r y room) check-facts (λ i j u v e.
-      let a = check-membership i u in
+  pub check-formed : ((i : ℕ) → Within (usedOf t) i → has (a .r) i ≡ false → epochOf t i ≡ highestEpoch (answers t (a .r)) (has (a .r)) + 1 → ⊥) → Formed (checkTable t a y room)
+  check-formed new = keep-formed chw (check-leaves t a y room) check-facts (λ i j u v e.
+      let x = check-membership i u in
       let b = check-membership j v in
-      a .1 ∙ go i j u v (has r i) refl (has r j) refl (sym (a .0) ∙ e ∙ b .0) ∙ sym (b .1))
+      x .1 ∙ go i j u v (has (a .r) i) refl (has (a .r) j) refl (sym (x .0) ∙ e ∙ b .0) ∙ sym (b .1))
     where
-      go : (i j : ℕ) → Within (usedOf t) i → Within (usedOf t) j → (x : Bool) → has r i ≡ x → (y : Bool) → has r j ≡ y
-          → cond x (highestEpoch (answers t r) (has r) + 1) (epochOf t i) ≡ cond y (highestEpoch (answers t r) (has r) + 1) (epochOf t j)
-          → cond x r (membersOf t i) ≡ cond y r (membersOf t j)
+      go : (i j : ℕ) → Within (usedOf t) i → Within (usedOf t) j → (x : Bool) → has (a .r) i ≡ x → (y : Bool) → has (a .r) j ≡ y
+          → cond x (highestEpoch (answers t (a .r)) (has (a .r)) + 1) (epochOf t i) ≡ cond y (highestEpoch (answers t (a .r)) (has (a .r)) + 1) (epochOf t j)
+          → cond x (a .r) (membersOf t i) ≡ cond y (a .r) (membersOf t j)
       go i j u v true ex true ey e = refl
       go i j u v true ex false ey e = absurd (new j v ey (sym e))
       go i j u v false ex true ey e = absurd (new i u ex e)

@@ -7,7 +7,7 @@ use native.Mathlib.Omega.{arith}
 use lib.Dec.{eqb, leb, ltb, eqb·suc-zero}
 use lib.ListN.{length}
 use lib.Pow.{high, low}
-use borrow.Author.Tests.{eqb-false, eq-eqb, ltb-true, leb-true, le-leb, not-true}
+use borrow.Author.Tests.{eqb-false, eq-eqb, ne-eqb, ltb-true, leb-true, not-true}
 use Rattle.sets.specs.Upto.{Within}
 use Rattle.sets.specs.Sets.{has}
 use Rattle.bools.proofs.BoolLaws.{and-l, and-r}
@@ -41,11 +41,11 @@ no-first n x qs e = rw e
 
 done-zero : (t : List ℕ) (k : Calls.Call) → Calls.done t k .refusal ≡ 0
 unfolding Calls.done
-done-zero t (Calls.founding capacity file names) = refl
-done-zero t (Calls.read c r offset count buffer) = refl
-done-zero t (Calls.write c r offset patch) = refl
-done-zero t (Calls.send f to r) = refl
-done-zero t (Calls.check c r) = refl
+done-zero t (Calls.founding a) = refl
+done-zero t (Calls.read a) = refl
+done-zero t (Calls.write a) = refl
+done-zero t (Calls.send a) = refl
+done-zero t (Calls.check a) = refl
 
 module _ (t : List ℕ) (k : Calls.Call) where
   -- the refusal is the first no
@@ -105,103 +105,103 @@ module _ (t : List ℕ) (c r : ℕ) (qs : List Calls.Question) where
         λ rs. no-first 1 (wellFormed t) _ (a .0) ∙ no-first 2 (Calls.isUsed t c && onlyRows (usedOf t) r) _ (b .0) ∙ no-first 3 (has r c) rs (d .0),
       )
 
-  -- the first n of them, 1 to 3 included
-  early-is : (n : ℕ) → 3 ≤ n → Calls.upTo n (Calls.byCoordinator t c r qs) ≡ Calls.byCoordinator t c r (Calls.upTo n qs)
-  unfolding Calls.byCoordinator Calls.upTo
-  early-is n h = rw (le-leb 1 n (omega arith), le-leb 2 n (omega arith), le-leb 3 n h)
+  -- 1 to 3 come before any other
+  early-is : (n : ℕ) → 3 < n → Calls.before n (Calls.byCoordinator t c r qs) ≡ Calls.byCoordinator t c r (Calls.before n qs)
+  unfolding Calls.byCoordinator Calls.before
+  early-is n h = rw (ne-eqb 1 n (λ e. omega arith), ne-eqb 2 n (λ e. omega arith), ne-eqb 3 n (λ e. omega arith))
 
   -- rows that answered are used rows
   pub answered-used : ByCoordinator t c r → (i : ℕ) → has r i ≡ true → Within (usedOf t) i
   answered-used b i m = has-within (usedOf t) r i (b .rows) m
 
--- what passes the questions up to n, and then meets those after
-pub early-passed : (t : List ℕ) (c r : ℕ) (qs : List Calls.Question) (n : ℕ) → 3 ≤ n → Calls.firstNo (Calls.upTo n (Calls.byCoordinator t c r qs)) ≡ 0
-    → ByCoordinator t c r × (Calls.firstNo (Calls.upTo n qs) ≡ 0) × (Calls.firstNo (Calls.byCoordinator t c r qs) ≡ Calls.firstNo qs)
-early-passed t c r qs n l h = let a = passed-first t c r (Calls.upTo n qs) (rw (early-is t c r qs n l) at h) in (a .0, a .1, a .2 qs)
+-- what passes the questions before n, and then meets the others
+pub early-passed : (t : List ℕ) (c r : ℕ) (qs : List Calls.Question) (n : ℕ) → 3 < n → Calls.firstNo (Calls.before n (Calls.byCoordinator t c r qs)) ≡ 0
+    → ByCoordinator t c r × (Calls.firstNo (Calls.before n qs) ≡ 0) × (Calls.firstNo (Calls.byCoordinator t c r qs) ≡ Calls.firstNo qs)
+early-passed t c r qs n l h = let a = passed-first t c r (Calls.before n qs) (rw (early-is t c r qs n l) at h) in (a .0, a .1, a .2 qs)
 
-pub record ReadYes (t : List ℕ) (c r offset count : ℕ) (buffer : List ℕ) : Type 0 where
-  pub first : ByCoordinator t c r
-  pub range : (1 ≤ count) × (offset + count ≤ fileOf t)
-  pub quorum : quorumHeld Read (orderOf t) (Calls.answers t r) (Calls.workSet Read t c r) ≡ true
-  pub current : current (Calls.answers t r) (Calls.workSet Read t c r) ≡ true
+pub record ReadYes (t : List ℕ) (a : Calls.Reading) : Type 0 where
+  pub first : ByCoordinator t (a .c) (a .r)
+  pub range : (1 ≤ a .count) × (a .offset + a .count ≤ fileOf t)
+  pub quorum : quorumHeld Read (orderOf t) (Calls.answers t (a .r)) (Calls.workSet Read t (a .c) (a .r)) ≡ true
+  pub current : current (Calls.answers t (a .r)) (Calls.workSet Read t (a .c) (a .r)) ≡ true
 
 range-is : (t : List ℕ) (offset count : ℕ) → Calls.inFile t offset count ≡ true → (1 ≤ count) × (offset + count ≤ fileOf t)
 unfolding Calls.inFile
 range-is t offset count h = (leb-true 1 count (and-l _ _ h), leb-true _ _ (and-r (leb 1 count) _ h))
 
-pub read-yes : (t : List ℕ) (c r offset count : ℕ) (buffer : List ℕ) → Calls.firstNo (Calls.questions t (Calls.read c r offset count buffer)) ≡ 0 → ReadYes t c r offset count buffer
+pub read-yes : (t : List ℕ) (a : Calls.Reading) → Calls.firstNo (Calls.questions t (Calls.read a)) ≡ 0 → ReadYes t a
 unfolding Calls.questions
-read-yes t c r offset count buffer h =
-    let a = passed-first t c r _ h in
-    let d = yes-first 3 (Calls.inFile t offset count) _ (a .1) in
-    let e = yes-first 4 (eqb (length buffer) count) _ (d .1) in
-    let q = yes-first 5 (quorumHeld Read (orderOf t) (Calls.answers t r) (Calls.workSet Read t c r)) _ (e .1) in
-    let m = yes-first 6 (current (Calls.answers t r) (Calls.workSet Read t c r)) _ (q .1) in
-    record { first = a .0; range = range-is t offset count (d .0); quorum = q .0; current = m .0 }
+read-yes t a h =
+    let x = passed-first t (a .c) (a .r) _ h in
+    let d = yes-first 3 (Calls.inFile t (a .offset) (a .count)) _ (x .1) in
+    let e = yes-first 4 (eqb (length (a .buffer)) (a .count)) _ (d .1) in
+    let q = yes-first 5 (quorumHeld Read (orderOf t) (Calls.answers t (a .r)) (Calls.workSet Read t (a .c) (a .r))) _ (e .1) in
+    let m = yes-first 6 (current (Calls.answers t (a .r)) (Calls.workSet Read t (a .c) (a .r))) _ (q .1) in
+    record { first = x .0; range = range-is t (a .offset) (a .count) (d .0); quorum = q .0; current = m .0 }
 
-pub record WriteYes (t : List ℕ) (c r offset : ℕ) (patch : List ℕ) : Type 0 where
-  pub first : ByCoordinator t c r
-  pub range : (1 ≤ length patch) × (offset + length patch ≤ fileOf t)
-  pub quorum : quorumHeld Write (orderOf t) (Calls.answers t r) (Calls.workSet Write t c r) ≡ true
-  pub current : current (Calls.answers t r) (Calls.workSet Write t c r) ≡ true
-  pub room : goodVersion (Calls.answers t r) (Calls.workSet Write t c r) < limit
+pub record WriteYes (t : List ℕ) (a : Calls.Writing) : Type 0 where
+  pub first : ByCoordinator t (a .c) (a .r)
+  pub range : (1 ≤ length (a .patch)) × (a .offset + length (a .patch) ≤ fileOf t)
+  pub quorum : quorumHeld Write (orderOf t) (Calls.answers t (a .r)) (Calls.workSet Write t (a .c) (a .r)) ≡ true
+  pub current : current (Calls.answers t (a .r)) (Calls.workSet Write t (a .c) (a .r)) ≡ true
+  pub room : goodVersion (Calls.answers t (a .r)) (Calls.workSet Write t (a .c) (a .r)) < limit
 
-pub write-yes : (t : List ℕ) (c r offset : ℕ) (patch : List ℕ) → Calls.firstNo (Calls.questions t (Calls.write c r offset patch)) ≡ 0 → WriteYes t c r offset patch
+pub write-yes : (t : List ℕ) (a : Calls.Writing) → Calls.firstNo (Calls.questions t (Calls.write a)) ≡ 0 → WriteYes t a
 unfolding Calls.questions
-write-yes t c r offset patch h =
-    let a = passed-first t c r _ h in
-    let d = yes-first 3 (Calls.inFile t offset (length patch)) _ (a .1) in
-    let q = yes-first 5 (quorumHeld Write (orderOf t) (Calls.answers t r) (Calls.workSet Write t c r)) _ (d .1) in
-    let m = yes-first 6 (current (Calls.answers t r) (Calls.workSet Write t c r)) _ (q .1) in
-    let l = yes-first 7 (ltb (goodVersion (Calls.answers t r) (Calls.workSet Write t c r)) limit) _ (m .1) in
-    record { first = a .0; range = range-is t offset (length patch) (d .0); quorum = q .0; current = m .0; room = ltb-true _ _ (l .0) }
+write-yes t a h =
+    let x = passed-first t (a .c) (a .r) _ h in
+    let d = yes-first 3 (Calls.inFile t (a .offset) (length (a .patch))) _ (x .1) in
+    let q = yes-first 5 (quorumHeld Write (orderOf t) (Calls.answers t (a .r)) (Calls.workSet Write t (a .c) (a .r))) _ (d .1) in
+    let m = yes-first 6 (current (Calls.answers t (a .r)) (Calls.workSet Write t (a .c) (a .r))) _ (q .1) in
+    let l = yes-first 7 (ltb (goodVersion (Calls.answers t (a .r)) (Calls.workSet Write t (a .c) (a .r))) limit) _ (m .1) in
+    record { first = x .0; range = range-is t (a .offset) (length (a .patch)) (d .0); quorum = q .0; current = m .0; room = ltb-true _ _ (l .0) }
 
-pub record SendYes (t : List ℕ) (f to r : ℕ) : Type 0 where
+pub record SendYes (t : List ℕ) (a : Calls.Sending) : Type 0 where
   pub formed : wellFormed t ≡ true
-  pub from-used : Within (usedOf t) f
-  pub to-used : Within (usedOf t) to
-  pub rows : r < 2 ^ usedOf t
-  pub apart : f ≡ to → ⊥
-  pub from-answered : has r f ≡ true
-  pub to-answered : has r to ≡ true
-  pub clean : staleOf t f ≡ false
-  pub mark : staleOf t to ≡ true
-  pub enough : desiredOf t to ≤ versionOf t f
+  pub from-used : Within (usedOf t) (a .f)
+  pub to-used : Within (usedOf t) (a .t)
+  pub rows : a .r < 2 ^ usedOf t
+  pub apart : a .f ≡ a .t → ⊥
+  pub from-answered : has (a .r) (a .f) ≡ true
+  pub to-answered : has (a .r) (a .t) ≡ true
+  pub clean : staleOf t (a .f) ≡ false
+  pub mark : staleOf t (a .t) ≡ true
+  pub enough : desiredOf t (a .t) ≤ versionOf t (a .f)
 
-pub send-yes : (t : List ℕ) (f to r : ℕ) → Calls.firstNo (Calls.questions t (Calls.send f to r)) ≡ 0 → SendYes t f to r
+pub send-yes : (t : List ℕ) (a : Calls.Sending) → Calls.firstNo (Calls.questions t (Calls.send a)) ≡ 0 → SendYes t a
 unfolding Calls.questions
-send-yes t f to r h =
-    let a = yes-first 0 (wellFormed t) _ h in
-    let b = yes-first 1 (Calls.isUsed t f && Calls.isUsed t to && onlyRows (usedOf t) r && not (eqb f to)) _ (a .1) in
-    let d = yes-first 2 (has r f && has r to) _ (b .1) in
-    let e = yes-first 8 (not (staleOf t f)) _ (d .1) in
-    let g = yes-first 9 (staleOf t to && leb (desiredOf t to) (versionOf t f)) _ (e .1) in
-    let b1 = and-l (Calls.isUsed t f && Calls.isUsed t to && onlyRows (usedOf t) r) _ (b .0) in
-    let b2 = and-l (Calls.isUsed t f && Calls.isUsed t to) _ b1 in
+send-yes t a h =
+    let x = yes-first 0 (wellFormed t) _ h in
+    let b = yes-first 1 (Calls.isUsed t (a .f) && Calls.isUsed t (a .t) && onlyRows (usedOf t) (a .r) && not (eqb (a .f) (a .t))) _ (x .1) in
+    let d = yes-first 2 (has (a .r) (a .f) && has (a .r) (a .t)) _ (b .1) in
+    let e = yes-first 8 (not (staleOf t (a .f))) _ (d .1) in
+    let g = yes-first 9 (staleOf t (a .t) && leb (desiredOf t (a .t)) (versionOf t (a .f))) _ (e .1) in
+    let b1 = and-l (Calls.isUsed t (a .f) && Calls.isUsed t (a .t) && onlyRows (usedOf t) (a .r)) _ (b .0) in
+    let b2 = and-l (Calls.isUsed t (a .f) && Calls.isUsed t (a .t)) _ b1 in
     record {
-      formed = a .0;
-      from-used = used-is t f (and-l _ _ b2);
-      to-used = used-is t to (and-r (Calls.isUsed t f) _ b2);
-      rows = only-is (usedOf t) r (and-r (Calls.isUsed t f && Calls.isUsed t to) _ b1);
-      apart = eqb-false f to (not-true _ (and-r (Calls.isUsed t f && Calls.isUsed t to && onlyRows (usedOf t) r) _ (b .0)));
+      formed = x .0;
+      from-used = used-is t (a .f) (and-l _ _ b2);
+      to-used = used-is t (a .t) (and-r (Calls.isUsed t (a .f)) _ b2);
+      rows = only-is (usedOf t) (a .r) (and-r (Calls.isUsed t (a .f) && Calls.isUsed t (a .t)) _ b1);
+      apart = eqb-false (a .f) (a .t) (not-true _ (and-r (Calls.isUsed t (a .f) && Calls.isUsed t (a .t) && onlyRows (usedOf t) (a .r)) _ (b .0)));
       from-answered = and-l _ _ (d .0);
-      to-answered = and-r (has r f) _ (d .0);
+      to-answered = and-r (has (a .r) (a .f)) _ (d .0);
       clean = not-true _ (e .0);
       mark = and-l _ _ (g .0);
-      enough = leb-true _ _ (and-r (staleOf t to) _ (g .0));
+      enough = leb-true _ _ (and-r (staleOf t (a .t)) _ (g .0));
     }
 
-pub record CheckYes (t : List ℕ) (c r : ℕ) : Type 0 where
-  pub first : ByCoordinator t c r
-  pub quorum : quorumHeld Write (orderOf t) (Calls.answers t r) (has r) ≡ true
-  pub current : (eqb r (inForce (Calls.answers t r) (has r)) || current (Calls.answers t r) (has r)) ≡ true
-  pub room : (eqb r (inForce (Calls.answers t r) (has r)) || ltb (highestEpoch (Calls.answers t r) (has r)) limit) ≡ true
+pub record CheckYes (t : List ℕ) (a : Calls.Checking) : Type 0 where
+  pub first : ByCoordinator t (a .c) (a .r)
+  pub quorum : quorumHeld Write (orderOf t) (Calls.answers t (a .r)) (has (a .r)) ≡ true
+  pub current : (eqb (a .r) (inForce (Calls.answers t (a .r)) (has (a .r))) || current (Calls.answers t (a .r)) (has (a .r))) ≡ true
+  pub room : (eqb (a .r) (inForce (Calls.answers t (a .r)) (has (a .r))) || ltb (highestEpoch (Calls.answers t (a .r)) (has (a .r))) limit) ≡ true
 
-pub check-yes : (t : List ℕ) (c r : ℕ) → Calls.firstNo (Calls.questions t (Calls.check c r)) ≡ 0 → CheckYes t c r
+pub check-yes : (t : List ℕ) (a : Calls.Checking) → Calls.firstNo (Calls.questions t (Calls.check a)) ≡ 0 → CheckYes t a
 unfolding Calls.questions
-check-yes t c r h =
-    let a = passed-first t c r _ h in
-    let q = yes-first 5 (quorumHeld Write (orderOf t) (Calls.answers t r) (has r)) _ (a .1) in
-    let m = yes-first 6 (eqb r (inForce (Calls.answers t r) (has r)) || current (Calls.answers t r) (has r)) _ (q .1) in
-    let l = yes-first 7 (eqb r (inForce (Calls.answers t r) (has r)) || ltb (highestEpoch (Calls.answers t r) (has r)) limit) _ (m .1) in
-    record { first = a .0; quorum = q .0; current = m .0; room = l .0 }
+check-yes t a h =
+    let x = passed-first t (a .c) (a .r) _ h in
+    let q = yes-first 5 (quorumHeld Write (orderOf t) (Calls.answers t (a .r)) (has (a .r))) _ (x .1) in
+    let m = yes-first 6 (eqb (a .r) (inForce (Calls.answers t (a .r)) (has (a .r))) || current (Calls.answers t (a .r)) (has (a .r))) _ (q .1) in
+    let l = yes-first 7 (eqb (a .r) (inForce (Calls.answers t (a .r)) (has (a .r))) || ltb (highestEpoch (Calls.answers t (a .r)) (has (a .r))) limit) _ (m .1) in
+    record { first = x .0; quorum = q .0; current = m .0; room = l .0 }

@@ -22,7 +22,7 @@ use Rattle.bytes.proofs.ByteLaws.{part-part}
 use Rattle.table.proofs.FormLaws.{Formed, formed, header-facts}
 use Rattle.protocol.specs.Polls.{Poll, polled, highestEpoch, inForce, goodVersion, good, current, workedOn}
 use Rattle.protocol.specs.Rows.{wroteRow, checkedRow, refreshedRow}
-use Rattle.protocol.specs.Calls.{Call, read, write, send, check, Question, firstNo, byCoordinator, isUsed, inFile, questions, done, outcome, answers, workSet}
+use Rattle.protocol.specs.Calls.{Reading, Writing, Sending, Checking, Call, read, write, send, check, Question, firstNo, byCoordinator, isUsed, inFile, questions, done, outcome, answers, workSet}
 use Rattle.protocol.specs.Claims.{Answering, byRead, byWrite, bySend, byCheck, EqualIn, SameFor, UnansweredHaveNoPart}
 use Rattle.protocol.proofs.TableLaws.{Changed}
 use Rattle.protocol.proofs.PollLaws.{lowest-good, worked-in}
@@ -46,7 +46,7 @@ head-part a n xs h = whole ∙ ap (λ (x : ℕ). part x n xs) (zero-add a)
     whole : part a n (take 16 xs) ≡ part (0 + a) n xs
     whole = part-part 0 16 a n xs h
 
-module _ (r : ℕ) (t u : List ℕ) (E : EqualIn r t u) where
+module _ {r : ℕ} {t u : List ℕ} (E : EqualIn r t u) where
   ft : Formed t
   ft = formed t (E .formed)
 
@@ -120,29 +120,9 @@ module _ (r : ℕ) (t u : List ℕ) (E : EqualIn r t u) where
   row-of i m =
       let e = sym (E .rows i m) in (ap (λ (x : List ℕ). eqb (get mark x) 1) e, ap (get version) e, ap (get desired) e)
 
-  send-same : (f to : ℕ) → firstNo (questions u (send f to r)) ≡ firstNo (questions t (send f to r))
-  unfolding questions isUsed firstNo
-  send-same f to =
-      rw (E .formed, E .formed-too, used-same) (go (between 1 f (usedOf t) && between 1 to (usedOf t) && onlyRows (usedOf t) r && not (eqb f to)) (has r f) refl (has r to) refl)
-    where
-      go : (x y : Bool) → has r f ≡ y → (z : Bool) → has r to ≡ z
-          → _≡_ {A = ℕ} (cond x (cond (y && z) (cond (not (staleOf u f)) (cond (staleOf u to && leb (desiredOf u to) (versionOf u f)) 0 10) 9) 3) 2)
-          (cond x (cond (y && z) (cond (not (staleOf t f)) (cond (staleOf t to && leb (desiredOf t to) (versionOf t f)) 0 10) 9) 3) 2)
-      go true true a true b = rw (row-of f a .0, row-of f a .1, row-of to b .0, row-of to b .2)
-      go true true a false b = refl
-      go true false a z b = refl
-      go false y a z b = refl
-
   work-in : (kind : Kind) (c i : ℕ) → workSet kind t c r i ≡ true → has r i ≡ true
   unfolding workSet
   work-in kind c i m = worked-in kind (orderOf t) (answers t r) c (nameOf t c) (has r) i m
-
-  asks-same : (k : Call) → Answering k r → firstNo (questions u k) ≡ firstNo (questions t k)
-  unfolding questions inFile
-  asks-same (read c r′ offset count buffer) byRead = first-same-by c _ _ (λ m. rw (work-same Read c m, poll-same, order-same, file-same))
-  asks-same (write c r′ offset patch) byWrite = first-same-by c _ _ (λ m. rw (work-same Write c m, poll-same, order-same, file-same))
-  asks-same (send f to r′) bySend = send-same f to
-  asks-same (check c r′) byCheck = first-same-by c _ _ (λ m. rw (poll-same, order-same))
 
   -- ---- refused: the tables are as they were
   refused-same : (k : Call) → (outcome t k .refusal ≡ 0 → ⊥) → (outcome u k .refusal ≡ 0 → ⊥) → outcome u k .refusal ≡ outcome t k .refusal → SameFor r (outcome t k) (outcome u k)
@@ -166,81 +146,101 @@ module _ (r : ℕ) (t u : List ℕ) (E : EqualIn r t u) where
   changed-as : {u′ : List ℕ} {n : ℕ} {s s′ : ℕ → Bool} {g g′ : ℕ → List ℕ → List ℕ} → s ≡ s′ → g ≡ g′ → Changed u u′ n s g → Changed u u′ n s′ g′
   changed-as {u′} {n} p q c = subst₂ (λ (s : ℕ → Bool) (g : ℕ → List ℕ → List ℕ). Changed u u′ n s g) p q c
 
-  -- ---- done
-  done-same : (k : Call) → Answering k r → firstNo (questions t k) ≡ 0 → firstNo (questions u k) ≡ 0 → SameFor r (done t k) (done u k)
-  unfolding done writeTable sendTable checkTable contentsOf
-  done-same (read c r′ offset count buffer) byRead ht hu = record {
-    refusal = refl;
-    value = rw (work-same Read c (y .first .answered), poll-same);
-    buffer = rw (work-same Read c (y .first .answered), poll-same) (ap (λ (x : List ℕ). part offset count (Layout.contents x)) lowest-row);
-    rows = λ i m. E .rows i m;
-  }
-    where
-      y : ReadYes t c r offset count buffer
-      y = read-yes t c r offset count buffer ht
+send-same : (t u : List ℕ) (a : Sending) → EqualIn (a .r) t u → firstNo (questions u (send a)) ≡ firstNo (questions t (send a))
+unfolding questions isUsed firstNo
+send-same t u a E =
+    rw (E .formed, E .formed-too, used-same E) (go (between 1 (a .f) (usedOf t) && between 1 (a .t) (usedOf t) && onlyRows (usedOf t) (a .r) && not (eqb (a .f) (a .t))) (has (a .r) (a .f)) refl (has (a .r) (a .t)) refl)
+  where
+    go : (x y : Bool) → has (a .r) (a .f) ≡ y → (z : Bool) → has (a .r) (a .t) ≡ z
+        → _≡_ {A = ℕ} (cond x (cond (y && z) (cond (not (staleOf u (a .f))) (cond (staleOf u (a .t) && leb (desiredOf u (a .t)) (versionOf u (a .f))) 0 10) 9) 3) 2)
+        (cond x (cond (y && z) (cond (not (staleOf t (a .f))) (cond (staleOf t (a .t) && leb (desiredOf t (a .t)) (versionOf t (a .f))) 0 10) 9) 3) 2)
+    go true true m true n = rw (row-of E (a .f) m .0, row-of E (a .f) m .1, row-of E (a .t) n .0, row-of E (a .t) n .2)
+    go true true m false n = refl
+    go true false m z n = refl
+    go false y m z n = refl
 
-      low : ℕ
-      low = lowest 64 (good (answers t r) (workSet Read t c r))
+asks-same : (t u : List ℕ) (k : Call) (r : ℕ) → Answering k r → EqualIn r t u → firstNo (questions u k) ≡ firstNo (questions t k)
+unfolding questions inFile
+asks-same t u (read a) r byRead E = first-same-by E (a .c) _ _ (λ m. rw (work-same E Read (a .c) m, poll-same E, order-same E, file-same E))
+asks-same t u (write a) r byWrite E = first-same-by E (a .c) _ _ (λ m. rw (work-same E Write (a .c) m, poll-same E, order-same E, file-same E))
+asks-same t u (send a) r bySend E = send-same t u a E
+asks-same t u (check a) r byCheck E = first-same-by E (a .c) _ _ (λ m. rw (poll-same E, order-same E))
 
-      lowest-row : rowBytes t low ≡ rowBytes u low
-      lowest-row = E .rows low (work-in Read c low (lowest-good (answers t r) (workSet Read t c r) (y .current) .1 .inside))
-  done-same (write c r′ offset patch) byWrite ht hu = record {
-    refusal = refl;
-    value = rw (work-same Write c (y .first .answered), poll-same);
-    buffer = refl;
-    rows = λ i m. changed-same (write-rows t c r offset patch y) alike i (answered-used t c r [] (y .first) i m) m;
-  }
-    where
-      y : WriteYes t c r offset patch
-      y = write-yes t c r offset patch ht
+-- ---- done
+done-same : (t u : List ℕ) (k : Call) (r : ℕ) → Answering k r → EqualIn r t u → firstNo (questions t k) ≡ 0 → firstNo (questions u k) ≡ 0 → SameFor r (done t k) (done u k)
+unfolding done writeTable sendTable checkTable contentsOf
+done-same t u (read a) r byRead E ht hu = record {
+  refusal = refl;
+  value = rw (work-same E Read (a .c) (y .first .answered), poll-same E);
+  buffer = rw (work-same E Read (a .c) (y .first .answered), poll-same E) (ap (λ (x : List ℕ). part (a .offset) (a .count) (Layout.contents x)) lowest-row);
+  rows = λ i m. E .rows i m;
+}
+  where
+    y : ReadYes t a
+    y = read-yes t a ht
 
-      alike : Changed u (done u (write c r offset patch) .table) (usedOf u) (workSet Write t c r)
-          (wroteRow (good (answers t r) (workSet Write t c r)) (goodVersion (answers t r) (workSet Write t c r) + 1) offset patch)
-      alike = changed-as (work-same Write c (y .first .answered)) (rw (work-same Write c (y .first .answered), poll-same)) (write-rows u c r offset patch (write-yes u c r offset patch hu))
-  done-same (send f to r′) bySend ht hu = record {
-    refusal = refl;
-    value = sym (row-of f (y .from-answered) .1);
-    buffer = refl;
-    rows = λ i m. changed-same (send-changed t f to r y) alike i (has-within (usedOf t) r i (y .rows) m) m;
-  }
-    where
-      y : SendYes t f to r
-      y = send-yes t f to r ht
+    low : ℕ
+    low = lowest 64 (good (answers t (a .r)) (workSet Read t (a .c) (a .r)))
 
-      alike : Changed u (done u (send f to r) .table) (usedOf u) (eqb to) (λ i. refreshedRow (rowBytes t f))
-      alike = changed-as refl (ap (λ (x : List ℕ). λ (i : ℕ). refreshedRow x) (sym (E .rows f (y .from-answered)))) (send-changed u f to r (send-yes u f to r hu))
-  done-same (check c r′) byCheck ht hu = go (eqb r (inForce (answers t r) (has r))) refl
-    where
-      y : CheckYes t c r
-      y = check-yes t c r ht
+    lowest-row : rowBytes t low ≡ rowBytes u low
+    lowest-row = E .rows low (work-in E Read (a .c) low (lowest-good (answers t (a .r)) (workSet Read t (a .c) (a .r)) (y .current) .1 .inside))
+done-same t u (write a) r byWrite E ht hu = record {
+  refusal = refl;
+  value = rw (work-same E Write (a .c) (y .first .answered), poll-same E);
+  buffer = refl;
+  rows = λ i m. changed-same E (write-rows t a y) alike i (answered-used t (a .c) (a .r) [] (y .first) i m) m;
+}
+  where
+    y : WriteYes t a
+    y = write-yes t a ht
 
-      z : CheckYes u c r
-      z = check-yes u c r hu
+    alike : Changed u (done u (write a) .table) (usedOf u) (workSet Write t (a .c) (a .r))
+        (wroteRow (good (answers t (a .r)) (workSet Write t (a .c) (a .r))) (goodVersion (answers t (a .r)) (workSet Write t (a .c) (a .r)) + 1) (a .offset) (a .patch))
+    alike = changed-as E (work-same E Write (a .c) (y .first .answered)) (rw (work-same E Write (a .c) (y .first .answered), poll-same E)) (write-rows u a (write-yes u a hu))
+done-same t u (send a) r bySend E ht hu = record {
+  refusal = refl;
+  value = sym (row-of E (a .f) (y .from-answered) .1);
+  buffer = refl;
+  rows = λ i m. changed-same E (send-changed t a y) alike i (has-within (usedOf t) (a .r) i (y .rows) m) m;
+}
+  where
+    y : SendYes t a
+    y = send-yes t a ht
 
-      same-u : (b : Bool) → eqb r (inForce (answers t r) (has r)) ≡ b → eqb r (inForce (answers u r) (has r)) ≡ b
-      same-u b q = ap (λ (p : Poll). eqb r (inForce p (has r))) poll-same ∙ q
+    alike : Changed u (done u (send a) .table) (usedOf u) (eqb (a .t)) (λ i. refreshedRow (rowBytes t (a .f)))
+    alike = changed-as E refl (ap (λ (x : List ℕ). λ (i : ℕ). refreshedRow x) (sym (E .rows (a .f) (y .from-answered)))) (send-changed u a (send-yes u a hu))
+done-same t u (check a) r byCheck E ht hu = go (eqb (a .r) (inForce (answers t (a .r)) (has (a .r)))) refl
+  where
+    y : CheckYes t a
+    y = check-yes t a ht
 
-      go : (b : Bool) → eqb r (inForce (answers t r) (has r)) ≡ b → SameFor r (done t (check c r)) (done u (check c r))
-      go true q = rw (q, same-u true q) (record { refusal = refl; value = ap (λ (p : Poll). highestEpoch p (has r)) (sym poll-same); buffer = refl; rows = λ i m. E .rows i m })
-      go false q =
-          let room : ltb (highestEpoch (answers t r) (has r)) limit ≡ true = rw q at (y .room) in
-          let room-u : ltb (highestEpoch (answers u r) (has r)) limit ≡ true = rw (same-u false q) at (z .room) in
-          rw (q, same-u false q) (record {
-            refusal = refl;
-            value = ap (λ (p : Poll). highestEpoch p (has r) + 1) (sym poll-same);
-            buffer = refl;
-            rows = λ i m. changed-same (check-rows t c r y (ltb-true _ _ room))
-                (changed-as refl (ap (λ (p : Poll). checkedRow (good p (has r)) (goodVersion p (has r)) (highestEpoch p (has r) + 1) r) poll-same) (check-rows u c r z (ltb-true _ _ room-u)))
-                i (answered-used t c r [] (y .first) i m) m;
-          })
+    z : CheckYes u a
+    z = check-yes u a hu
+
+    same-u : (b : Bool) → eqb (a .r) (inForce (answers t (a .r)) (has (a .r))) ≡ b → eqb (a .r) (inForce (answers u (a .r)) (has (a .r))) ≡ b
+    same-u b q = ap (λ (p : Poll). eqb (a .r) (inForce p (has (a .r)))) (poll-same E) ∙ q
+
+    go : (b : Bool) → eqb (a .r) (inForce (answers t (a .r)) (has (a .r))) ≡ b → SameFor (a .r) (done t (check a)) (done u (check a))
+    go true q = rw (q, same-u true q) (record { refusal = refl; value = ap (λ (p : Poll). highestEpoch p (has (a .r))) (sym (poll-same E)); buffer = refl; rows = λ i m. E .rows i m })
+    go false q =
+        let room : ltb (highestEpoch (answers t (a .r)) (has (a .r))) limit ≡ true = rw q at (y .room) in
+        let room-u : ltb (highestEpoch (answers u (a .r)) (has (a .r))) limit ≡ true = rw (same-u false q) at (z .room) in
+        rw (q, same-u false q) (record {
+          refusal = refl;
+          value = ap (λ (p : Poll). highestEpoch p (has (a .r)) + 1) (sym (poll-same E));
+          buffer = refl;
+          rows = λ i m. changed-same E (check-rows t a y (ltb-true _ _ room))
+              (changed-as E refl (ap (λ (p : Poll). checkedRow (good p (has (a .r))) (goodVersion p (has (a .r))) (highestEpoch p (has (a .r)) + 1) (a .r)) (poll-same E)) (check-rows u a z (ltb-true _ _ room-u)))
+              i (answered-used t (a .c) (a .r) [] (y .first) i m) m;
+        })
 
 pub unanswered-have-no-part : UnansweredHaveNoPart
 unfolding UnansweredHaveNoPart
 unanswered-have-no-part t u k r a E = go (outcome t k .refusal) refl
   where
     same : outcome u k .refusal ≡ outcome t k .refusal
-    same = refusal-is u k ∙ asks-same r t u E k a ∙ sym (refusal-is t k)
+    same = refusal-is u k ∙ asks-same t u k r a E ∙ sym (refusal-is t k)
 
     go : (n : ℕ) → outcome t k .refusal ≡ n → SameFor r (outcome t k) (outcome u k)
-    go zero q = rw (when-done t k q, when-done u k (same ∙ q)) (done-same r t u E k a (sym (refusal-is t k) ∙ q) (sym (refusal-is u k) ∙ same ∙ q))
-    go (suc n) q = refused-same r t u E k (λ z. omega arith) (λ z. omega (arith, same)) same
+    go zero q = rw (when-done t k q, when-done u k (same ∙ q)) (done-same t u k r a E (sym (refusal-is t k) ∙ q) (sym (refusal-is u k) ∙ same ∙ q))
+    go (suc n) q = refused-same E k (λ z. omega arith) (λ z. omega (arith, same)) same

@@ -15,13 +15,43 @@ use Rattle.table.specs.WellFormed.{between, limit, onlyRows, wellFormed}
 use Rattle.protocol.specs.Polls.{Poll, polled, highestEpoch, inForce, goodVersion, good, current, quorumHeld, workedOn}
 use Rattle.protocol.specs.Rows.{refreshedRow, withRow, withRows, wroteRow, checkedRow}
 
--- c coordinator, r answering set, f and t rows; names are bytes, two for each name
+-- ---- the arguments of each call: "Coordinator c, answering set R .. c, f and t are row indexes"
+pub record Founding : Type 0 where
+  pub capacity : ℕ
+  pub fileLength : ℕ
+  -- bytes, two for each name
+  pub names : List ℕ
+
+pub record Reading : Type 0 where
+  pub c : ℕ
+  pub r : ℕ
+  pub offset : ℕ
+  pub count : ℕ
+  -- the buffer lent, with whatever it holds
+  pub buffer : List ℕ
+
+pub record Writing : Type 0 where
+  pub c : ℕ
+  pub r : ℕ
+  pub offset : ℕ
+  pub patch : List ℕ
+
+pub record Sending : Type 0 where
+  -- from row f to row t
+  pub f : ℕ
+  pub t : ℕ
+  pub r : ℕ
+
+pub record Checking : Type 0 where
+  pub c : ℕ
+  pub r : ℕ
+
 pub data Call : Type 0 where
-  founding : (capacity file : ℕ) (names : List ℕ) → Call
-  read : (c r offset count : ℕ) (buffer : List ℕ) → Call
-  write : (c r offset : ℕ) (patch : List ℕ) → Call
-  send : (f t r : ℕ) → Call
-  check : (c r : ℕ) → Call
+  founding : Founding → Call
+  read : Reading → Call
+  write : Writing → Call
+  send : Sending → Call
+  check : Checking → Call
 
 -- what a call leaves: refusal number (0: done), value, the table's bytes, the read buffer's bytes
 pub record Outcome : Type 0 where
@@ -29,6 +59,22 @@ pub record Outcome : Type 0 where
   pub value : ℕ
   pub table : List ℕ
   pub buffer : List ℕ
+
+-- the read buffer that a call is lent
+unfoldable pub lent : Call → List ℕ
+lent (founding a) = []
+lent (read a) = a .buffer
+lent (write a) = []
+lent (send a) = []
+lent (check a) = []
+
+-- what a call leaves that alters no more than the table: all else is as it was lent
+abbrev pub leaves : Call → ℕ → ℕ → List ℕ → Outcome
+leaves k refusal value table = record { refusal = refusal; value = value; table = table; buffer = lent k }
+
+-- the same with these bytes in the read buffer
+abbrev pub buffered : List ℕ → Outcome → Outcome
+buffered bytes o = record { refusal = o .refusal; value = o .value; table = o .table; buffer = bytes }
 
 -- "A result is one 64-bit number: refusal number times 2^32, plus value."
 unfoldable pub resultOf : Outcome → ℕ
@@ -44,10 +90,10 @@ unfoldable pub firstNo : List Question → ℕ
 firstNo [] = 0
 firstNo (q ∷ qs) = cond (q .yes) (firstNo qs) (q .ask)
 
--- the questions up to number n
-unfoldable pub upTo : ℕ → List Question → List Question
-upTo n [] = []
-upTo n (q ∷ qs) = cond (leb (q .ask) n) (q ∷ upTo n qs) (upTo n qs)
+-- the questions asked before number n
+unfoldable pub before : ℕ → List Question → List Question
+before n [] = []
+before n (q ∷ qs) = cond (eqb (q .ask) n) [] (q ∷ before n qs)
 
 -- i is a used row
 unfoldable pub isUsed : List ℕ → ℕ → Bool
@@ -82,22 +128,22 @@ zeros n = replicate n 0
 
 -- "16 bytes: form, capacity, rows used, first row, file length; the rest 0"
 unfoldable pub foundedHeader : ℕ → ℕ → ℕ → List ℕ
-foundedHeader capacity n file = 1 ∷ capacity ∷ n ∷ 1 ∷ (bytesOf 2 file ++ zeros 10)
+foundedHeader capacity n fileLength = 1 ∷ capacity ∷ n ∷ 1 ∷ (bytesOf 2 fileLength ++ zeros 10)
 
 -- row i of n: its name, the next row (0 after the last), the list of all used rows, and all else 0
 unfoldable pub foundedRow : ℕ → ℕ → ℕ → ℕ → List ℕ
-foundedRow n file i x = bytesOf 2 x ++ (cond (eqb i n) 0 (i + 1) ∷ (zeros 13 ++ (bytesOf 8 (2 ^ n - 1) ++ (zeros 8 ++ zeros file))))
+foundedRow n fileLength i x = bytesOf 2 x ++ (cond (eqb i n) 0 (i + 1) ∷ (zeros 13 ++ (bytesOf 8 (2 ^ n - 1) ++ (zeros 8 ++ zeros fileLength))))
 
 -- "It puts them in rows 1 upward": the rows from row i on
 unfoldable pub foundedRows : ℕ → ℕ → ℕ → List ℕ → List ℕ
-foundedRows n file i [] = []
-foundedRows n file i (x ∷ l) = foundedRow n file i x ++ foundedRows n file (suc i) l
+foundedRows n fileLength i [] = []
+foundedRows n fileLength i (x ∷ l) = foundedRow n fileLength i x ++ foundedRows n fileLength (suc i) l
 
 -- the table after a founding: "every unused row" becomes 0 too
 unfoldable pub founded : ℕ → ℕ → List ℕ → List ℕ
-founded capacity file names =
+founded capacity fileLength names =
     let n = length names in
-    foundedHeader capacity n file ++ (foundedRows n file 1 names ++ zeros ((capacity - n) * (32 + file)))
+    foundedHeader capacity n fileLength ++ (foundedRows n fileLength 1 names ++ zeros ((capacity - n) * (32 + fileLength)))
 
 -- ---- "Questions put to each call": in this order, each to the calls it names
 -- 1 to 3 of a call by coordinator c, then those after
@@ -109,83 +155,72 @@ byCoordinator t c r qs =
     ∷ qs
 
 unfoldable pub questions : List ℕ → Call → List Question
-questions t (founding capacity file names) =
-    record { ask = 11; yes = eqb (length names % 2) 0 && between 1 (length (namesIn names)) 64 && namesRise 0 (namesIn names) }
-    ∷ record { ask = 12; yes = between 1 capacity 64 && leb (length (namesIn names)) capacity && between 1 file 4_096 && eqb (length t) (16 + capacity * (32 + file)) }
+questions t (founding a) =
+    let n = length (namesIn (a .names)) in
+    record { ask = 11; yes = eqb (length (a .names) % 2) 0 && between 1 n 64 && namesRise 0 (namesIn (a .names)) }
+    ∷ record { ask = 12; yes = between 1 (a .capacity) 64 && leb n (a .capacity) && between 1 (a .fileLength) 4_096 && eqb (length t) (16 + a .capacity * (32 + a .fileLength)) }
     ∷ []
-questions t (read c r offset count buffer) =
-    let p = answers t r in
-    let s = workSet Read t c r in
-    byCoordinator t c r (
-    record { ask = 4; yes = inFile t offset count }
-    ∷ record { ask = 5; yes = eqb (length buffer) count }
+questions t (read a) =
+    let p = answers t (a .r) in
+    let s = workSet Read t (a .c) (a .r) in
+    byCoordinator t (a .c) (a .r) (
+    record { ask = 4; yes = inFile t (a .offset) (a .count) }
+    ∷ record { ask = 5; yes = eqb (length (a .buffer)) (a .count) }
     ∷ record { ask = 6; yes = quorumHeld Read (orderOf t) p s }
     ∷ record { ask = 7; yes = current p s }
     ∷ [])
-questions t (write c r offset patch) =
-    let p = answers t r in
-    let s = workSet Write t c r in
-    byCoordinator t c r (
-    record { ask = 4; yes = inFile t offset (length patch) }
+questions t (write a) =
+    let p = answers t (a .r) in
+    let s = workSet Write t (a .c) (a .r) in
+    byCoordinator t (a .c) (a .r) (
+    record { ask = 4; yes = inFile t (a .offset) (length (a .patch)) }
     ∷ record { ask = 6; yes = quorumHeld Write (orderOf t) p s }
     ∷ record { ask = 7; yes = current p s }
     ∷ record { ask = 8; yes = ltb (goodVersion p s) limit }
     ∷ [])
-questions t (send f to r) =
+questions t (send a) =
     record { ask = 1; yes = wellFormed t }
-    ∷ record { ask = 2; yes = isUsed t f && isUsed t to && onlyRows (usedOf t) r && not (eqb f to) }
-    ∷ record { ask = 3; yes = has r f && has r to }
-    ∷ record { ask = 9; yes = not (staleOf t f) }
-    ∷ record { ask = 10; yes = staleOf t to && leb (desiredOf t to) (versionOf t f) }
+    ∷ record { ask = 2; yes = isUsed t (a .f) && isUsed t (a .t) && onlyRows (usedOf t) (a .r) && not (eqb (a .f) (a .t)) }
+    ∷ record { ask = 3; yes = has (a .r) (a .f) && has (a .r) (a .t) }
+    ∷ record { ask = 9; yes = not (staleOf t (a .f)) }
+    ∷ record { ask = 10; yes = staleOf t (a .t) && leb (desiredOf t (a .t)) (versionOf t (a .f)) }
     ∷ []
-questions t (check c r) =
-    let p = answers t r in
-    let same = eqb r (inForce p (has r)) in
-    byCoordinator t c r (
-    record { ask = 6; yes = quorumHeld Write (orderOf t) p (has r) }
-    ∷ record { ask = 7; yes = same || current p (has r) }
-    ∷ record { ask = 8; yes = same || ltb (highestEpoch p (has r)) limit }
+questions t (check a) =
+    let p = answers t (a .r) in
+    let same = eqb (a .r) (inForce p (has (a .r))) in
+    byCoordinator t (a .c) (a .r) (
+    record { ask = 6; yes = quorumHeld Write (orderOf t) p (has (a .r)) }
+    ∷ record { ask = 7; yes = same || current p (has (a .r)) }
+    ∷ record { ask = 8; yes = same || ltb (highestEpoch p (has (a .r))) limit }
     ∷ [])
 
 -- ---- what a done call leaves
 unfoldable pub done : List ℕ → Call → Outcome
-done t (founding capacity file names) = record { refusal = 0; value = length (namesIn names); table = founded capacity file (namesIn names); buffer = [] }
+done t (founding a) = leaves (founding a) 0 (length (namesIn (a .names))) (founded (a .capacity) (a .fileLength) (namesIn (a .names)))
 -- "copies the range from the good row of lowest index. Value: its version."
-done t (read c r offset count buffer) =
-    let p = answers t r in
-    let s = workSet Read t c r in
-    record { refusal = 0; value = goodVersion p s; table = t; buffer = part offset count (contentsOf t (lowest 64 (good p s))) }
+done t (read a) =
+    let p = answers t (a .r) in
+    let s = workSet Read t (a .c) (a .r) in
+    buffered (part (a .offset) (a .count) (contentsOf t (lowest 64 (good p s)))) (leaves (read a) 0 (goodVersion p s) t)
 -- "Value: the new version."
-done t (write c r offset patch) =
-    let p = answers t r in
-    let s = workSet Write t c r in
+done t (write a) =
+    let p = answers t (a .r) in
+    let s = workSet Write t (a .c) (a .r) in
     let v = goodVersion p s + 1 in
-    record { refusal = 0; value = v; table = withRows t s (wroteRow (good p s) v offset patch) (usedOf t); buffer = [] }
+    leaves (write a) 0 v (withRows t s (wroteRow (good p s) v (a .offset) (a .patch)) (usedOf t))
 -- "Value: that version."
-done t (send f to r) = record { refusal = 0; value = versionOf t f; table = withRow t to (refreshedRow (rowBytes t f)); buffer = [] }
+done t (send a) = leaves (send a) 0 (versionOf t (a .f)) (withRow t (a .t) (refreshedRow (rowBytes t (a .f))))
 -- "if R equals V, nothing changes. .. Value: the epoch number in force."
-done t (check c r) =
-    let p = answers t r in
-    let e = highestEpoch p (has r) in
-    let same = eqb r (inForce p (has r)) in
-    record {
-      refusal = 0;
-      value = cond same e (e + 1);
-      table = cond same t (withRows t (has r) (checkedRow (good p (has r)) (goodVersion p (has r)) (e + 1) r) (usedOf t));
-      buffer = [];
-    }
-
--- the read buffer that a call is lent
-unfoldable pub lent : Call → List ℕ
-lent (founding capacity file names) = []
-lent (read c r offset count buffer) = buffer
-lent (write c r offset patch) = []
-lent (send f t r) = []
-lent (check c r) = []
+done t (check a) =
+    let p = answers t (a .r) in
+    let e = highestEpoch p (has (a .r)) in
+    let same = eqb (a .r) (inForce p (has (a .r))) in
+    leaves (check a) 0 (cond same e (e + 1))
+    (cond same t (withRows t (has (a .r)) (checkedRow (good p (has (a .r))) (goodVersion p (has (a .r))) (e + 1) (a .r)) (usedOf t)))
 
 -- "A refusal has value 0 and alters no byte of the table, of a read's buffer .."
 unfoldable pub refused : List ℕ → Call → ℕ → Outcome
-refused t k n = record { refusal = n; value = 0; table = t; buffer = lent k }
+refused t k n = leaves k n 0 t
 
 unfoldable pub outcome : List ℕ → Call → Outcome
 outcome t k = let n = firstNo (questions t k) in cond (eqb n 0) (done t k) (refused t k n)

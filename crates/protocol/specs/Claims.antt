@@ -8,15 +8,15 @@ use Rattle.sets.specs.Upto.{Within}
 use Rattle.sets.specs.Sets.{has}
 use Rattle.fields.specs.Layout.{usedOf, nameOf, linkOf, rowsEnd, rowBytes}
 use Rattle.table.specs.WellFormed.{wellFormed}
-use Rattle.protocol.specs.Calls.{Call, founding, read, write, send, check, Outcome, resultOf, Question, questions, lent, outcome}
+use Rattle.protocol.specs.Calls.{Founding, Reading, Writing, Sending, Checking, Call, founding, read, write, send, check, Outcome, resultOf, Question, questions, lent, outcome}
 
 -- "In this order, each to the calls it names (2 and 3 to all but founding)": the numbers of the questions put to a call
 unfoldable pub numbersPut : Call → List ℕ
-numbersPut (founding capacity file names) = 11 ∷ 12 ∷ []
-numbersPut (read c r offset count buffer) = 1 ∷ 2 ∷ 3 ∷ 4 ∷ 5 ∷ 6 ∷ 7 ∷ []
-numbersPut (write c r offset patch) = 1 ∷ 2 ∷ 3 ∷ 4 ∷ 6 ∷ 7 ∷ 8 ∷ []
-numbersPut (send f t r) = 1 ∷ 2 ∷ 3 ∷ 9 ∷ 10 ∷ []
-numbersPut (check c r) = 1 ∷ 2 ∷ 3 ∷ 6 ∷ 7 ∷ 8 ∷ []
+numbersPut (founding a) = 11 ∷ 12 ∷ []
+numbersPut (read a) = 1 ∷ 2 ∷ 3 ∷ 4 ∷ 5 ∷ 6 ∷ 7 ∷ []
+numbersPut (write a) = 1 ∷ 2 ∷ 3 ∷ 4 ∷ 6 ∷ 7 ∷ 8 ∷ []
+numbersPut (send a) = 1 ∷ 2 ∷ 3 ∷ 9 ∷ 10 ∷ []
+numbersPut (check a) = 1 ∷ 2 ∷ 3 ∷ 6 ∷ 7 ∷ 8 ∷ []
 
 unfoldable pub PutInOrder : Type 0
 PutInOrder = (t : List ℕ) (k : Call) → map (λ (q : Question). q .ask) (questions t k) ≡ numbersPut k
@@ -41,10 +41,10 @@ RefusalAltersNothing = (t : List ℕ) (k : Call) → (outcome t k .refusal ≡ 0
 
 -- the call has an answering set R: every call but founding
 pub data Answering : Call → ℕ → Type 0 where
-  byRead : {c r offset count : ℕ} {buffer : List ℕ} → Answering (read c r offset count buffer) r
-  byWrite : {c r offset : ℕ} {patch : List ℕ} → Answering (write c r offset patch) r
-  bySend : {f t r : ℕ} → Answering (send f t r) r
-  byCheck : {c r : ℕ} → Answering (check c r) r
+  byRead : {a : Reading} → Answering (read a) (a .r)
+  byWrite : {a : Writing} → Answering (write a) (a .r)
+  bySend : {a : Sending} → Answering (send a) (a .r)
+  byCheck : {a : Checking} → Answering (check a) (a .r)
 
 -- u is t but for rows of R: header, other used rows, and all that stands behind the used rows
 pub record OnlyRowsOf (r : ℕ) (t u : List ℕ) : Type 0 where
@@ -78,15 +78,14 @@ UnansweredHaveNoPart = (t u : List ℕ) (k : Call) (r : ℕ) → Answering k r �
 
 -- "A check on a well-formed table that no founding leads to may leave one that question 1 turns down"; no other call may
 pub data NoCheck : Call → Type 0 where
-  aFounding : {capacity file : ℕ} {names : List ℕ} → NoCheck (founding capacity file names)
-  aRead : {c r offset count : ℕ} {buffer : List ℕ} → NoCheck (read c r offset count buffer)
-  aWrite : {c r offset : ℕ} {patch : List ℕ} → NoCheck (write c r offset patch)
-  aSend : {f t r : ℕ} → NoCheck (send f t r)
+  aFounding : {a : Founding} → NoCheck (founding a)
+  aRead : {a : Reading} → NoCheck (read a)
+  aWrite : {a : Writing} → NoCheck (write a)
+  aSend : {a : Sending} → NoCheck (send a)
 
 unfoldable pub StaysWellFormed : Type 0
 StaysWellFormed = (t : List ℕ) (k : Call) → NoCheck k → wellFormed t ≡ true → wellFormed (outcome t k .table) ≡ true
 
 -- a founding's outcome does not hang on what lay in the table
 unfoldable pub FoundsOnAnything : Type 0
-FoundsOnAnything = (t u : List ℕ) (capacity file : ℕ) (names : List ℕ) → length t ≡ length u → outcome t (founding capacity file names) .refusal ≡ 0
-    → outcome t (founding capacity file names) ≡ outcome u (founding capacity file names)
+FoundsOnAnything = (t u : List ℕ) (a : Founding) → length t ≡ length u → outcome t (founding a) .refusal ≡ 0 → outcome t (founding a) ≡ outcome u (founding a)

@@ -16,7 +16,7 @@ use Rattle.fields.specs.Layout.{usedOf, nameOf, rowBytes, contents, contentsOf}
 use Rattle.table.specs.Chain.{orderOf}
 use Rattle.table.proofs.WellFormedLaws.{sized, row-length, length-row}
 use Rattle.protocol.specs.Polls.{goodVersion, good, current, quorumHeld}
-use Rattle.protocol.specs.Calls.{Outcome, read, firstNo, questions, answers, workSet, done, outcome, resultOf}
+use Rattle.protocol.specs.Calls.{Reading, Outcome, read, firstNo, questions, answers, workSet, done, outcome, resultOf}
 use Rattle.protocol.proofs.PollLaws.{lowest-good, worked-in}
 use Rattle.protocol.proofs.QuestionLaws.{read-yes, refusal-is, when-done}
 use Rattle.settle.specs.declared.Settled.{Settled}
@@ -24,60 +24,60 @@ use Rattle.settle.specs.Works.{Works}
 use Rattle.questions.specs.Stages.{toRange}
 use Rattle.questions.proofs.QuestionLaws.{after-range, before-range, Refused, refused-is}
 
-module _ (t : List ℕ) (c r offset count : ℕ) (buffer : List ℕ) where
+module _ (t : List ℕ) (a : Reading) where
   -- refused by 1 to 4
-  pub read-early : (n : ℕ) → n ≡ firstNo (toRange t c r offset count) → 1 ≤ n
-      → Refused t (read c r offset count buffer) n
+  pub read-early : (n : ℕ) → n ≡ firstNo (toRange t (a .c) (a .r) (a .offset) (a .count)) → 1 ≤ n
+      → Refused t (read a) n
   unfolding questions
-  read-early n e h = refused-is t (read c r offset count buffer) n (before-range t c r offset count _ n e h) h
+  read-early n e h = refused-is t (read a) n (before-range t (a .c) (a .r) (a .offset) (a .count) _ n e h) h
 
-  module _ (p : firstNo (toRange t c r offset count) ≡ 0) where
-    after-four : firstNo (questions t (read c r offset count buffer)) ≡ cond (eqb (length buffer) count) (cond (quorumHeld Read (orderOf t) (answers t r) (workSet Read t c r)) (cond (current (answers t r) (workSet Read t c r)) 0 7) 6) 5
+  module _ (p : firstNo (toRange t (a .c) (a .r) (a .offset) (a .count)) ≡ 0) where
+    after-four : firstNo (questions t (read a)) ≡ cond (eqb (length (a .buffer)) (a .count)) (cond (quorumHeld Read (orderOf t) (answers t (a .r)) (workSet Read t (a .c) (a .r))) (cond (current (answers t (a .r)) (workSet Read t (a .c) (a .r))) 0 7) 6) 5
     unfolding questions firstNo
-    after-four = after-range t c r offset count _ p
+    after-four = after-range t (a .c) (a .r) (a .offset) (a .count) _ p
 
     -- refused by 5
-    pub read-long : (length buffer ≡ count → ⊥)
-        → Refused t (read c r offset count buffer) 5
+    pub read-long : (length (a .buffer) ≡ a .count → ⊥)
+        → Refused t (read a) 5
     read-long d =
-        refused-is t (read c r offset count buffer) 5
-        (after-four ∙ ap (λ (b : Bool). cond b (cond (quorumHeld Read (orderOf t) (answers t r) (workSet Read t c r)) (cond (current (answers t r) (workSet Read t c r)) 0 7) 6) 5) (ne-eqb (length buffer) count d))
+        refused-is t (read a) 5
+        (after-four ∙ ap (λ (b : Bool). cond b (cond (quorumHeld Read (orderOf t) (answers t (a .r)) (workSet Read t (a .c) (a .r))) (cond (current (answers t (a .r)) (workSet Read t (a .c) (a .r))) 0 7) 6) 5) (ne-eqb (length (a .buffer)) (a .count) d))
         (omega arith)
 
-    module _ (l : length buffer ≡ count) (v : Settled) (j : Works Read t c r v) where
-      after-poll : firstNo (questions t (read c r offset count buffer)) ≡ v .refusal
+    module _ (l : length (a .buffer) ≡ a .count) (v : Settled) (j : Works Read t (a .c) (a .r) v) where
+      after-poll : firstNo (questions t (read a)) ≡ v .refusal
       after-poll =
           after-four
-          ∙ ap (λ (b : Bool). cond b (cond (quorumHeld Read (orderOf t) (answers t r) (workSet Read t c r)) (cond (current (answers t r) (workSet Read t c r)) 0 7) 6) 5) (eq-eqb (length buffer) count l)
+          ∙ ap (λ (b : Bool). cond b (cond (quorumHeld Read (orderOf t) (answers t (a .r)) (workSet Read t (a .c) (a .r))) (cond (current (answers t (a .r)) (workSet Read t (a .c) (a .r))) 0 7) 6) 5) (eq-eqb (length (a .buffer)) (a .count) l)
           ∙ sym (j .refusal)
 
       -- refused by 6 or 7
       pub read-no : 1 ≤ v .refusal
-          → Refused t (read c r offset count buffer) (v .refusal)
-      read-no h = refused-is t (read c r offset count buffer) (v .refusal) after-poll h
+          → Refused t (read a) (v .refusal)
+      read-no h = refused-is t (read a) (v .refusal) after-poll h
 
-      good-is : lowest 64 (has (v .good .bits)) ≡ lowest 64 (good (answers t r) (workSet Read t c r))
+      good-is : lowest 64 (has (v .good .bits)) ≡ lowest 64 (good (answers t (a .r)) (workSet Read t (a .c) (a .r)))
       good-is = ap (lowest 64) (j .good)
 
       module _ (z : v .refusal ≡ 0) where
         pub source-used : Within (usedOf t) (lowest 64 (has (v .good .bits)))
         unfolding workSet
         source-used =
-            let y = read-yes t c r offset count buffer (after-poll ∙ z) in
-            let g = lowest-good (answers t r) (workSet Read t c r) (y .current) in
-            rw good-is (has-within (usedOf t) r _ (y .first .rows) (worked-in Read (orderOf t) (answers t r) c (nameOf t c) (has r) _ (g .1 .inside)))
+            let y = read-yes t a (after-poll ∙ z) in
+            let g = lowest-good (answers t (a .r)) (workSet Read t (a .c) (a .r)) (y .current) in
+            rw good-is (has-within (usedOf t) (a .r) _ (y .first .rows) (worked-in Read (orderOf t) (answers t (a .r)) (a .c) (nameOf t (a .c)) (has (a .r)) _ (g .1 .inside)))
 
-        pub range-in : 32 + offset + length buffer ≤ length (rowBytes t (lowest 64 (has (v .good .bits))))
+        pub range-in : 32 + a .offset + length (a .buffer) ≤ length (rowBytes t (lowest 64 (has (v .good .bits))))
         range-in =
-            let y = read-yes t c r offset count buffer (after-poll ∙ z) in
+            let y = read-yes t a (after-poll ∙ z) in
             omega (arith, length-row (sized (y .first .formed)) (lowest 64 (has (v .good .bits))) source-used, row-length t, y .range, l)
 
-        pub read-done : (0 * 2 ^ 32 + v .version ≡ resultOf (outcome t (read c r offset count buffer))) × (t ≡ outcome t (read c r offset count buffer) .table)
-            × (part offset (length buffer) (contents (rowBytes t (lowest 64 (has (v .good .bits))))) ≡ outcome t (read c r offset count buffer) .buffer)
+        pub read-done : (0 * 2 ^ 32 + v .version ≡ resultOf (outcome t (read a))) × (t ≡ outcome t (read a) .table)
+            × (part (a .offset) (length (a .buffer)) (contents (rowBytes t (lowest 64 (has (v .good .bits))))) ≡ outcome t (read a) .buffer)
         unfolding done resultOf contentsOf
         read-done =
-            let o = when-done t (read c r offset count buffer) (refusal-is t (read c r offset count buffer) ∙ after-poll ∙ z) in (
+            let o = when-done t (read a) (refusal-is t (read a) ∙ after-poll ∙ z) in (
               ap (λ (x : ℕ). 0 * 2 ^ 32 + x) (j .version) ∙ sym (ap resultOf o),
               sym (ap (λ (x : Outcome). x .table) o),
-              ap₂ (λ (n i : ℕ). part offset n (contents (rowBytes t i))) l good-is ∙ sym (ap (λ (x : Outcome). x .buffer) o),
+              ap₂ (λ (n i : ℕ). part (a .offset) n (contents (rowBytes t i))) l good-is ∙ sym (ap (λ (x : Outcome). x .buffer) o),
             )

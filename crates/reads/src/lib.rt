@@ -8,7 +8,7 @@ ghost use Rattle.protocol.specs.Calls.{resultOf, outcome, read};
 
 // A read: the range is copied to the buffer. Value: the version.
 pub fn read(t: &[u8], c: usize, r: u64, offset: usize, count: usize, buffer: &mut [u8]) -> u64
-    ensures { λ x. ⌜ (x ≡ resultOf (outcome (now (t .entry)) (read c r offset count (now (buffer .entry))))) × (now (t .entry) ≡ outcome (now (t .entry)) (read c r offset count (now (buffer .entry))) .table) × (now (buffer .exit) ≡ outcome (now (t .entry)) (read c r offset count (now (buffer .entry))) .buffer) ⌝ }
+    ensures { λ x. ⌜ (let o = outcome (now (t .entry)) (read (record { c = c; r = r; offset = offset; count = count; buffer = now (buffer .entry) })) in (x ≡ resultOf o) × (now (t .entry) ≡ o .table) × (now (buffer .exit) ≡ o .buffer)) ⌝ }
 {
     let answering = RowSet { bits: r };
     let no = range_asked(t, c, answering, offset, count);

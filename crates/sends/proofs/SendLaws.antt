@@ -11,7 +11,7 @@ use Rattle.fields.specs.Layout.{get, version, usedOf, staleOf, versionOf, desir
 use Rattle.table.specs.WellFormed.{between, onlyRows, wellFormed}
 use Rattle.table.proofs.FormLaws.{between-is}
 use Rattle.protocol.specs.Rows.{withRow, refreshedRow}
-use Rattle.protocol.specs.Calls.{Outcome, send, firstNo, questions, isUsed, done, outcome, resultOf}
+use Rattle.protocol.specs.Calls.{Sending, Outcome, send, firstNo, questions, isUsed, done, outcome, resultOf}
 use Rattle.protocol.proofs.QuestionLaws.{refusal-is, when-done}
 
 -- question 2 names two used rows
@@ -20,19 +20,19 @@ named n f to r h =
     let both = and-l (between 1 f n && between 1 to n) _ (and-l (between 1 f n && between 1 to n && onlyRows n r) _ h) in
     (between-is 1 f n (and-l _ _ both), between-is 1 to n (and-r (between 1 f n) _ both))
 
-module _ (t : List ℕ) (f to r : ℕ) where
+module _ (t : List ℕ) (a : Sending) where
   -- the questions by their answers
   pub send-answers : (x y z : Bool) (n : ℕ) → wellFormed t ≡ x
-      → (between 1 f (usedOf t) && between 1 to (usedOf t) && onlyRows (usedOf t) r && not (eqb f to)) ≡ y
-      → (has r f && has r to) ≡ z
-      → n ≡ cond (not (staleOf t f)) (cond (staleOf t to && leb (desiredOf t to) (versionOf t f)) 0 10) 9
-      → cond x (cond y (cond z n 3) 2) 1 ≡ firstNo (questions t (send f to r))
+      → (between 1 (a .f) (usedOf t) && between 1 (a .t) (usedOf t) && onlyRows (usedOf t) (a .r) && not (eqb (a .f) (a .t))) ≡ y
+      → (has (a .r) (a .f) && has (a .r) (a .t)) ≡ z
+      → n ≡ cond (not (staleOf t (a .f))) (cond (staleOf t (a .t) && leb (desiredOf t (a .t)) (versionOf t (a .f))) 0 10) 9
+      → cond x (cond y (cond z n 3) 2) 1 ≡ firstNo (questions t (send a))
   unfolding questions firstNo isUsed
   send-answers x y z n ex ey ez en = rw (ex, ey, ez, en) refl
 
-  pub send-done : (v : ℕ) → firstNo (questions t (send f to r)) ≡ 0 → v ≡ get version (rowBytes t f)
-      → (0 * 2 ^ 32 + v ≡ resultOf (outcome t (send f to r))) × (withRow t to (refreshedRow (rowBytes t f)) ≡ outcome t (send f to r) .table)
+  pub send-done : (v : ℕ) → firstNo (questions t (send a)) ≡ 0 → v ≡ get version (rowBytes t (a .f))
+      → (0 * 2 ^ 32 + v ≡ resultOf (outcome t (send a))) × (withRow t (a .t) (refreshedRow (rowBytes t (a .f))) ≡ outcome t (send a) .table)
   unfolding done resultOf versionOf
   send-done v h e =
-      let o = when-done t (send f to r) (refusal-is t (send f to r) ∙ h) in
+      let o = when-done t (send a) (refusal-is t (send a) ∙ h) in
       (ap (λ (x : ℕ). 0 * 2 ^ 32 + x) e ∙ sym (ap resultOf o), sym (ap (λ (x : Outcome). x .table) o))

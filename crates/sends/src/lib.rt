@@ -41,7 +41,7 @@ fn rows_asked(source: &[u8], target: &[u8]) -> u32
 
 // All that a send is asked: the first no, 0 where there is none.
 fn send_asked(t: &[u8], from: usize, to: usize, answering: RowSet) -> u32
-    ensures { λ r. ⌜ r ≡ firstNo (questions (now (t .entry)) (send from to (answering .bits))) ⌝ }
+    ensures { λ r. ⌜ r ≡ firstNo (questions (now (t .entry)) (send (record { f = from; t = to; r = answering .bits }))) ⌝ }
 {
     if wellformed::well_formed(t) {
         if rows_named(header::used(t), from, to, answering) {
@@ -57,7 +57,7 @@ fn send_asked(t: &[u8], from: usize, to: usize, answering: RowSet) -> u32
 
 // A send: row `to` takes the contents and the version of row `from`. Value: that version.
 pub fn send(t: &mut [u8], from: usize, to: usize, r: u64) -> u64
-    ensures { λ x. ⌜ (x ≡ resultOf (outcome (now (t .entry)) (send from to r))) × (now (t .exit) ≡ outcome (now (t .entry)) (send from to r) .table) ⌝ }
+    ensures { λ x. ⌜ (let o = outcome (now (t .entry)) (send (record { f = from; t = to; r = r })) in (x ≡ resultOf o) × (now (t .exit) ≡ o .table)) ⌝ }
 {
     let answering = RowSet { bits: r };
     let no = send_asked(t, from, to, answering);

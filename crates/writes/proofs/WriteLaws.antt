@@ -16,7 +16,7 @@ use Rattle.table.specs.WellFormed.{limit}
 use Rattle.table.proofs.WellFormedLaws.{row-length}
 use Rattle.protocol.specs.Polls.{goodVersion, good, current, quorumHeld}
 use Rattle.protocol.specs.Rows.{withRows, wroteRow}
-use Rattle.protocol.specs.Calls.{Outcome, write, firstNo, questions, answers, workSet, done, outcome, resultOf}
+use Rattle.protocol.specs.Calls.{Writing, Outcome, write, firstNo, questions, answers, workSet, done, outcome, resultOf}
 use Rattle.protocol.proofs.PollLaws.{worked-in}
 use Rattle.protocol.proofs.QuestionLaws.{write-yes, refusal-is, when-done}
 use Rattle.settle.specs.declared.Settled.{Settled}
@@ -24,52 +24,52 @@ use Rattle.settle.specs.Works.{Works}
 use Rattle.questions.specs.Stages.{toRange}
 use Rattle.questions.proofs.QuestionLaws.{after-range, before-range, Refused, refused-is, no-in, yes-in}
 
-module _ (t : List ℕ) (c r offset : ℕ) (patch : List ℕ) where
+module _ (t : List ℕ) (a : Writing) where
   -- refused by 1 to 4
-  pub write-early : (n : ℕ) → n ≡ firstNo (toRange t c r offset (length patch)) → 1 ≤ n → Refused t (write c r offset patch) n
+  pub write-early : (n : ℕ) → n ≡ firstNo (toRange t (a .c) (a .r) (a .offset) (length (a .patch))) → 1 ≤ n → Refused t (write a) n
   unfolding questions
-  write-early n e h = refused-is t (write c r offset patch) n (before-range t c r offset (length patch) _ n e h) h
+  write-early n e h = refused-is t (write a) n (before-range t (a .c) (a .r) (a .offset) (length (a .patch)) _ n e h) h
 
-  module _ (p : firstNo (toRange t c r offset (length patch)) ≡ 0) (v : Settled) (j : Works Write t c r v) where
-    after-four : firstNo (questions t (write c r offset patch))
-        ≡ cond (quorumHeld Write (orderOf t) (answers t r) (workSet Write t c r)) (cond (current (answers t r) (workSet Write t c r)) (cond (ltb (v .version) limit) 0 8) 7) 6
+  module _ (p : firstNo (toRange t (a .c) (a .r) (a .offset) (length (a .patch))) ≡ 0) (v : Settled) (j : Works Write t (a .c) (a .r) v) where
+    after-four : firstNo (questions t (write a))
+        ≡ cond (quorumHeld Write (orderOf t) (answers t (a .r)) (workSet Write t (a .c) (a .r))) (cond (current (answers t (a .r)) (workSet Write t (a .c) (a .r))) (cond (ltb (v .version) limit) 0 8) 7) 6
     unfolding questions firstNo
     after-four =
-        after-range t c r offset (length patch) _ p
-        ∙ ap (λ (n : ℕ). cond (quorumHeld Write (orderOf t) (answers t r) (workSet Write t c r)) (cond (current (answers t r) (workSet Write t c r)) (cond (ltb n limit) 0 8) 7) 6) (sym (j .version))
+        after-range t (a .c) (a .r) (a .offset) (length (a .patch)) _ p
+        ∙ ap (λ (n : ℕ). cond (quorumHeld Write (orderOf t) (answers t (a .r)) (workSet Write t (a .c) (a .r))) (cond (current (answers t (a .r)) (workSet Write t (a .c) (a .r))) (cond (ltb n limit) 0 8) 7) 6) (sym (j .version))
 
     -- refused by 6 or 7
-    pub write-no : 1 ≤ v .refusal → Refused t (write c r offset patch) (v .refusal)
-    write-no h = refused-is t (write c r offset patch) (v .refusal) (after-four ∙ no-in (quorumHeld Write (orderOf t) (answers t r) (workSet Write t c r)) (current (answers t r) (workSet Write t c r)) (cond (ltb (v .version) limit) 0 8) (v .refusal) (j .refusal) h) h
+    pub write-no : 1 ≤ v .refusal → Refused t (write a) (v .refusal)
+    write-no h = refused-is t (write a) (v .refusal) (after-four ∙ no-in (quorumHeld Write (orderOf t) (answers t (a .r)) (workSet Write t (a .c) (a .r))) (current (answers t (a .r)) (workSet Write t (a .c) (a .r))) (cond (ltb (v .version) limit) 0 8) (v .refusal) (j .refusal) h) h
 
     module _ (z : v .refusal ≡ 0) where
-      after-seven : firstNo (questions t (write c r offset patch)) ≡ cond (ltb (v .version) limit) 0 8
-      after-seven = after-four ∙ yes-in (quorumHeld Write (orderOf t) (answers t r) (workSet Write t c r)) (current (answers t r) (workSet Write t c r)) (cond (ltb (v .version) limit) 0 8) (v .refusal) (j .refusal) z
+      after-seven : firstNo (questions t (write a)) ≡ cond (ltb (v .version) limit) 0 8
+      after-seven = after-four ∙ yes-in (quorumHeld Write (orderOf t) (answers t (a .r)) (workSet Write t (a .c) (a .r))) (current (answers t (a .r)) (workSet Write t (a .c) (a .r))) (cond (ltb (v .version) limit) 0 8) (v .refusal) (j .refusal) z
 
       -- refused by 8
-      pub write-full : ltb (v .version) limit ≡ false → Refused t (write c r offset patch) 8
-      write-full h = refused-is t (write c r offset patch) 8 (after-seven ∙ ap (λ (b : Bool). cond b 0 8) h) (omega arith)
+      pub write-full : ltb (v .version) limit ≡ false → Refused t (write a) 8
+      write-full h = refused-is t (write a) 8 (after-seven ∙ ap (λ (b : Bool). cond b 0 8) h) (omega arith)
 
       module _ (l : ltb (v .version) limit ≡ true) where
-        all-yes : firstNo (questions t (write c r offset patch)) ≡ 0
+        all-yes : firstNo (questions t (write a)) ≡ 0
         all-yes = after-seven ∙ ap (λ (b : Bool). cond b 0 8) l
 
-        pub patch-in : 32 + offset + length patch ≤ rowLength t
-        patch-in = omega (arith, row-length t, write-yes t c r offset patch all-yes .range)
+        pub patch-in : 32 + a .offset + length (a .patch) ≤ rowLength t
+        patch-in = omega (arith, row-length t, write-yes t a all-yes .range)
 
         -- the rows worked on answered, and are used
         pub works-used : (i : ℕ) → has (v .rows .bits) i ≡ true → Within (usedOf t) i
         unfolding workSet
-        works-used i h = has-within (usedOf t) r i (write-yes t c r offset patch all-yes .first .rows)
-            (worked-in Write (orderOf t) (answers t r) c (nameOf t c) (has r) i (ap (λ (f : ℕ → Bool). f i) (sym (j .rows)) ∙ h))
+        works-used i h = has-within (usedOf t) (a .r) i (write-yes t a all-yes .first .rows)
+            (worked-in Write (orderOf t) (answers t (a .r)) (a .c) (nameOf t (a .c)) (has (a .r)) i (ap (λ (f : ℕ → Bool). f i) (sym (j .rows)) ∙ h))
 
-        pub write-done : (0 * 2 ^ 32 + (v .version + 1) ≡ resultOf (outcome t (write c r offset patch)))
-            × (withRows t (has (v .rows .bits)) (wroteRow (has (v .good .bits)) (v .version + 1) offset patch) (usedOf t) ≡ outcome t (write c r offset patch) .table)
+        pub write-done : (0 * 2 ^ 32 + (v .version + 1) ≡ resultOf (outcome t (write a)))
+            × (withRows t (has (v .rows .bits)) (wroteRow (has (v .good .bits)) (v .version + 1) (a .offset) (a .patch)) (usedOf t) ≡ outcome t (write a) .table)
         unfolding done resultOf
         write-done =
-            let o = when-done t (write c r offset patch) (refusal-is t (write c r offset patch) ∙ all-yes) in (
+            let o = when-done t (write a) (refusal-is t (write a) ∙ all-yes) in (
               ap (λ (x : ℕ). 0 * 2 ^ 32 + (x + 1)) (j .version) ∙ sym (ap resultOf o),
-              ap₂ (λ (x : ℕ → Bool) (g : ℕ → Bool). withRows t x (wroteRow g (v .version + 1) offset patch) (usedOf t)) (j .rows) (j .good)
-                  ∙ ap (λ (n : ℕ). withRows t (workSet Write t c r) (wroteRow (good (answers t r) (workSet Write t c r)) (n + 1) offset patch) (usedOf t)) (j .version)
+              ap₂ (λ (x : ℕ → Bool) (g : ℕ → Bool). withRows t x (wroteRow g (v .version + 1) (a .offset) (a .patch)) (usedOf t)) (j .rows) (j .good)
+                  ∙ ap (λ (n : ℕ). withRows t (workSet Write t (a .c) (a .r)) (wroteRow (good (answers t (a .r)) (workSet Write t (a .c) (a .r))) (n + 1) (a .offset) (a .patch)) (usedOf t)) (j .version)
                   ∙ sym (ap (λ (x : Outcome). x .table) o),
             )

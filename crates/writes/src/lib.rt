@@ -9,7 +9,7 @@ ghost use Rattle.protocol.specs.Calls.{resultOf, outcome, write};
 
 // A write: the patch goes to the good rows worked on, the others are marked. Value: the new version.
 pub fn write(t: &mut [u8], c: usize, r: u64, offset: usize, patch: &[u8]) -> u64
-    ensures { λ x. ⌜ (x ≡ resultOf (outcome (now (t .entry)) (write c r offset (now (patch .entry))))) × (now (t .exit) ≡ outcome (now (t .entry)) (write c r offset (now (patch .entry))) .table) ⌝ }
+    ensures { λ x. ⌜ (let o = outcome (now (t .entry)) (write (record { c = c; r = r; offset = offset; patch = now (patch .entry) })) in (x ≡ resultOf o) × (now (t .exit) ≡ o .table)) ⌝ }
 {
     let answering = RowSet { bits: r };
     let no = range_asked(t, c, answering, offset, patch.len());

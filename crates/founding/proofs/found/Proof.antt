@@ -7,26 +7,30 @@ use borrow.Author.Tests.{not-true, not-false}
 use lib.Dec.{eqb, leb}
 use lib.ListN.{length}
 use Rattle.table.specs.WellFormed.{between}
-use Rattle.protocol.specs.Calls.{founding, namesIn}
+use Rattle.protocol.specs.Calls.{Founding, founding, namesIn}
 use Rattle.questions.proofs.QuestionLaws.{refused-is}
 use Rattle.founding.proofs.FoundingLaws.{NamesRight, SizesRight, two-each, found-answers, found-fits, found-done}
 use Rattle.founding.proofs.found.Statement.{statement}
 use Rattle.founding.proofs.found.Tie as tie
 
+-- the arguments of the call
+abbrev asked : tie.Start → Founding
+asked s = record { capacity = s .args .capacity; fileLength = s .args .file; names = s .args .names .now }
+
 -- question 11 is passed
-eleven : (c : tie.Else1) → let a = c .before .before .before .before .args in NamesRight (a .t .now) (a .capacity) (a .file) (a .names .now) ≡ true
+eleven : (c : tie.Else1) → let start = c .before .before .before .before in NamesRight (start .args .t .now) (asked start) ≡ true
 eleven c = sym (c .before .names-right .ensures) ∙ not-false _ (c .if1 .left)
 
 half : (c : tie.Else1) → let names = c .before .before .before .before .args .names .now in length names / 2 ≡ length (namesIn names)
-half c = let a = c .before .before .before .before .args in omega (arith, two-each (a .t .now) (a .capacity) (a .file) (a .names .now) (eleven c))
+half c = let start = c .before .before .before .before in omega (arith, two-each (start .args .t .now) (asked start) (eleven c))
 
 -- question 12 by its answer
-sized : (c : tie.After-sizes-right) → let a = c .before .before .before .before .before .args in SizesRight (a .t .now) (a .capacity) (a .file) (a .names .now) ≡ c .sizes-right .result
+sized : (c : tie.After-sizes-right) → let start = c .before .before .before .before .before in SizesRight (start .args .t .now) (asked start) ≡ c .sizes-right .result
 sized c =
-    let a = c .before .before .before .before .before .args in
-    sym (c .sizes-right .ensures ∙ ap (λ (n : ℕ). between 1 (a .capacity) 64 && leb n (a .capacity) && between 1 (a .file) 4_096 && eqb (length (a .t .now)) (16 + a .capacity * (32 + a .file))) (half (c .before)))
+    let start = c .before .before .before .before .before in
+    sym (c .sizes-right .ensures ∙ ap (λ (n : ℕ). between 1 (start .args .capacity) 64 && leb n (start .args .capacity) && between 1 (start .args .file) 4_096 && eqb (length (start .args .t .now)) (16 + start .args .capacity * (32 + start .args .file))) (half (c .before)))
 
-twelve : (c : tie.Else2) → let a = c .before .before .before .before .before .before .args in SizesRight (a .t .now) (a .capacity) (a .file) (a .names .now) ≡ true
+twelve : (c : tie.Else2) → let start = c .before .before .before .before .before .before in SizesRight (start .args .t .now) (asked start) ≡ true
 twelve c = sized (c .before) ∙ not-false _ (c .if2 .left)
 
 names-right-requires : tie.Need-names-right-requires
@@ -37,8 +41,8 @@ result-requires c κs = search needs
 
 returns : tie.Need-returns
 returns c =
-    let a = c .before .before .before .before .before .args in
-    let no = refused-is (a .t .now) (founding (a .capacity) (a .file) (a .names .now)) 11 (sym (found-answers (a .t .now) (a .capacity) (a .file) (a .names .now) false _ (sym (c .before .before .names-right .ensures) ∙ not-true _ (c .before .if1 .taken)) refl)) (omega arith) in
+    let start = c .before .before .before .before .before in
+    let no = refused-is (start .args .t .now) (founding (asked start)) 11 (sym (found-answers (start .args .t .now) (asked start) false _ (sym (c .before .before .names-right .ensures) ∙ not-true _ (c .before .if1 .taken)) refl)) (omega arith) in
     (c .result .ensures ∙ no .result, no .table)
 
 sizes-right-requires : tie.Need-sizes-right-requires
@@ -49,17 +53,17 @@ result-requires-2 c κs = search needs
 
 returns-2 : tie.Need-returns-2
 returns-2 c =
-    let a = c .before .before .before .before .before .before .before .args in
-    let no = refused-is (a .t .now) (founding (a .capacity) (a .file) (a .names .now)) 12 (sym (found-answers (a .t .now) (a .capacity) (a .file) (a .names .now) true false (eleven (c .before .before .before)) (sized (c .before .before) ∙ not-true _ (c .before .if2 .taken)))) (omega arith) in
+    let start = c .before .before .before .before .before .before .before in
+    let no = refused-is (start .args .t .now) (founding (asked start)) 12 (sym (found-answers (start .args .t .now) (asked start) true false (eleven (c .before .before .before)) (sized (c .before .before) ∙ not-true _ (c .before .if2 .taken)))) (omega arith) in
     (c .result2 .ensures ∙ no .result, no .table)
 
 lay-table-requires : tie.Need-lay-table-requires
-lay-table-requires c κs = let a = c .before .before .before .before .before .before .before .args in found-fits (a .t .now) (a .capacity) (a .file) (a .names .now) (eleven (c .before .before .before)) (twelve (c .before))
+lay-table-requires c κs = let start = c .before .before .before .before .before .before .before in found-fits (start .args .t .now) (asked start) (eleven (c .before .before .before)) (twelve (c .before))
 
 cast-result : tie.Need-cast-result
 cast-result c =
-    let a = c .before .before .before .before .before .before .before .before .before .before .args in
-    let f = found-fits (a .t .now) (a .capacity) (a .file) (a .names .now) (eleven (c .before .before .before .before .before .before)) (twelve (c .before .before .before .before)) in
+    let start = c .before .before .before .before .before .before .before .before .before .before in
+    let f = found-fits (start .args .t .now) (asked start) (eleven (c .before .before .before .before .before .before)) (twelve (c .before .before .before .before)) in
     record { fits = omega (arith, f .2, f .3, f .4) }
 
 result-requires-3 : tie.Need-result-requires-3
@@ -70,8 +74,8 @@ same-length c = search needs
 
 returns-3 : tie.Need-returns-3
 returns-3 c =
-    let a = c .before .before .before .before .before .before .before .before .before .before .before .args in
-    let yes = found-done (a .t .now) (a .capacity) (a .file) (a .names .now) (eleven (c .before .before .before .before .before .before .before)) (twelve (c .before .before .before .before .before)) in
+    let start = c .before .before .before .before .before .before .before .before .before .before .before in
+    let yes = found-done (start .args .t .now) (asked start) (eleven (c .before .before .before .before .before .before .before)) (twelve (c .before .before .before .before .before)) in
     (c .result3 .ensures ∙ ap (λ (n : ℕ). 0 * 2 ^ 32 + n) (half (c .before .before .before .before .before .before .before)) ∙ yes .0, c .before .before .before .lay-table .ensures ∙ yes .1)
 
 pub found-spec : {M : Type 1} → statement M

@@ -5,7 +5,7 @@ use lib.ListN.{length}
 use Rattle.bytes.specs.Bytes.{part}
 use Rattle.fields.specs.Layout.{rowBytes, contents}
 use Rattle.table.proofs.WellFormedLaws.{sized}
-use Rattle.protocol.specs.Calls.{firstNo, lent}
+use Rattle.protocol.specs.Calls.{Reading, firstNo, lent}
 use Rattle.protocol.proofs.QuestionLaws.{ByCoordinator}
 use Rattle.questions.specs.Stages.{toRange}
 use Rattle.questions.proofs.QuestionLaws.{range-passed}
@@ -13,16 +13,20 @@ use Rattle.reads.proofs.ReadLaws.{read-early, read-long, read-no, sourc
 use Rattle.reads.proofs.read.Statement.{statement}
 use Rattle.reads.proofs.read.Tie as tie
 
+-- the arguments of the call
+abbrev reading : tie.Start → Reading
+reading s = record { c = s .args .c; r = s .args .r; offset = s .args .offset; count = s .args .count; buffer = s .args .buffer .now }
+
 -- questions 1 to 4 are passed
-passed : (c : tie.Else1) → let a = c .before .before .before .before .args in firstNo (toRange (a .t .now) (a .c) (a .r) (a .offset) (a .count)) ≡ 0
+passed : (c : tie.Else1) → let start = c .before .before .before .before in firstNo (toRange (start .args .t .now) (start .args .c) (start .args .r) (start .args .offset) (start .args .count)) ≡ 0
 passed c = sym (c .before .range-asked .ensures) ∙ (let none : c .before .range-asked .result ≡ 0 = omega arith in none)
 
 -- and 1 to 3 among them
-asked : (c : tie.Else1) → let a = c .before .before .before .before .args in ByCoordinator (a .t .now) (a .c) (a .r)
-asked c = let a = c .before .before .before .before .args in range-passed (a .t .now) (a .c) (a .r) (a .offset) (a .count) (passed c) .0
+asked : (c : tie.Else1) → let start = c .before .before .before .before in ByCoordinator (start .args .t .now) (start .args .c) (start .args .r)
+asked c = let start = c .before .before .before .before in range-passed (start .args .t .now) (start .args .c) (start .args .r) (start .args .offset) (start .args .count) (passed c) .0
 
 -- 5 is passed
-fitting : (c : tie.Else2) → let a = c .before .before .before .before .before .args in length (a .buffer .now) ≡ a .count
+fitting : (c : tie.Else2) → let start = c .before .before .before .before .before in length (start .args .buffer .now) ≡ start .args .count
 fitting c = omega arith
 
 -- 6 and 7 are passed
@@ -38,8 +42,8 @@ result-requires c κs = search needs
 returns : tie.Need-returns
 unfolding lent
 returns c =
-    let a = c .before .before .before .before .before .args in
-    let no = read-early (a .t .now) (a .c) (a .r) (a .offset) (a .count) (a .buffer .now) _ (c .before .before .range-asked .ensures) (omega arith) in
+    let start = c .before .before .before .before .before in
+    let no = read-early (start .args .t .now) (reading start) _ (c .before .before .range-asked .ensures) (omega arith) in
     (c .result .ensures ∙ no .result, no .table, no .buffer)
 
 result-requires-2 : tie.Need-result-requires-2
@@ -48,8 +52,8 @@ result-requires-2 c κs = search needs
 returns-2 : tie.Need-returns-2
 unfolding lent
 returns-2 c =
-    let a = c .before .before .before .before .before .before .args in
-    let no = read-long (a .t .now) (a .c) (a .r) (a .offset) (a .count) (a .buffer .now) (passed (c .before .before)) (λ e. omega arith) in
+    let start = c .before .before .before .before .before .before in
+    let no = read-long (start .args .t .now) (reading start) (passed (c .before .before)) (λ e. omega arith) in
     (c .result2 .ensures ∙ no .result, no .table, no .buffer)
 
 settle-requires : tie.Need-settle-requires
@@ -61,9 +65,9 @@ result-requires-3 c κs = search needs
 returns-3 : tie.Need-returns-3
 unfolding lent
 returns-3 c =
-    let a = c .before .before .before .before .before .before .before .before .before .args in
+    let start = c .before .before .before .before .before .before .before .before .before in
     let s = c .before .before .before .settle in
-    let no = read-no (a .t .now) (a .c) (a .r) (a .offset) (a .count) (a .buffer .now) (passed (c .before .before .before .before .before)) (fitting (c .before .before .before .before)) (s .result) (s .ensures) (omega arith) in
+    let no = read-no (start .args .t .now) (reading start) (passed (c .before .before .before .before .before)) (fitting (c .before .before .before .before)) (s .result) (s .ensures) (omega arith) in
     (c .result3 .ensures ∙ no .result, no .table, no .buffer)
 
 lowest-requires : tie.Need-lowest-requires
@@ -71,16 +75,16 @@ lowest-requires c κs = search needs
 
 row-of-requires : tie.Need-row-of-requires
 row-of-requires c κs =
-    let a = c .before .before .before .before .before .before .before .before .before .args in
+    let start = c .before .before .before .before .before .before .before .before .before in
     let s = c .before .before .before .settle in
-    (sized (asked (c .before .before .before .before .before) .formed), rw (c .lowest .ensures) (source-used (a .t .now) (a .c) (a .r) (a .offset) (a .count) (a .buffer .now) (passed (c .before .before .before .before .before)) (fitting (c .before .before .before .before)) (s .result) (s .ensures) (settled-here (c .before))))
+    (sized (asked (c .before .before .before .before .before) .formed), rw (c .lowest .ensures) (source-used (start .args .t .now) (reading start) (passed (c .before .before .before .before .before)) (fitting (c .before .before .before .before)) (s .result) (s .ensures) (settled-here (c .before))))
 
 copy-out-requires : tie.Need-copy-out-requires
 copy-out-requires c κs =
-    let a = c .before .before .before .before .before .before .before .before .before .before .before .args in
+    let start = c .before .before .before .before .before .before .before .before .before .before .before in
     let s = c .before .before .before .before .before .settle in
     rw (c .before .row-of .ensures .0, c .before .before .lowest .ensures)
-    (range-in (a .t .now) (a .c) (a .r) (a .offset) (a .count) (a .buffer .now) (passed (c .before .before .before .before .before .before .before)) (fitting (c .before .before .before .before .before .before)) (s .result) (s .ensures) (settled-here (c .before .before .before)))
+    (range-in (start .args .t .now) (reading start) (passed (c .before .before .before .before .before .before .before)) (fitting (c .before .before .before .before .before .before)) (s .result) (s .ensures) (settled-here (c .before .before .before)))
 
 result-requires-4 : tie.Need-result-requires-4
 result-requires-4 c κs = search needs
@@ -90,11 +94,11 @@ same-length c = search needs
 
 returns-4 : tie.Need-returns-4
 returns-4 c =
-    let a = c .before .before .before .before .before .before .before .before .before .before .before .before .before .before .before .args in
+    let start = c .before .before .before .before .before .before .before .before .before .before .before .before .before .before .before in
     let s = c .before .before .before .before .before .before .before .before .before .settle in
-    let yes = read-done (a .t .now) (a .c) (a .r) (a .offset) (a .count) (a .buffer .now) (passed (c .before .before .before .before .before .before .before .before .before .before .before)) (fitting (c .before .before .before .before .before .before .before .before .before .before)) (s .result) (s .ensures) (settled-here (c .before .before .before .before .before .before .before)) in
-    let row = c .before .before .before .before .before .row-of .ensures .0 ∙ ap (rowBytes (a .t .now)) (c .before .before .before .before .before .before .lowest .ensures) in
-    (c .result4 .ensures ∙ yes .0, yes .1, c .before .before .before .copy-out .ensures ∙ ap (λ x. part (a .offset) (length (a .buffer .now)) (contents x)) row ∙ yes .2)
+    let yes = read-done (start .args .t .now) (reading start) (passed (c .before .before .before .before .before .before .before .before .before .before .before)) (fitting (c .before .before .before .before .before .before .before .before .before .before)) (s .result) (s .ensures) (settled-here (c .before .before .before .before .before .before .before)) in
+    let row = c .before .before .before .before .before .row-of .ensures .0 ∙ ap (rowBytes (start .args .t .now)) (c .before .before .before .before .before .before .lowest .ensures) in
+    (c .result4 .ensures ∙ yes .0, yes .1, c .before .before .before .copy-out .ensures ∙ ap (λ x. part (start .args .offset) (length (start .args .buffer .now)) (contents x)) row ∙ yes .2)
 
 pub read-spec : {M : Type 1} → statement M
 read-spec =

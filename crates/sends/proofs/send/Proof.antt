@@ -3,18 +3,22 @@ use mathlib.Core.Path.{_≡_, sym, _∙_, ap}
 use native.Mathlib.Omega.{arith}
 use Rattle.fields.specs.Layout.{get, version}
 use Rattle.table.proofs.WellFormedLaws.{sized}
-use Rattle.protocol.specs.Calls.{send, firstNo, questions}
+use Rattle.protocol.specs.Calls.{Sending, send, firstNo, questions}
 use Rattle.protocol.proofs.QuestionLaws.{SendYes, send-yes}
 use Rattle.questions.proofs.QuestionLaws.{refused-is}
 use Rattle.sends.proofs.SendLaws.{send-done}
 use Rattle.sends.proofs.send.Statement.{statement}
 use Rattle.sends.proofs.send.Tie as tie
 
-passed : (c : tie.Else1) → let a = c .before .before .before .before .args in firstNo (questions (a .t .now) (send (a .from) (a .to) (a .r))) ≡ 0
+-- the arguments of the call
+abbrev sending : tie.Start → Sending
+sending s = record { f = s .args .from; t = s .args .to; r = s .args .r }
+
+passed : (c : tie.Else1) → let start = c .before .before .before .before in firstNo (questions (start .args .t .now) (send (sending start))) ≡ 0
 passed c = sym (c .before .send-asked .ensures) ∙ (let none : c .before .send-asked .result ≡ 0 = omega arith in none)
 
-yes : (c : tie.Else1) → let a = c .before .before .before .before .args in SendYes (a .t .now) (a .from) (a .to) (a .r)
-yes c = send-yes _ _ _ _ (passed c)
+yes : (c : tie.Else1) → let start = c .before .before .before .before in SendYes (start .args .t .now) (sending start)
+yes c = send-yes _ _ (passed c)
 
 send-asked-requires : tie.Need-send-asked-requires
 send-asked-requires c κs = search needs
@@ -27,8 +31,8 @@ same-length c = search needs
 
 returns : tie.Need-returns
 returns c =
-    let a = c .before .before .before .before .before .args in
-    let no = refused-is (a .t .now) (send (a .from) (a .to) (a .r)) _ (sym (c .before .before .send-asked .ensures)) (omega arith) in
+    let start = c .before .before .before .before .before in
+    let no = refused-is (start .args .t .now) (send (sending start)) _ (sym (c .before .before .send-asked .ensures)) (omega arith) in
     (c .result .ensures ∙ no .result, no .table)
 
 row-of-requires : tie.Need-row-of-requires
@@ -48,8 +52,8 @@ same-length-2 c = search needs
 
 returns-2 : tie.Need-returns-2
 returns-2 c =
-    let a = c .before .before .before .before .before .before .before .before .before .before .before .before .args in
-    let done = send-done (a .t .now) (a .from) (a .to) (a .r) _ (passed (c .before .before .before .before .before .before .before .before)) (c .before .before .before .before .before .version .ensures ∙ ap (get version) (c .before .before .before .before .before .before .row-of .ensures .0)) in
+    let start = c .before .before .before .before .before .before .before .before .before .before .before .before in
+    let done = send-done (start .args .t .now) (sending start) _ (passed (c .before .before .before .before .before .before .before .before)) (c .before .before .before .before .before .version .ensures ∙ ap (get version) (c .before .before .before .before .before .before .row-of .ensures .0)) in
     (c .result2 .ensures ∙ done .0, c .before .before .before .refresh .ensures ∙ done .1)
 
 pub send-spec : {M : Type 1} → statement M

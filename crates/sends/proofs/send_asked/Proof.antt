@@ -10,9 +10,14 @@ use Rattle.sets.specs.Sets.{has}
 use Rattle.fields.specs.Layout.{get, mark, version, desired, usedOf, staleOf, versionOf, desiredOf}
 use Rattle.table.specs.WellFormed.{between, onlyRows, wellFormed}
 use Rattle.table.proofs.WellFormedLaws.{sized, long, few-rows}
+use Rattle.protocol.specs.Calls.{Sending}
 use Rattle.sends.proofs.SendLaws.{named, send-answers}
 use Rattle.sends.proofs.send_asked.Statement.{statement}
 use Rattle.sends.proofs.send_asked.Tie as tie
+
+-- the arguments of the call
+abbrev sending : tie.Start → Sending
+sending s = record { f = s .args .from; t = s .args .to; r = s .args .answering .bits }
 
 formed : (c : tie.Then1) → wellFormed (c .before .before .before .args .t .now) ≡ true
 formed c = sym (c .before .well-formed .ensures) ∙ c .if1 .taken
@@ -59,24 +64,24 @@ rows-asked-requires c κs = search needs
 returns : tie.Need-returns
 unfolding staleOf versionOf desiredOf
 returns c =
-    let a = c .before .before .before .before .before .before .before .before .before .before .before .before .before .args in
+    let start = c .before .before .before .before .before .before .before .before .before .before .before .before .before in
     let e = c .rows-asked .ensures ∙ ap₂ (λ (x y : List ℕ). cond (not (eqb (get mark x) 1)) (cond (eqb (get mark y) 1 && leb (get desired y) (get version x)) 0 10) 9) (c .before .before .row-of .ensures .0) (c .before .row-of2 .ensures .0) in
-    send-answers (a .t .now) (a .from) (a .to) (a .answering .bits) true true true _ (formed (c .before .before .before .before .before .before .before .before .before .before)) (question-2 (c .before .before .before .before .before .before .before .before) ∙ c .before .before .before .before .before .before .before .if2 .taken) (question-3 (c .before .before .before .before) ∙ c .before .before .before .if3 .taken) e
+    send-answers (start .args .t .now) (sending start) true true true _ (formed (c .before .before .before .before .before .before .before .before .before .before)) (question-2 (c .before .before .before .before .before .before .before .before) ∙ c .before .before .before .before .before .before .before .if2 .taken) (question-3 (c .before .before .before .before) ∙ c .before .before .before .if3 .taken) e
 
 returns-2 : tie.Need-returns-2
 returns-2 c =
-    let a = c .before .before .before .before .before .before .before .before .before .before .args in
-    send-answers (a .t .now) (a .from) (a .to) (a .answering .bits) true true false _ (formed (c .before .before .before .before .before .before .before)) (question-2 (c .before .before .before .before .before) ∙ c .before .before .before .before .if2 .taken) (question-3 (c .before) ∙ c .if3 .left) refl
+    let start = c .before .before .before .before .before .before .before .before .before .before in
+    send-answers (start .args .t .now) (sending start) true true false _ (formed (c .before .before .before .before .before .before .before)) (question-2 (c .before .before .before .before .before) ∙ c .before .before .before .before .if2 .taken) (question-3 (c .before) ∙ c .if3 .left) refl
 
 returns-3 : tie.Need-returns-3
 returns-3 c =
-    let a = c .before .before .before .before .before .before .args in
-    send-answers (a .t .now) (a .from) (a .to) (a .answering .bits) true false _ _ (formed (c .before .before .before)) (question-2 (c .before) ∙ c .if2 .left) refl refl
+    let start = c .before .before .before .before .before .before in
+    send-answers (start .args .t .now) (sending start) true false _ _ (formed (c .before .before .before)) (question-2 (c .before) ∙ c .if2 .left) refl refl
 
 returns-4 : tie.Need-returns-4
 returns-4 c =
-    let a = c .before .before .before .args in
-    send-answers (a .t .now) (a .from) (a .to) (a .answering .bits) false _ _ _ (sym (c .before .well-formed .ensures) ∙ c .if1 .left) refl refl refl
+    let start = c .before .before .before in
+    send-answers (start .args .t .now) (sending start) false _ _ _ (sym (c .before .well-formed .ensures) ∙ c .if1 .left) refl refl refl
 
 pub send-asked-spec : {M : Type 1} → statement M
 send-asked-spec =

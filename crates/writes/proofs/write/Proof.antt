@@ -7,7 +7,7 @@ use lib.Dec.{ltb}
 use lib.ListN.{length}
 use Rattle.table.proofs.WellFormedLaws.{sized}
 use Rattle.table.specs.WellFormed.{limit}
-use Rattle.protocol.specs.Calls.{firstNo}
+use Rattle.protocol.specs.Calls.{Writing, firstNo}
 use Rattle.protocol.proofs.QuestionLaws.{ByCoordinator}
 use Rattle.questions.specs.Stages.{toRange}
 use Rattle.questions.proofs.QuestionLaws.{range-passed}
@@ -15,13 +15,17 @@ use Rattle.writes.proofs.WriteLaws.{write-early, write-no, write-full, 
 use Rattle.writes.proofs.write.Statement.{statement}
 use Rattle.writes.proofs.write.Tie as tie
 
+-- the arguments of the call
+abbrev writing : tie.Start → Writing
+writing s = record { c = s .args .c; r = s .args .r; offset = s .args .offset; patch = s .args .patch .now }
+
 -- questions 1 to 4 are passed
-passed : (c : tie.Else1) → let a = c .before .before .before .before .before .args in firstNo (toRange (a .t .now) (a .c) (a .r) (a .offset) (length (a .patch .now))) ≡ 0
+passed : (c : tie.Else1) → let start = c .before .before .before .before .before in firstNo (toRange (start .args .t .now) (start .args .c) (start .args .r) (start .args .offset) (length (start .args .patch .now))) ≡ 0
 passed c = sym (c .before .range-asked .ensures) ∙ (let none : c .before .range-asked .result ≡ 0 = omega arith in none)
 
 -- and 1 to 3 among them
-asked : (c : tie.Else1) → let a = c .before .before .before .before .before .args in ByCoordinator (a .t .now) (a .c) (a .r)
-asked c = let a = c .before .before .before .before .before .args in range-passed (a .t .now) (a .c) (a .r) (a .offset) (length (a .patch .now)) (passed c) .0
+asked : (c : tie.Else1) → let start = c .before .before .before .before .before in ByCoordinator (start .args .t .now) (start .args .c) (start .args .r)
+asked c = let start = c .before .before .before .before .before in range-passed (start .args .t .now) (start .args .c) (start .args .r) (start .args .offset) (length (start .args .patch .now)) (passed c) .0
 
 -- 6 and 7 are passed
 settled-here : (c : tie.Else2) → c .before .before .settle .result .refusal ≡ 0
@@ -42,8 +46,8 @@ same-length c = search needs
 
 returns : tie.Need-returns
 returns c =
-    let a = c .before .before .before .before .before .before .args in
-    let no = write-early (a .t .now) (a .c) (a .r) (a .offset) (a .patch .now) _ (c .before .before .range-asked .ensures) (omega arith) in
+    let start = c .before .before .before .before .before .before in
+    let no = write-early (start .args .t .now) (writing start) _ (c .before .before .range-asked .ensures) (omega arith) in
     (c .result .ensures ∙ no .result, no .table)
 
 settle-requires : tie.Need-settle-requires
@@ -57,9 +61,9 @@ same-length-2 c = search needs
 
 returns-2 : tie.Need-returns-2
 returns-2 c =
-    let a = c .before .before .before .before .before .before .before .before .before .before .args in
+    let start = c .before .before .before .before .before .before .before .before .before .before in
     let s = c .before .before .before .settle in
-    let no = write-no (a .t .now) (a .c) (a .r) (a .offset) (a .patch .now) (passed (c .before .before .before .before .before)) (s .result) (s .ensures) (omega arith) in
+    let no = write-no (start .args .t .now) (writing start) (passed (c .before .before .before .before .before)) (s .result) (s .ensures) (omega arith) in
     (c .result2 .ensures ∙ no .result, no .table)
 
 below-limit-requires : tie.Need-below-limit-requires
@@ -73,9 +77,9 @@ same-length-3 c = search needs
 
 returns-3 : tie.Need-returns-3
 returns-3 c =
-    let a = c .before .before .before .before .before .before .before .before .before .before .before .before .args in
+    let start = c .before .before .before .before .before .before .before .before .before .before .before .before in
     let s = c .before .before .before .before .before .settle in
-    let no = write-full (a .t .now) (a .c) (a .r) (a .offset) (a .patch .now) (passed (c .before .before .before .before .before .before .before)) (s .result) (s .ensures) (settled-here (c .before .before .before))
+    let no = write-full (start .args .t .now) (writing start) (passed (c .before .before .before .before .before .before .before)) (s .result) (s .ensures) (settled-here (c .before .before .before))
     (sym (c .before .before .below-limit .ensures) ∙ not-true _ (c .before .if3 .taken)) in
     (c .result3 .ensures ∙ no .result, no .table)
 
@@ -85,11 +89,11 @@ add-version c = let v = c .before .before .before .before .before .settle .resul
 
 write-rows-requires : tie.Need-write-rows-requires
 write-rows-requires c κs =
-    let a = c .before .before .before .before .before .before .before .before .before .before .before .before .before .args in
+    let start = c .before .before .before .before .before .before .before .before .before .before .before .before .before in
     let s = c .before .before .before .before .before .before .settle in (
       sized (asked (c .before .before .before .before .before .before .before .before) .formed),
-      works-used (a .t .now) (a .c) (a .r) (a .offset) (a .patch .now) (passed (c .before .before .before .before .before .before .before .before)) (s .result) (s .ensures) (settled-here (c .before .before .before .before)) (room (c .before .before)),
-      patch-in (a .t .now) (a .c) (a .r) (a .offset) (a .patch .now) (passed (c .before .before .before .before .before .before .before .before)) (s .result) (s .ensures) (settled-here (c .before .before .before .before)) (room (c .before .before)),
+      works-used (start .args .t .now) (writing start) (passed (c .before .before .before .before .before .before .before .before)) (s .result) (s .ensures) (settled-here (c .before .before .before .before)) (room (c .before .before)),
+      patch-in (start .args .t .now) (writing start) (passed (c .before .before .before .before .before .before .before .before)) (s .result) (s .ensures) (settled-here (c .before .before .before .before)) (room (c .before .before)),
     )
 
 result-requires-4 : tie.Need-result-requires-4
@@ -100,9 +104,9 @@ same-length-4 c = search needs
 
 returns-4 : tie.Need-returns-4
 returns-4 c =
-    let a = c .before .before .before .before .before .before .before .before .before .before .before .before .before .before .before .before .before .args in
+    let start = c .before .before .before .before .before .before .before .before .before .before .before .before .before .before .before .before .before in
     let s = c .before .before .before .before .before .before .before .before .before .before .settle in
-    let yes = write-done (a .t .now) (a .c) (a .r) (a .offset) (a .patch .now) (passed (c .before .before .before .before .before .before .before .before .before .before .before .before)) (s .result) (s .ensures) (settled-here (c .before .before .before .before .before .before .before .before)) (room (c .before .before .before .before .before .before)) in
+    let yes = write-done (start .args .t .now) (writing start) (passed (c .before .before .before .before .before .before .before .before .before .before .before .before)) (s .result) (s .ensures) (settled-here (c .before .before .before .before .before .before .before .before)) (room (c .before .before .before .before .before .before)) in
     (c .result4 .ensures ∙ yes .0, c .before .before .before .write-rows .ensures ∙ yes .1)
 
 pub write-spec : {M : Type 1} → statement M
