@@ -7,7 +7,7 @@ use native.Mathlib.Omega.{arith}
 use lib.Dec.{leb, ltb, eqb}
 use borrow.Author.Tests.{leb-true, leb-false, ltb-true, ltb-false, eqb-true, eqb-false}
 use Rattle.grid.specs.declared.Grid.{Grid}
-use Rattle.grid.specs.Sizes.{root, rootUp, published}
+use Rattle.grid.specs.Sizes.{Fits, root, rootUp, published}
 
 -- s is the square root of N rounded down
 pub record Root (N s : ℕ) : Type 0 where
@@ -38,13 +38,6 @@ root-up-is N pos = go (root N) (root-is N) (eqb (root N * root N) N) refl
         below : (t : ℕ) → s ≡ t + 1 → s * s ≡ N → t * t < N
         below t q f = let g : (t + 1) * (t + 1) ≡ N = rw q at f in omega arith
     go s r false e = record { high = omega (arith, r .high); low = λ t q. let g : s ≡ t = omega arith in rw (← g) (omega (arith, r .low, eqb-false)) }
-
--- What every grid that a list is laid in meets: there is room, no row to spare, and no more columns than members.
-pub record Fits (g : Grid) (N : ℕ) : Type 0 where
-  pub room : N ≤ g .rows * g .cols
-  pub tight : g .rows * g .cols < N + g .cols
-  pub narrow : g .cols ≤ N
-  pub some-column : 1 ≤ g .cols
 
 root-pos : (N s : ℕ) → 1 ≤ N → Root N s → 1 ≤ s
 root-pos N zero p r = absurd (omega (arith, r .high))

@@ -1,6 +1,6 @@
 -- The grid of a list of N members: its sizes, and the row and column of each position. Rows, columns and positions count from 1.
 use mathlib.Core.Bool.{cond}
-use Prim.Native.Nat.{ℕ, zero, suc, _+_, _-_, _*_, _/_, _%_}
+use Prim.Native.Nat.{ℕ, zero, suc, _+_, _-_, _*_, _/_, _%_, _≤_, _<_}
 use lib.Dec.{eqb, leb, ltb}
 use Rattle.grid.specs.declared.Grid.{Grid}
 
@@ -36,3 +36,10 @@ columnOf n k = (k - 1) % n + 1
 -- the height of column j: "Columns beyond n − b are one shorter."
 unfoldable pub height : Grid → ℕ → ℕ → ℕ
 height g N j = cond (leb j (g .cols - spare g N)) (g .rows) (g .rows - 1)
+
+-- What every grid that a list is laid in meets: there is room, no row to spare, and no more columns than members.
+pub record Fits (g : Grid) (N : ℕ) : Type 0 where
+  pub room : N ≤ g .rows * g .cols
+  pub tight : g .rows * g .cols < N + g .cols
+  pub narrow : g .cols ≤ N
+  pub some-column : 1 ≤ g .cols

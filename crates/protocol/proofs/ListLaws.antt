@@ -1,34 +1,22 @@
 -- The laws by which everything above knows the quorums of a list. Nothing after this opens them.
 use mathlib.Core.Path.{_≡_, refl}
-use mathlib.Core.Bool.{Bool, true, false, cond, _&&_}
+use mathlib.Core.Bool.{Bool, true, _&&_}
 use mathlib.Core.List.{List, [], _∷_}
-use Prim.Native.Nat.{ℕ, zero, suc, _-_, _≤_, _<_}
-use native.Mathlib.Nat.{le-of-suc-le-suc, not-suc-le-zero}
+use Prim.Native.Nat.{ℕ, _-_, _≤_}
 use native.Mathlib.Omega.{arith}
 use lib.Dec.{leb}
 use lib.ListN.{length, getD}
 use borrow.Author.Tests.{leb-true}
-use Rattle.sets.specs.Upto.{every, some, count}
-use Rattle.sets.specs.Sets.{has}
+use Rattle.sets.specs.Upto.{every, some, count, keep}
+use Rattle.sets.specs.Sets.{has, size}
+use Rattle.sets.proofs.KeepLaws.{kept}
 use Rattle.bools.proofs.BoolLaws.{and-l, and-r, and-i}
 use Rattle.quorums.specs.declared.Kind.{Kind}
 use Rattle.quorums.specs.declared.Kind.the-variants.{Read, Write}
 use Rattle.grid.specs.Sizes.{root, rootUp, published, columnOf}
 use Rattle.quorums.specs.Quorums.{touches, covers, readQuorum, writeQuorum, quorum}
 use Rattle.quorums.proofs.QuorumLaws as Q
-use Rattle.protocol.specs.Lists.{size, gridOf, keep, seats, atSeat, listQuorum}
-
--- what is kept passes
-kept : (p : ℕ → Bool) (xs : List ℕ) (k : ℕ) → k < length (keep p xs) → p (getD (keep p xs) k 0) ≡ true
-unfolding keep
-kept p [] k h = absurd (not-suc-le-zero h)
-kept p (x ∷ xs) k h = go (p x) refl k h (kept p xs)
-  where
-    go : (b : Bool) → p x ≡ b → (k : ℕ) → k < length (cond b (x ∷ keep p xs) (keep p xs)) → ((k : ℕ) → k < length (keep p xs) → p (getD (keep p xs) k 0) ≡ true)
-        → p (getD (cond b (x ∷ keep p xs) (keep p xs)) k 0) ≡ true
-    go true e zero h ih = e
-    go true e (suc k) h ih = ih k (le-of-suc-le-suc h)
-    go false e k h ih = ih k h
+use Rattle.protocol.specs.Lists.{gridOf, seats, atSeat, listQuorum}
 
 module _ (order : List ℕ) (v : ℕ) where
   -- the row at position k

@@ -1,28 +1,19 @@
 -- A list of rows, laid in its grid in chain order.
-use mathlib.Core.Bool.{Bool, cond, _&&_}
-use mathlib.Core.List.{List, [], _∷_}
+use mathlib.Core.Bool.{Bool, _&&_}
+use mathlib.Core.List.{List}
 use Prim.Native.Nat.{ℕ, _-_}
 use lib.Dec.{eqb, leb}
 use lib.ListN.{length, getD}
-use Rattle.sets.specs.Upto.{some, count}
-use Rattle.sets.specs.Sets.{has}
+use Rattle.sets.specs.Upto.{some, keep}
+use Rattle.sets.specs.Sets.{has, size}
 use Rattle.grid.specs.declared.Grid.{Grid}
 use Rattle.quorums.specs.declared.Kind.{Kind}
 use Rattle.grid.specs.Sizes.{published}
 use Rattle.quorums.specs.Quorums.{quorum, choice}
 
--- "The length N of a list is how many members it has."
-unfoldable pub size : ℕ → ℕ
-size v = count 64 (has v)
-
 -- the grid that a list is laid in
 unfoldable pub gridOf : ℕ → Grid
 gridOf v = published (size v)
-
--- those of the list that pass
-unfoldable pub keep : (ℕ → Bool) → List ℕ → List ℕ
-keep p [] = []
-keep p (x ∷ xs) = cond (p x) (x ∷ keep p xs) (keep p xs)
 
 -- "Members in chain order fill row by row": the members of list v in chain order
 unfoldable pub seats : List ℕ → ℕ → List ℕ

@@ -3,18 +3,18 @@ use mathlib.Core.Path.{_≡_, refl, sym, _∙_, ap, ap₂}
 use mathlib.Core.Logic.{_⊎_, inl, inr, _≢_}
 use mathlib.Core.List.{List, _++_, append-assoc}
 use Prim.Native.Nat.{ℕ, zero, suc, _+_, _-_, _*_, _≤_, _<_}
-use native.Mathlib.Nat.{add-assoc, suc-mul}
+use native.Mathlib.Nat.{suc-mul}
 use native.Mathlib.Numerals.{add-one}
 use native.Mathlib.Decide.{decLt}
 use native.Mathlib.Omega.{arith}
 use lib.ListN.{length, getD, take, drop, set, length-drop}
-use lib.Seq.{drop-drop, take-at, drop-at, take-add, take-all, getD-drop, length-take-le, take-append-le, drop-append-le, paste, paste-zero, paste-suc}
+use lib.Seq.{drop-drop, take-all, getD-drop, paste, paste-zero, paste-suc}
 use Rattle.sets.specs.Upto.{Within}
 use Rattle.bytes.specs.Bytes.{part, put}
 use Rattle.blocks.specs.Blocks.{withBlock}
 use Rattle.fields.specs.Layout.{get, store, mark, version, desired, contents, storeContents, usedOf, fileOf, rowLength, rowsEnd, rowBytes}
 use Rattle.table.specs.Contracts.{Sized}
-use Rattle.bytes.proofs.ByteLaws.{length-part, part-part, length-put, put-before, put-after, part-apart}
+use Rattle.bytes.proofs.ByteLaws.{length-part, part-part, length-put, put-before, put-after, part-apart, put-put}
 use Rattle.bytes.proofs.CodeLaws.{part-back, part-is, part-length}
 use Rattle.table.proofs.WellFormedLaws.{row-length, row-in, row-part, length-row}
 use Rattle.protocol.specs.Rows.{refreshedRow, withRow}
@@ -43,34 +43,6 @@ module _ (d : List ℕ) (from to n : ℕ) (hf : from + n ≤ length d) (ht : to 
       side : (from + n ≤ to) ⊎ (to + n ≤ from) → getD (put to (part from j d) d) (from + j) 0 ≡ getD d (from + j) 0
       side (inl q) = put-before d to (part from j d) (omega (arith, long)) (from + j) 0 (omega arith)
       side (inr q) = put-after d to (part from j d) (omega (arith, long)) (from + j) 0 (omega (arith, long))
-
--- ---- bytes put into bytes that were put
-pub put-put : (a b : ℕ) (p r xs : List ℕ) → b + length p ≤ length r → a + length r ≤ length xs → put (a + b) p (put a r xs) ≡ put a (put b p r) xs
-unfolding put
-put-put a b p r xs h fits =
-    ap₂ (λ (f g : List ℕ). f ++ (p ++ g)) front back
-    ∙ append-assoc (take a xs) (take b r) (p ++ (drop (b + length p) r ++ rest))
-    ∙ ap (λ (l : List ℕ). take a xs ++ l)
-    (sym (append-assoc (take b r) (p ++ drop (b + length p) r) rest ∙ ap (λ (l : List ℕ). take b r ++ l) (append-assoc p (drop (b + length p) r) rest)))
-    ∙ ap (λ (n : ℕ). take a xs ++ ((take b r ++ (p ++ drop (b + length p) r)) ++ drop (a + n) xs)) (sym (length-put r b p h))
-  where
-    rest : List ℕ
-    rest = drop (a + length r) xs
-
-    head : length (take a xs) ≡ a
-    head = length-take-le a xs (omega arith)
-
-    front : take (a + b) (take a xs ++ (r ++ rest)) ≡ take a xs ++ take b r
-    front =
-        take-add a b (take a xs ++ (r ++ rest))
-        ∙ ap₂ (λ (f g : List ℕ). f ++ take b g) (take-at (take a xs) (r ++ rest) a head) (drop-at (take a xs) (r ++ rest) a head)
-        ∙ ap (λ (l : List ℕ). take a xs ++ l) (take-append-le b r rest (omega arith))
-
-    back : drop (a + b + length p) (take a xs ++ (r ++ rest)) ≡ drop (b + length p) r ++ rest
-    back =
-        ap (λ (n : ℕ). drop n (take a xs ++ (r ++ rest))) (add-assoc a b (length p))
-        ∙ sym (drop-drop (b + length p) a (take a xs ++ (r ++ rest)))
-        ∙ ap (λ (l : List ℕ). drop (b + length p) l) (drop-at (take a xs) (r ++ rest) a head) ∙ drop-append-le (b + length p) r rest h
 
 -- ---- a refresh: the fields of row `to` stored, then the contents of row `from` copied
 module _ {t : List ℕ} (s : Sized t) where

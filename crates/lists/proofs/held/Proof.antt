@@ -6,8 +6,9 @@ use native.Mathlib.Omega.{arith}
 use borrow.Author.Needs.{needs}
 use lib.ListN.{length, getD, take}
 use Rattle.lists.proofs.SeatLaws.{seat-next, seat-few, held-next, none-held}
-use Rattle.protocol.specs.Lists.{keep, seats, atSeat}
+use Rattle.protocol.specs.Lists.{seats, atSeat}
 use Rattle.sets.proofs.SetLaws.{has-empty}
+use Rattle.sets.specs.Upto.{keep}
 use Rattle.sets.specs.Sets.{has, gaining, cutTo}
 use Rattle.lists.proofs.held.Statement.{statement}
 use Rattle.lists.proofs.held.Tie as tie

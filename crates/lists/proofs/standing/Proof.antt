@@ -7,10 +7,10 @@ use borrow.Author.Needs.{needs}
 use lib.ListN.{length, getD, take}
 use lib.Dec.{eqb}
 use Rattle.lists.proofs.SeatLaws.{seat-next, seat-few, standing-next, none-standing}
-use Rattle.protocol.specs.Lists.{keep, seats, atSeat}
+use Rattle.protocol.specs.Lists.{seats, atSeat}
 use Rattle.sets.proofs.SetLaws.{has-empty}
 use Rattle.sets.specs.Sets.{has, gaining}
-use Rattle.sets.specs.Upto.{some}
+use Rattle.sets.specs.Upto.{some, keep}
 use Rattle.lists.proofs.standing.Statement.{statement}
 use Rattle.lists.proofs.standing.Tie as tie
 
