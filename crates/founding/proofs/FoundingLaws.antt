@@ -11,7 +11,8 @@ use borrow.Author.Tests.{le-leb, eqb-true}
 use Rattle.sets.specs.Upto.{Within}
 use Rattle.bools.proofs.BoolLaws.{and-l, and-r, and-assoc}
 use Rattle.table.specs.WellFormed.{between}
-use Rattle.protocol.specs.Calls.{Founding, Outcome, founding, firstNo, questions, namesIn, namesRise, founded, done, outcome, resultOf}
+use Rattle.asking.specs.Asking.{firstNo}
+use Rattle.protocol.specs.Calls.{Founding, Outcome, founding, questions, namesIn, namesRise, founded, done, outcome, resultOf}
 use Rattle.protocol.proofs.QuestionLaws.{refusal-is, when-done}
 use Rattle.protocol.proofs.FoundedLaws.{founds-of}
 use Rattle.laying.proofs.NameLaws.{names-even}

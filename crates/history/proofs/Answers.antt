@@ -16,10 +16,12 @@ use Rattle.fields.specs.Layout.{usedOf, contentsOf}
 use Rattle.table.specs.Chain.{orderOf}
 use Rattle.table.specs.WellFormed.{limit}
 use Rattle.protocol.specs.Polls.{inForce, goodVersion, good, current, quorumHeld}
-use Rattle.protocol.specs.Calls.{Reading, Writing, Call, founding, read, write, send, check, firstNo, before, inFile, questions, done, outcome, answers, workSet}
+use Rattle.asking.specs.Asking.{firstNo, before}
+use Rattle.protocol.specs.Calls.{Reading, Writing, Call, founding, read, write, send, check, inFile, questions, done, outcome, answers, workSet}
 use Rattle.protocol.proofs.ListLaws.{reads}
 use Rattle.protocol.proofs.PollLaws.{lowest-good}
-use Rattle.protocol.proofs.QuestionLaws.{refusal-is, when-done, yes-first, no-first, ByCoordinator, early-passed, read-yes}
+use Rattle.asking.proofs.AskingLaws.{yes-first, no-first}
+use Rattle.protocol.proofs.QuestionLaws.{refusal-is, when-done, ByCoordinator, early-passed, read-yes}
 use Rattle.history.specs.Book.{Book, order, holdsQuorum, someHasAll}
 use Rattle.history.specs.Demand3.{verdict, ReadGives, RefusedRight, Right}
 use Rattle.history.proofs.Invariant.{version-is}

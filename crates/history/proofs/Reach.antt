@@ -21,7 +21,8 @@ use Rattle.table.specs.WellFormed.{between, limit, onlyRows}
 use Rattle.table.proofs.FormLaws.{well-formed-of}
 use Rattle.protocol.specs.Lists.{listChoice}
 use Rattle.protocol.specs.Polls.{goodVersion, current, quorumHeld}
-use Rattle.protocol.specs.Calls.{Founding, Writing, founding, write, firstNo, before, isUsed, inFile, byCoordinator, questions, outcome, answers, workSet, namesIn, namesRise, zeros}
+use Rattle.asking.specs.Asking.{firstNo, before}
+use Rattle.protocol.specs.Calls.{Founding, Writing, founding, write, isUsed, inFile, byCoordinator, questions, outcome, answers, workSet, namesIn, namesRise, zeros}
 use Rattle.protocol.proofs.ListLaws.{one-holds}
 use Rattle.protocol.proofs.PollLaws.{cut-in}
 use Rattle.protocol.proofs.QuestionLaws.{refusal-is, ByCoordinator}

@@ -14,8 +14,10 @@ use Rattle.table.specs.Chain.{orderOf}
 use Rattle.table.specs.WellFormed.{limit, onlyRows, wellFormed}
 use Rattle.table.proofs.FormLaws.{well-formed-of}
 use Rattle.protocol.specs.Polls.{highestEpoch, inForce, current, quorumHeld}
-use Rattle.protocol.specs.Calls.{Founding, Checking, Call, founding, read, write, send, check, firstNo, before, isUsed, byCoordinator, questions, done, outcome, answers}
-use Rattle.protocol.proofs.QuestionLaws.{yes-first, ByCoordinator, passed-first, refusal-is, when-done, when-refused, write-yes, send-yes, CheckYes, check-yes}
+use Rattle.asking.specs.Asking.{firstNo, before}
+use Rattle.protocol.specs.Calls.{Founding, Checking, Call, founding, read, write, send, check, isUsed, byCoordinator, questions, done, outcome, answers}
+use Rattle.asking.proofs.AskingLaws.{yes-first}
+use Rattle.protocol.proofs.QuestionLaws.{ByCoordinator, passed-first, refusal-is, when-done, when-refused, write-yes, send-yes, CheckYes, check-yes}
 use Rattle.protocol.proofs.FoundedLaws.{founds-of}
 use Rattle.protocol.proofs.DoneLaws.{writeTable, sendTable, checkTable}
 use Rattle.history.specs.Book.{Book, opened, holdsQuorum, someHasAll, entered, agreed}

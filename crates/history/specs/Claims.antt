@@ -8,7 +8,8 @@ use Rattle.sets.specs.Sets.{has}
 use Rattle.quorums.specs.declared.Kind.{Kind}
 use Rattle.quorums.specs.declared.Kind.the-variants.{Read, Write}
 use Rattle.table.specs.WellFormed.{wellFormed}
-use Rattle.protocol.specs.Calls.{Founding, Reading, Writing, Checking, Call, founding, read, write, check, firstNo, before, questions, outcome}
+use Rattle.asking.specs.Asking.{firstNo, before}
+use Rattle.protocol.specs.Calls.{Founding, Reading, Writing, Checking, Call, founding, read, write, check, questions, outcome}
 use Rattle.history.specs.Book.{Book, opened, holdsQuorum, someHasAll, entered}
 use Rattle.history.specs.Demand3.{verdict, Right}
 

@@ -8,7 +8,8 @@ use Rattle.sets.specs.Sets.{has}
 use Rattle.quorums.specs.declared.Kind.{Kind}
 use Rattle.quorums.specs.declared.Kind.the-variants.{Read, Write}
 use Rattle.bytes.specs.Bytes.{part}
-use Rattle.protocol.specs.Calls.{Founding, Reading, Call, founding, read, write, send, check, Outcome, firstNo, before, questions, outcome}
+use Rattle.asking.specs.Asking.{firstNo, before}
+use Rattle.protocol.specs.Calls.{Founding, Reading, Call, founding, read, write, send, check, Outcome, questions, outcome}
 use Rattle.history.specs.Book.{Book, opened, holdsQuorum, someHasAll, entered}
 
 -- "The refusals in demand 3 are by 6 where the quorum is wanting, and by 7 where it is held and no row of R has every done write."

@@ -16,7 +16,8 @@ use Rattle.table.specs.WellFormed.{limit, wellFormed}
 use Rattle.table.proofs.FormLaws.{formed, well-formed-of}
 use Rattle.protocol.specs.Polls.{highestEpoch, inForce}
 use Rattle.protocol.specs.Calls
-use Rattle.protocol.specs.Calls.{Checking, Call, founding, read, write, send, check, firstNo, questions, done, outcome, answers, workSet}
+use Rattle.asking.specs.Asking.{firstNo}
+use Rattle.protocol.specs.Calls.{Checking, Call, founding, read, write, send, check, questions, done, outcome, answers, workSet}
 use Rattle.protocol.specs.Claims
 use Rattle.protocol.proofs.PollLaws.{worked-in}
 use Rattle.protocol.proofs.QuestionLaws.{result-refusal, result-value, refusal-is, when-done, when-refused, read-yes, write-yes, send-yes, CheckYes, check-yes}

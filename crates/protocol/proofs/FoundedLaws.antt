@@ -24,7 +24,8 @@ use Rattle.table.specs.WellFormed.{between, limit, headerValues, lengthRight, v
 use Rattle.bytes.proofs.ByteLaws.{length-bytes, number-bytes}
 use Rattle.table.proofs.FormLaws.{between-is, is-between, RowFacts, Formed}
 use Rattle.protocol.specs.Calls
-use Rattle.protocol.proofs.QuestionLaws.{yes-first}
+use Rattle.asking.specs.Asking.{firstNo}
+use Rattle.asking.proofs.AskingLaws.{yes-first}
 
 -- what the founding's questions settle
 pub record Founds (a : Calls.Founding) : Type 0 where
@@ -34,7 +35,7 @@ pub record Founds (a : Calls.Founding) : Type 0 where
   pub bytes : Within 4_096 (a .fileLength)
   pub rising : Calls.namesRise 0 (Calls.namesIn (a .names)) ≡ true
 
-pub founds-of : (t : List ℕ) (a : Calls.Founding) → Calls.firstNo (Calls.questions t (Calls.founding a)) ≡ 0 → Founds a
+pub founds-of : (t : List ℕ) (a : Calls.Founding) → firstNo (Calls.questions t (Calls.founding a)) ≡ 0 → Founds a
 unfolding Calls.questions
 founds-of t a h =
     let x = yes-first 10 (eqb (length (a .names) % 2) 0 && between 1 (length (Calls.namesIn (a .names))) 64 && Calls.namesRise 0 (Calls.namesIn (a .names))) _ h in

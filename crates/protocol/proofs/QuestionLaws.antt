@@ -7,7 +7,7 @@ use native.Mathlib.Omega.{arith}
 use lib.Dec.{eqb, leb, ltb, eqb·suc-zero}
 use lib.ListN.{length}
 use lib.Pow.{high, low}
-use borrow.Author.Tests.{eqb-false, eq-eqb, ne-eqb, ltb-true, leb-true, not-true}
+use borrow.Author.Tests.{eqb-false, eq-eqb, ltb-true, leb-true, not-true}
 use Rattle.sets.specs.Upto.{Within}
 use Rattle.sets.specs.Sets.{has}
 use Rattle.bools.proofs.BoolLaws.{and-l, and-r}
@@ -18,6 +18,8 @@ use Rattle.table.specs.Chain.{orderOf}
 use Rattle.table.specs.WellFormed.{limit, onlyRows, wellFormed}
 use Rattle.table.proofs.FormLaws.{between-is}
 use Rattle.protocol.specs.Polls.{highestEpoch, inForce, goodVersion, current, quorumHeld}
+use Rattle.asking.specs.Asking.{Question, firstNo, before}
+use Rattle.asking.proofs.AskingLaws.{yes-first, no-first, before-other}
 use Rattle.protocol.specs.Calls
 
 -- ---- the result is one number, from which refusal and value can be read off
@@ -30,15 +32,6 @@ unfolding Calls.resultOf
 result-value o h = low (o .refusal) 32 h
 
 -- ---- the first no
-pub yes-first : (n : ℕ) (x : Bool) (qs : List Calls.Question) → Calls.firstNo (record { ask = suc n; yes = x } ∷ qs) ≡ 0 → (x ≡ true) × (Calls.firstNo qs ≡ 0)
-unfolding Calls.firstNo
-yes-first n true qs h = (refl, h)
-yes-first n false qs h = absurd (omega arith)
-
-pub no-first : (n : ℕ) (x : Bool) (qs : List Calls.Question) → x ≡ true → Calls.firstNo (record { ask = n; yes = x } ∷ qs) ≡ Calls.firstNo qs
-unfolding Calls.firstNo
-no-first n x qs e = rw e
-
 done-zero : (t : List ℕ) (k : Calls.Call) → Calls.done t k .refusal ≡ 0
 unfolding Calls.done
 done-zero t (Calls.founding a) = refl
@@ -49,24 +42,24 @@ done-zero t (Calls.check a) = refl
 
 module _ (t : List ℕ) (k : Calls.Call) where
   -- the refusal is the first no
-  pub refusal-is : Calls.outcome t k .refusal ≡ Calls.firstNo (Calls.questions t k)
+  pub refusal-is : Calls.outcome t k .refusal ≡ firstNo (Calls.questions t k)
   unfolding Calls.outcome Calls.refused
-  refusal-is = go (Calls.firstNo (Calls.questions t k)) refl
+  refusal-is = go (firstNo (Calls.questions t k)) refl
     where
-      go : (n : ℕ) → Calls.firstNo (Calls.questions t k) ≡ n → cond (eqb n 0) (Calls.done t k) (Calls.refused t k n) .refusal ≡ n
+      go : (n : ℕ) → firstNo (Calls.questions t k) ≡ n → cond (eqb n 0) (Calls.done t k) (Calls.refused t k n) .refusal ≡ n
       go zero e = done-zero t k
       go (suc n) e = rw (eqb·suc-zero n)
 
   pub when-done : Calls.outcome t k .refusal ≡ 0 → Calls.outcome t k ≡ Calls.done t k
   unfolding Calls.outcome
-  when-done h = let z : Calls.firstNo (Calls.questions t k) ≡ 0 = sym refusal-is ∙ h in rw (eq-eqb _ _ z)
+  when-done h = let z : firstNo (Calls.questions t k) ≡ 0 = sym refusal-is ∙ h in rw (eq-eqb _ _ z)
 
   -- a refusal has value 0 and alters no byte of table or buffer
   pub when-refused : (Calls.outcome t k .refusal ≡ 0 → ⊥) → (Calls.outcome t k .value ≡ 0) × (Calls.outcome t k .table ≡ t) × (Calls.outcome t k .buffer ≡ Calls.lent k)
   unfolding Calls.outcome Calls.refused
-  when-refused d = go (Calls.firstNo (Calls.questions t k)) refl
+  when-refused d = go (firstNo (Calls.questions t k)) refl
     where
-      go : (n : ℕ) → Calls.firstNo (Calls.questions t k) ≡ n
+      go : (n : ℕ) → firstNo (Calls.questions t k) ≡ n
           → let o = cond (eqb n 0) (Calls.done t k) (Calls.refused t k n) in (o .value ≡ 0) × (o .table ≡ t) × (o .buffer ≡ Calls.lent k)
       go zero e = absurd (d (refusal-is ∙ e))
       go (suc n) e = rw (eqb·suc-zero n) (refl, refl, refl)
@@ -86,10 +79,10 @@ only-is : (n s : ℕ) → onlyRows n s ≡ true → s < 2 ^ n
 unfolding onlyRows
 only-is n s h = ltb-true s (2 ^ n) h
 
-module _ (t : List ℕ) (c r : ℕ) (qs : List Calls.Question) where
+module _ (t : List ℕ) (c r : ℕ) (qs : List Question) where
   -- what passes 1 to 3 and then qs; of any questions in their place it meets the first no
-  pub passed-first : Calls.firstNo (Calls.byCoordinator t c r qs) ≡ 0
-      → ByCoordinator t c r × (Calls.firstNo qs ≡ 0) × ((rs : List Calls.Question) → Calls.firstNo (Calls.byCoordinator t c r rs) ≡ Calls.firstNo rs)
+  pub passed-first : firstNo (Calls.byCoordinator t c r qs) ≡ 0
+      → ByCoordinator t c r × (firstNo qs ≡ 0) × ((rs : List Question) → firstNo (Calls.byCoordinator t c r rs) ≡ firstNo rs)
   unfolding Calls.byCoordinator
   passed-first h =
       let a = yes-first 0 (wellFormed t) _ h in
@@ -106,18 +99,18 @@ module _ (t : List ℕ) (c r : ℕ) (qs : List Calls.Question) where
       )
 
   -- 1 to 3 come before any other
-  early-is : (n : ℕ) → 3 < n → Calls.before n (Calls.byCoordinator t c r qs) ≡ Calls.byCoordinator t c r (Calls.before n qs)
-  unfolding Calls.byCoordinator Calls.before
-  early-is n h = rw (ne-eqb 1 n (λ e. omega arith), ne-eqb 2 n (λ e. omega arith), ne-eqb 3 n (λ e. omega arith))
+  early-is : (n : ℕ) → 3 < n → before n (Calls.byCoordinator t c r qs) ≡ Calls.byCoordinator t c r (before n qs)
+  unfolding Calls.byCoordinator
+  early-is n h = rw (before-other n 1 (wellFormed t) _ (λ e. omega arith), before-other n 2 (Calls.isUsed t c && onlyRows (usedOf t) r) _ (λ e. omega arith), before-other n 3 (has r c) qs (λ e. omega arith))
 
   -- rows that answered are used rows
   pub answered-used : ByCoordinator t c r → (i : ℕ) → has r i ≡ true → Within (usedOf t) i
   answered-used b i m = has-within (usedOf t) r i (b .rows) m
 
 -- what passes the questions before n, and then meets the others
-pub early-passed : (t : List ℕ) (c r : ℕ) (qs : List Calls.Question) (n : ℕ) → 3 < n → Calls.firstNo (Calls.before n (Calls.byCoordinator t c r qs)) ≡ 0
-    → ByCoordinator t c r × (Calls.firstNo (Calls.before n qs) ≡ 0) × (Calls.firstNo (Calls.byCoordinator t c r qs) ≡ Calls.firstNo qs)
-early-passed t c r qs n l h = let a = passed-first t c r (Calls.before n qs) (rw (early-is t c r qs n l) at h) in (a .0, a .1, a .2 qs)
+pub early-passed : (t : List ℕ) (c r : ℕ) (qs : List Question) (n : ℕ) → 3 < n → firstNo (before n (Calls.byCoordinator t c r qs)) ≡ 0
+    → ByCoordinator t c r × (firstNo (before n qs) ≡ 0) × (firstNo (Calls.byCoordinator t c r qs) ≡ firstNo qs)
+early-passed t c r qs n l h = let a = passed-first t c r (before n qs) (rw (early-is t c r qs n l) at h) in (a .0, a .1, a .2 qs)
 
 pub record ReadYes (t : List ℕ) (a : Calls.Reading) : Type 0 where
   pub first : ByCoordinator t (a .c) (a .r)
@@ -129,7 +122,7 @@ range-is : (t : List ℕ) (offset count : ℕ) → Calls.inFile t offset count �
 unfolding Calls.inFile
 range-is t offset count h = (leb-true 1 count (and-l _ _ h), leb-true _ _ (and-r (leb 1 count) _ h))
 
-pub read-yes : (t : List ℕ) (a : Calls.Reading) → Calls.firstNo (Calls.questions t (Calls.read a)) ≡ 0 → ReadYes t a
+pub read-yes : (t : List ℕ) (a : Calls.Reading) → firstNo (Calls.questions t (Calls.read a)) ≡ 0 → ReadYes t a
 unfolding Calls.questions
 read-yes t a h =
     let x = passed-first t (a .c) (a .r) _ h in
@@ -146,7 +139,7 @@ pub record WriteYes (t : List ℕ) (a : Calls.Writing) : Type 0 where
   pub current : current (Calls.answers t (a .r)) (Calls.workSet Write t (a .c) (a .r)) ≡ true
   pub room : goodVersion (Calls.answers t (a .r)) (Calls.workSet Write t (a .c) (a .r)) < limit
 
-pub write-yes : (t : List ℕ) (a : Calls.Writing) → Calls.firstNo (Calls.questions t (Calls.write a)) ≡ 0 → WriteYes t a
+pub write-yes : (t : List ℕ) (a : Calls.Writing) → firstNo (Calls.questions t (Calls.write a)) ≡ 0 → WriteYes t a
 unfolding Calls.questions
 write-yes t a h =
     let x = passed-first t (a .c) (a .r) _ h in
@@ -168,7 +161,7 @@ pub record SendYes (t : List ℕ) (a : Calls.Sending) : Type 0 where
   pub mark : staleOf t (a .t) ≡ true
   pub enough : desiredOf t (a .t) ≤ versionOf t (a .f)
 
-pub send-yes : (t : List ℕ) (a : Calls.Sending) → Calls.firstNo (Calls.questions t (Calls.send a)) ≡ 0 → SendYes t a
+pub send-yes : (t : List ℕ) (a : Calls.Sending) → firstNo (Calls.questions t (Calls.send a)) ≡ 0 → SendYes t a
 unfolding Calls.questions
 send-yes t a h =
     let x = yes-first 0 (wellFormed t) _ h in
@@ -197,7 +190,7 @@ pub record CheckYes (t : List ℕ) (a : Calls.Checking) : Type 0 where
   pub current : (eqb (a .r) (inForce (Calls.answers t (a .r)) (has (a .r))) || current (Calls.answers t (a .r)) (has (a .r))) ≡ true
   pub room : (eqb (a .r) (inForce (Calls.answers t (a .r)) (has (a .r))) || ltb (highestEpoch (Calls.answers t (a .r)) (has (a .r))) limit) ≡ true
 
-pub check-yes : (t : List ℕ) (a : Calls.Checking) → Calls.firstNo (Calls.questions t (Calls.check a)) ≡ 0 → CheckYes t a
+pub check-yes : (t : List ℕ) (a : Calls.Checking) → firstNo (Calls.questions t (Calls.check a)) ≡ 0 → CheckYes t a
 unfolding Calls.questions
 check-yes t a h =
     let x = passed-first t (a .c) (a .r) _ h in

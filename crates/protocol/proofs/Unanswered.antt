@@ -22,7 +22,8 @@ use Rattle.bytes.proofs.ByteLaws.{part-part}
 use Rattle.table.proofs.FormLaws.{Formed, formed, header-facts}
 use Rattle.protocol.specs.Polls.{Poll, polled, highestEpoch, inForce, goodVersion, good, current, workedOn}
 use Rattle.protocol.specs.Rows.{wroteRow, checkedRow, refreshedRow}
-use Rattle.protocol.specs.Calls.{Reading, Writing, Sending, Checking, Call, read, write, send, check, Question, firstNo, byCoordinator, isUsed, inFile, questions, done, outcome, answers, workSet}
+use Rattle.asking.specs.Asking.{Question, firstNo}
+use Rattle.protocol.specs.Calls.{Reading, Writing, Sending, Checking, Call, read, write, send, check, byCoordinator, isUsed, inFile, questions, done, outcome, answers, workSet}
 use Rattle.protocol.specs.Claims.{Answering, byRead, byWrite, bySend, byCheck, EqualIn, SameFor, UnansweredHaveNoPart}
 use Rattle.protocol.proofs.TableLaws.{Changed}
 use Rattle.protocol.proofs.PollLaws.{lowest-good, worked-in}

@@ -12,6 +12,7 @@ use Rattle.bytes.specs.Bytes.{bytesOf, part}
 use Rattle.fields.specs.Layout.{usedOf, fileOf, nameOf, staleOf, versionOf, desiredOf, contentsOf, rowBytes}
 use Rattle.table.specs.Chain.{orderOf}
 use Rattle.table.specs.WellFormed.{between, limit, onlyRows, wellFormed}
+use Rattle.asking.specs.Asking.{Question, firstNo}
 use Rattle.protocol.specs.Polls.{Poll, polled, highestEpoch, inForce, goodVersion, good, current, quorumHeld, workedOn}
 use Rattle.protocol.specs.Rows.{refreshedRow, withRow, withRows, wroteRow, checkedRow}
 
@@ -79,21 +80,6 @@ buffered bytes o = record { refusal = o .refusal; value = o .value; table = o .t
 -- "A result is one 64-bit number: refusal number times 2^32, plus value."
 unfoldable pub resultOf : Outcome → ℕ
 resultOf o = o .refusal * 2 ^ 32 + o .value
-
--- a question's number, and its answer
-pub record Question : Type 0 where
-  pub ask : ℕ
-  pub yes : Bool
-
--- "the first no is the refusal"; 0 where every answer is yes
-unfoldable pub firstNo : List Question → ℕ
-firstNo [] = 0
-firstNo (q ∷ qs) = cond (q .yes) (firstNo qs) (q .ask)
-
--- the questions asked before number n
-unfoldable pub before : ℕ → List Question → List Question
-before n [] = []
-before n (q ∷ qs) = cond (eqb (q .ask) n) [] (q ∷ before n qs)
 
 -- i is a used row
 unfoldable pub isUsed : List ℕ → ℕ → Bool

@@ -8,7 +8,8 @@ use Rattle.sets.specs.Upto.{Within}
 use Rattle.sets.specs.Sets.{has}
 use Rattle.fields.specs.Layout.{usedOf, nameOf, linkOf, rowsEnd, rowBytes}
 use Rattle.table.specs.WellFormed.{wellFormed}
-use Rattle.protocol.specs.Calls.{Founding, Reading, Writing, Sending, Checking, Call, founding, read, write, send, check, Outcome, resultOf, Question, questions, lent, outcome}
+use Rattle.asking.specs.Asking.{Question}
+use Rattle.protocol.specs.Calls.{Founding, Reading, Writing, Sending, Checking, Call, founding, read, write, send, check, Outcome, resultOf, questions, lent, outcome}
 
 -- "In this order, each to the calls it names (2 and 3 to all but founding)": the numbers of the questions put to a call
 unfoldable pub numbersPut : Call → List ℕ

@@ -10,19 +10,11 @@ use Rattle.sets.specs.Sets.{has}
 use Rattle.bools.proofs.BoolLaws.{and-l, and-r, and-i, same-test}
 use Rattle.fields.specs.Layout.{usedOf}
 use Rattle.table.specs.WellFormed.{onlyRows, wellFormed}
-use Rattle.protocol.specs.Calls.{Call, Question, firstNo, questions, byCoordinator, isUsed, inFile, lent, outcome, resultOf}
-use Rattle.protocol.proofs.QuestionLaws.{ByCoordinator, yes-first, no-first, passed-first, refusal-is, when-refused}
+use Rattle.asking.specs.Asking.{Question, firstNo}
+use Rattle.protocol.specs.Calls.{Call, questions, byCoordinator, isUsed, inFile, lent, outcome, resultOf}
+use Rattle.asking.proofs.AskingLaws.{yes-first, no-first, asked-more}
+use Rattle.protocol.proofs.QuestionLaws.{ByCoordinator, passed-first, refusal-is, when-refused}
 use Rattle.questions.specs.Stages.{toRange}
-
--- questions that come after a no are not asked
-pub asked-more : (qs rest : List Question) → 1 ≤ firstNo qs → firstNo (qs ++ rest) ≡ firstNo qs
-unfolding firstNo
-asked-more [] rest h = absurd (omega arith)
-asked-more (q ∷ qs) rest h = go (q .yes) refl (asked-more qs rest)
-  where
-    go : (b : Bool) → q .yes ≡ b → (1 ≤ firstNo qs → firstNo (qs ++ rest) ≡ firstNo qs) → cond (q .yes) (firstNo (qs ++ rest)) (q .ask) ≡ cond (q .yes) (firstNo qs) (q .ask)
-    go true e ih = let g : 1 ≤ firstNo qs = rw e at h in rw e (ih g)
-    go false e ih = rw e refl
 
 pub range-test : (file offset count : ℕ) (b : Bool) → (b ≡ true → (1 ≤ count) × (offset + count ≤ file)) → (1 ≤ count → offset + count ≤ file → b ≡ true)
     → b ≡ (leb 1 count && leb (offset + count) file)

@@ -1,7 +1,8 @@
 -- The questions that a read and a write are asked before the poll.
 use mathlib.Core.List.{List, [], _∷_}
 use Prim.Native.Nat.{ℕ}
-use Rattle.protocol.specs.Calls.{Question, byCoordinator, inFile}
+use Rattle.asking.specs.Asking.{Question}
+use Rattle.protocol.specs.Calls.{byCoordinator, inFile}
 
 -- 1 to 4
 unfoldable pub toRange : List ℕ → ℕ → ℕ → ℕ → ℕ → List Question

@@ -7,7 +7,8 @@ ghost use mathlib.Core.List.{[]};
 ghost use Prim.Native.Nat.{_+_, _*_, _^_};
 ghost use lib.Dec.{leb, ltb};
 ghost use Rattle.table.specs.WellFormed.{limit};
-ghost use Rattle.protocol.specs.Calls.{firstNo, byCoordinator};
+ghost use Rattle.asking.specs.Asking.{firstNo};
+ghost use Rattle.protocol.specs.Calls.{byCoordinator};
 ghost use Rattle.questions.specs.Stages.{toRange};
 
 // A result: refusal number times 2^32, plus value.

@@ -16,7 +16,8 @@ use Rattle.fields.specs.Layout.{usedOf, nameOf, rowBytes, contents, contentsOf}
 use Rattle.table.specs.Chain.{orderOf}
 use Rattle.table.proofs.WellFormedLaws.{sized, row-length, length-row}
 use Rattle.protocol.specs.Polls.{goodVersion, good, current, quorumHeld}
-use Rattle.protocol.specs.Calls.{Reading, Outcome, read, firstNo, questions, answers, workSet, done, outcome, resultOf}
+use Rattle.asking.specs.Asking.{firstNo}
+use Rattle.protocol.specs.Calls.{Reading, Outcome, read, questions, answers, workSet, done, outcome, resultOf}
 use Rattle.protocol.proofs.PollLaws.{lowest-good, worked-in}
 use Rattle.protocol.proofs.QuestionLaws.{read-yes, refusal-is, when-done}
 use Rattle.settle.specs.declared.Settled.{Settled}

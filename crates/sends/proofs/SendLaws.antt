@@ -11,7 +11,8 @@ use Rattle.fields.specs.Layout.{get, version, usedOf, staleOf, versionOf, desir
 use Rattle.table.specs.WellFormed.{between, onlyRows, wellFormed}
 use Rattle.table.proofs.FormLaws.{between-is}
 use Rattle.protocol.specs.Rows.{withRow, refreshedRow}
-use Rattle.protocol.specs.Calls.{Sending, Outcome, send, firstNo, questions, isUsed, done, outcome, resultOf}
+use Rattle.asking.specs.Asking.{firstNo}
+use Rattle.protocol.specs.Calls.{Sending, Outcome, send, questions, isUsed, done, outcome, resultOf}
 use Rattle.protocol.proofs.QuestionLaws.{refusal-is, when-done}
 
 -- question 2 names two used rows

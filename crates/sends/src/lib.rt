@@ -10,7 +10,8 @@ ghost use lib.Dec.{eqb, leb};
 ghost use lib.ListN.{length};
 ghost use Rattle.fields.specs.Layout.{get, mark, version, desired};
 ghost use Rattle.table.specs.WellFormed.{between, onlyRows};
-ghost use Rattle.protocol.specs.Calls.{firstNo, questions, resultOf, outcome, send};
+ghost use Rattle.asking.specs.Asking.{firstNo};
+ghost use Rattle.protocol.specs.Calls.{questions, resultOf, outcome, send};
 
 // Question 2 of a send: are these two used rows, and are those that answered used ones?
 fn rows_named(used: usize, from: usize, to: usize, answering: RowSet) -> bool

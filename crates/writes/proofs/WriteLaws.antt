@@ -16,7 +16,8 @@ use Rattle.table.specs.WellFormed.{limit}
 use Rattle.table.proofs.WellFormedLaws.{row-length}
 use Rattle.protocol.specs.Polls.{goodVersion, good, current, quorumHeld}
 use Rattle.protocol.specs.Rows.{withRows, wroteRow}
-use Rattle.protocol.specs.Calls.{Writing, Outcome, write, firstNo, questions, answers, workSet, done, outcome, resultOf}
+use Rattle.asking.specs.Asking.{firstNo}
+use Rattle.protocol.specs.Calls.{Writing, Outcome, write, questions, answers, workSet, done, outcome, resultOf}
 use Rattle.protocol.proofs.PollLaws.{worked-in}
 use Rattle.protocol.proofs.QuestionLaws.{write-yes, refusal-is, when-done}
 use Rattle.settle.specs.declared.Settled.{Settled}

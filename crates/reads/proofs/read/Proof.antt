@@ -5,7 +5,8 @@ use lib.ListN.{length}
 use Rattle.bytes.specs.Bytes.{part}
 use Rattle.fields.specs.Layout.{rowBytes, contents}
 use Rattle.table.proofs.WellFormedLaws.{sized}
-use Rattle.protocol.specs.Calls.{Reading, firstNo, lent}
+use Rattle.asking.specs.Asking.{firstNo}
+use Rattle.protocol.specs.Calls.{Reading, lent}
 use Rattle.protocol.proofs.QuestionLaws.{ByCoordinator}
 use Rattle.questions.specs.Stages.{toRange}
 use Rattle.questions.proofs.QuestionLaws.{range-passed}

@@ -3,7 +3,8 @@ use mathlib.Core.Path.{_≡_, sym, _∙_, ap}
 use native.Mathlib.Omega.{arith}
 use Rattle.fields.specs.Layout.{get, version}
 use Rattle.table.proofs.WellFormedLaws.{sized}
-use Rattle.protocol.specs.Calls.{Sending, send, firstNo, questions}
+use Rattle.asking.specs.Asking.{firstNo}
+use Rattle.protocol.specs.Calls.{Sending, send, questions}
 use Rattle.protocol.proofs.QuestionLaws.{SendYes, send-yes}
 use Rattle.questions.proofs.QuestionLaws.{refused-is}
 use Rattle.sends.proofs.SendLaws.{send-done}

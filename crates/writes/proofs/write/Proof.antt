@@ -7,7 +7,8 @@ use lib.Dec.{ltb}
 use lib.ListN.{length}
 use Rattle.table.proofs.WellFormedLaws.{sized}
 use Rattle.table.specs.WellFormed.{limit}
-use Rattle.protocol.specs.Calls.{Writing, firstNo}
+use Rattle.asking.specs.Asking.{firstNo}
+use Rattle.protocol.specs.Calls.{Writing}
 use Rattle.protocol.proofs.QuestionLaws.{ByCoordinator}
 use Rattle.questions.specs.Stages.{toRange}
 use Rattle.questions.proofs.QuestionLaws.{range-passed}

@@ -1,0 +1,38 @@
+-- What a yes and a no say of the first no.
+use mathlib.Core.Path.{_≡_, refl}
+use mathlib.Core.Bool.{Bool, true, false, cond}
+use mathlib.Core.List.{List, [], _∷_, _++_}
+use Prim.Native.Nat.{ℕ, suc, _≤_}
+use native.Mathlib.Omega.{arith}
+use borrow.Author.Tests.{eq-eqb, ne-eqb}
+use Rattle.asking.specs.Asking.{Question, firstNo, before}
+
+-- where no answer is no, the first is yes
+pub yes-first : (n : ℕ) (x : Bool) (qs : List Question) → firstNo (record { ask = suc n; yes = x } ∷ qs) ≡ 0 → (x ≡ true) × (firstNo qs ≡ 0)
+unfolding firstNo
+yes-first n true qs h = (refl, h)
+yes-first n false qs h = absurd (omega arith)
+
+-- after a yes the first no is among the others
+pub no-first : (n : ℕ) (x : Bool) (qs : List Question) → x ≡ true → firstNo (record { ask = n; yes = x } ∷ qs) ≡ firstNo qs
+unfolding firstNo
+no-first n x qs e = rw e
+
+-- questions that come after a no are not asked
+pub asked-more : (qs rest : List Question) → 1 ≤ firstNo qs → firstNo (qs ++ rest) ≡ firstNo qs
+unfolding firstNo
+asked-more [] rest h = absurd (omega arith)
+asked-more (q ∷ qs) rest h = go (q .yes) refl (asked-more qs rest)
+  where
+    go : (b : Bool) → q .yes ≡ b → (1 ≤ firstNo qs → firstNo (qs ++ rest) ≡ firstNo qs) → cond (q .yes) (firstNo (qs ++ rest)) (q .ask) ≡ cond (q .yes) (firstNo qs) (q .ask)
+    go true e ih = let g : 1 ≤ firstNo qs = rw e at h in rw e (ih g)
+    go false e ih = rw e refl
+
+-- n itself is not among those before it, a question of another number is
+pub before-here : (n : ℕ) (x : Bool) (qs : List Question) → before n (record { ask = n; yes = x } ∷ qs) ≡ []
+unfolding before
+before-here n x qs = rw (eq-eqb n n refl)
+
+pub before-other : (n m : ℕ) (x : Bool) (qs : List Question) → (m ≡ n → ⊥) → before n (record { ask = m; yes = x } ∷ qs) ≡ record { ask = m; yes = x } ∷ before n qs
+unfolding before
+before-other n m x qs d = rw (ne-eqb m n d)

@@ -1,0 +1,20 @@
+-- Numbered questions, put in their order.
+use mathlib.Core.Bool.{Bool, cond}
+use mathlib.Core.List.{List, [], _∷_}
+use Prim.Native.Nat.{ℕ}
+use lib.Dec.{eqb}
+
+-- a question's number, and its answer
+pub record Question : Type 0 where
+  pub ask : ℕ
+  pub yes : Bool
+
+-- "the first no is the refusal"; 0 where every answer is yes
+unfoldable pub firstNo : List Question → ℕ
+firstNo [] = 0
+firstNo (q ∷ qs) = cond (q .yes) (firstNo qs) (q .ask)
+
+-- the questions asked before number n
+unfoldable pub before : ℕ → List Question → List Question
+before n [] = []
+before n (q ∷ qs) = cond (eqb (q .ask) n) [] (q ∷ before n qs)

@@ -1,0 +1,1 @@
+// Questions in order: definitions and laws only.
