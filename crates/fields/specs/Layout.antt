@@ -89,8 +89,8 @@ usedOf t = get used t
 unfoldable pub firstOf : List ℕ → ℕ
 firstOf t = get first t
 
-unfoldable pub fileOf : List ℕ → ℕ
-fileOf t = get fileLength t
+unfoldable pub fileLengthOf : List ℕ → ℕ
+fileLengthOf t = get fileLength t
 
 unfoldable pub nameOf : List ℕ → ℕ → ℕ
 nameOf t i = get name (rowBytes t i)

@@ -12,34 +12,34 @@ use Rattle.sets.specs.Upto.{Within}
 use Rattle.bools.proofs.BoolLaws.{and-l, and-r, and-assoc}
 use Rattle.table.specs.WellFormed.{between}
 use Rattle.asking.specs.Asking.{firstNo}
-use Rattle.protocol.specs.Calls.{Founding, Outcome, founding, questions, namesIn, namesRise, founded, done, outcome, resultOf}
+use Rattle.protocol.specs.Calls.{Founding, Outcome, founding, questions, namesIn, namesRising, founded, done, outcome, resultOf}
 use Rattle.protocol.proofs.QuestionLaws.{refusal-is, when-done}
 use Rattle.protocol.proofs.FoundedLaws.{founds-of}
 use Rattle.laying.proofs.NameLaws.{names-even}
 
 -- ---- question 11's loop: the names before the k-th rise (ok) up to `low`
-module _ (names : List ℕ) (k low : ℕ) (ok : Bool) (so-far : (ok && namesRise low (drop k names)) ≡ namesRise 0 names) where
+module _ (names : List ℕ) (k low : ℕ) (ok : Bool) (so-far : (ok && namesRising low (drop k names)) ≡ namesRising 0 names) where
   pub rise-turn : (x : ℕ) (r : Bool) → k < length names → x ≡ getD names k 0 → x ≤ 65_535 → r ≡ (ok && ltb low x)
-      → (r && namesRise x (drop (k + 1) names)) ≡ namesRise 0 names
-  unfolding namesRise
+      → (r && namesRising x (drop (k + 1) names)) ≡ namesRising 0 names
+  unfolding namesRising
   rise-turn x r h e small d =
       rw (d, add-one k)
-      (and-assoc ok (ltb low x) (namesRise x (drop (suc k) names))
-      ∙ ap (λ (b : Bool). ok && (b && namesRise x (drop (suc k) names))) (sym (and-true (ltb low x)) ∙ ap (λ (b : Bool). ltb low x && b) (sym (le-leb x 65_535 small)))
-      ∙ ap (λ (y : ℕ). ok && namesRise low (y ∷ drop (suc k) names)) e
-      ∙ ap (λ (xs : List ℕ). ok && namesRise low xs) (sym (drop-cons names k 0 h))
+      (and-assoc ok (ltb low x) (namesRising x (drop (suc k) names))
+      ∙ ap (λ (b : Bool). ok && (b && namesRising x (drop (suc k) names))) (sym (and-true (ltb low x)) ∙ ap (λ (b : Bool). ltb low x && b) (sym (le-leb x 65_535 small)))
+      ∙ ap (λ (y : ℕ). ok && namesRising low (y ∷ drop (suc k) names)) e
+      ∙ ap (λ (xs : List ℕ). ok && namesRising low xs) (sym (drop-cons names k 0 h))
       ∙ so-far)
 
-  pub rise-end : k ≡ length names → ok ≡ namesRise 0 names
-  unfolding namesRise
+  pub rise-end : k ≡ length names → ok ≡ namesRising 0 names
+  unfolding namesRising
   rise-end e =
       let z : drop k names ≡ [] = ap (λ (n : ℕ). drop n names) e ∙ drop-length names in
-      sym (and-true ok) ∙ ap (λ (xs : List ℕ). ok && namesRise low xs) (sym z) ∙ so-far
+      sym (and-true ok) ∙ ap (λ (xs : List ℕ). ok && namesRising low xs) (sym z) ∙ so-far
 
 -- ---- the two questions
 module _ (t : List ℕ) (a : Founding) where
   abbrev pub NamesRight : Bool
-  NamesRight = eqb (length (a .names) % 2) 0 && between 1 (length (namesIn (a .names))) 64 && namesRise 0 (namesIn (a .names))
+  NamesRight = eqb (length (a .names) % 2) 0 && between 1 (length (namesIn (a .names))) 64 && namesRising 0 (namesIn (a .names))
 
   abbrev pub SizesRight : Bool
   SizesRight = between 1 (a .capacity) 64 && leb (length (namesIn (a .names))) (a .capacity) && between 1 (a .fileLength) 4_096 && eqb (length t) (16 + a .capacity * (32 + a .fileLength))

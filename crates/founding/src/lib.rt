@@ -8,12 +8,12 @@ ghost use Prim.Native.Nat.{_+_, _*_, _%_};
 ghost use lib.Dec.{eqb, leb};
 ghost use lib.ListN.{length};
 ghost use Rattle.table.specs.WellFormed.{between};
-ghost use Rattle.protocol.specs.Calls.{founding, namesIn, namesRise, resultOf, outcome};
+ghost use Rattle.protocol.specs.Calls.{founding, namesIn, namesRising, resultOf, outcome};
 
 // Do the names rise strictly, and is none of them 0?
 fn names_rise(names: &[u8]) -> bool
     requires { ⌜ length (now names) ≡ 2 * length (namesIn (now names)) ⌝ }
-    ensures { λ r. ⌜ r ≡ namesRise 0 (namesIn (now (names .entry))) ⌝ }
+    ensures { λ r. ⌜ r ≡ namesRising 0 (namesIn (now (names .entry))) ⌝ }
 {
     let n = names.len() / 2;
     let mut ok = true;
@@ -30,7 +30,7 @@ fn names_rise(names: &[u8]) -> bool
 
 // Question 11: 1 to 64 names, two bytes each, strictly rising, none 0?
 fn names_right(names: &[u8]) -> bool
-    ensures { λ r. ⌜ r ≡ (eqb (length (now (names .entry)) % 2) 0 && between 1 (length (namesIn (now (names .entry)))) 64 && namesRise 0 (namesIn (now (names .entry)))) ⌝ }
+    ensures { λ r. ⌜ r ≡ (eqb (length (now (names .entry)) % 2) 0 && between 1 (length (namesIn (now (names .entry)))) 64 && namesRising 0 (namesIn (now (names .entry)))) ⌝ }
 {
     if names.len() % 2 != 0 {
         return false;

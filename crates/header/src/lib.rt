@@ -2,7 +2,7 @@
 ghost use mathlib.Core.Path.{_≡_};
 ghost use Prim.Native.Nat.{_≤_};
 ghost use lib.ListN.{length};
-ghost use Rattle.fields.specs.Layout.{get, store, form, capacity, used, first, fileLength, capacityOf, usedOf, firstOf, fileOf};
+ghost use Rattle.fields.specs.Layout.{get, store, form, capacity, used, first, fileLength, capacityOf, usedOf, firstOf, fileLengthOf};
 
 pub const HEADER: usize = 16;
 
@@ -49,7 +49,7 @@ pub fn first(t: &[u8]) -> usize
 
 pub fn file_length(t: &[u8]) -> usize
     requires { ⌜ 16 ≤ length (now t) ⌝ }
-    ensures { λ r. ⌜ r ≡ fileOf (now (t .entry)) ⌝ }
+    ensures { λ r. ⌜ r ≡ fileLengthOf (now (t .entry)) ⌝ }
 {
     bytes::u16_at(t, FILE_AT) as usize
 }

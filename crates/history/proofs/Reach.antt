@@ -15,14 +15,14 @@ use Rattle.sets.proofs.UptoLaws.{every-at, every-of, some-at, some-of}
 use Rattle.sets.proofs.SetLaws.{has-within}
 use Rattle.quorums.specs.declared.Kind.the-variants.{Write}
 use Rattle.bytes.proofs.ByteLaws.{length-put}
-use Rattle.fields.specs.Layout.{usedOf, fileOf}
+use Rattle.fields.specs.Layout.{usedOf, fileLengthOf}
 use Rattle.table.specs.Chain.{orderOf}
 use Rattle.table.specs.WellFormed.{between, limit, onlyRows}
 use Rattle.table.proofs.FormLaws.{well-formed-of}
 use Rattle.protocol.specs.Lists.{listChoice}
 use Rattle.protocol.specs.Polls.{goodVersion, current, quorumHeld}
 use Rattle.asking.specs.Asking.{firstNo, before}
-use Rattle.protocol.specs.Calls.{Founding, Writing, founding, write, isUsed, inFile, byCoordinator, questions, outcome, answers, workSet, namesIn, namesRise, zeros}
+use Rattle.protocol.specs.Calls.{Founding, Writing, founding, write, isUsed, inFile, byCoordinator, questions, outcome, answers, workSet, namesIn, namesRising, zeros}
 use Rattle.protocol.proofs.ListLaws.{one-holds}
 use Rattle.protocol.proofs.PollLaws.{cut-in}
 use Rattle.protocol.proofs.QuestionLaws.{refusal-is, ByCoordinator}
@@ -94,7 +94,7 @@ module _ (b : Book) (L : Lone b) where
     unfolding again questions before byCoordinator firstNo isUsed between onlyRows inFile has
     seven =
         let u : usedOf t ≡ 1 = S .used ∙ ap length (L .names) in
-        let f : fileOf t ≡ 1 = sym (S .file) ∙ L .file in
+        let f : fileLengthOf t ≡ 1 = sym (S .file) ∙ L .file in
         let six : quorumHeld Write (orderOf t) (answers t 1) (workSet Write t 1 1) ≡ true = six-is t b e S 1 Write 1 by-one ∙ holds in
         let cur : current (answers t 1) (workSet Write t 1 1) ≡ true = seven-is t b e S 1 Write 1 by-one holds ∙ someone in
         rw (well-formed-of t (S .formed), u, f, six, cur)
@@ -110,7 +110,7 @@ unfoldable alone : Founding
 alone = record { capacity = 1; fileLength = 1; names = 10 ∷ 0 ∷ [] }
 
 founds : outcome (zeros 49) (founding alone) .refusal ≡ 0
-unfolding alone zeros questions firstNo namesIn namesRise between
+unfolding alone zeros questions firstNo namesIn namesRising between
 founds = refusal-is (zeros 49) (founding alone)
 
 first : Lone (opened alone)

@@ -9,7 +9,7 @@ use Rattle.sets.specs.Upto.{Within, some}
 use Rattle.sets.specs.Sets.{has}
 use Rattle.quorums.specs.declared.Kind.{Kind}
 use Rattle.quorums.specs.declared.Kind.the-variants.{Read, Write}
-use Rattle.fields.specs.Layout.{usedOf, fileOf, nameOf, contentsOf}
+use Rattle.fields.specs.Layout.{usedOf, fileLengthOf, nameOf, contentsOf}
 use Rattle.table.specs.Chain.{orderOf}
 use Rattle.table.proofs.FormLaws.{Formed, header-facts}
 use Rattle.protocol.specs.Polls.{Poll, polled, highestEpoch, inForce, goodVersion, good, current, quorumHeld, workedOn}
@@ -30,7 +30,7 @@ pub record State (t : List ℕ) (b : Book) (e : ℕ) : Type 0 where
   pub used : usedOf t ≡ length (b .names)
   pub chain : orderOf t ≡ order b
   pub names : (i : ℕ) → Within (usedOf t) i → nameOf t i ≡ nameIn b i
-  pub file : length (b .file) ≡ fileOf t
+  pub file : length (b .file) ≡ fileLengthOf t
   pub inv : Inv (usedOf t) (whole t) (contentsOf t) b e
 
 -- the poll of R says of R what all rows say

@@ -48,10 +48,11 @@ opened a =
 unfoldable pub hasAll : Book → ℕ → Bool
 hasAll b i = every (b .writes) (b .hasWrite i)
 
--- s holds a quorum of the list in force, and a row of s has every done write
+-- s holds a quorum of the list in force
 unfoldable pub holdsQuorum : Book → Kind → (ℕ → Bool) → Bool
 holdsQuorum b kind s = listQuorum kind (order b) (b .inForce) s
 
+-- a row of s has every done write
 unfoldable pub someHasAll : Book → (ℕ → Bool) → Bool
 someHasAll b s = some 64 (λ i. s i && hasAll b i)
 

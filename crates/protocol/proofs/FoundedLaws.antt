@@ -18,7 +18,7 @@ use Rattle.sets.proofs.UptoLaws.{every-of}
 use Rattle.sets.proofs.SetLaws.{has-all}
 use Rattle.bytes.specs.Bytes.{number, bytesOf, part, allZero}
 use Rattle.blocks.specs.Blocks.{block}
-use Rattle.fields.specs.Layout.{get, form, capacity, used, first, fileLength, name, link, mark, version, desired, epoch, members, reserved, contents, rowLength, rowsEnd, rowBytes, capacityOf, usedOf, firstOf, fileOf, nameOf, linkOf}
+use Rattle.fields.specs.Layout.{get, form, capacity, used, first, fileLength, name, link, mark, version, desired, epoch, members, reserved, contents, rowLength, rowsEnd, rowBytes, capacityOf, usedOf, firstOf, fileLengthOf, nameOf, linkOf}
 use Rattle.table.specs.Chain.{chain, orderOf, among, risesFrom}
 use Rattle.table.specs.WellFormed.{between, limit, headerValues, lengthRight, visitsEach, namesRise, unusedZero}
 use Rattle.bytes.proofs.ByteLaws.{length-bytes, number-bytes}
@@ -33,12 +33,12 @@ pub record Founds (a : Calls.Founding) : Type 0 where
   pub room : length (Calls.namesIn (a .names)) ≤ a .capacity
   pub most : a .capacity ≤ 64
   pub bytes : Within 4_096 (a .fileLength)
-  pub rising : Calls.namesRise 0 (Calls.namesIn (a .names)) ≡ true
+  pub rising : Calls.namesRising 0 (Calls.namesIn (a .names)) ≡ true
 
 pub founds-of : (t : List ℕ) (a : Calls.Founding) → firstNo (Calls.questions t (Calls.founding a)) ≡ 0 → Founds a
 unfolding Calls.questions
 founds-of t a h =
-    let x = yes-first 10 (eqb (length (a .names) % 2) 0 && between 1 (length (Calls.namesIn (a .names))) 64 && Calls.namesRise 0 (Calls.namesIn (a .names))) _ h in
+    let x = yes-first 10 (eqb (length (a .names) % 2) 0 && between 1 (length (Calls.namesIn (a .names))) 64 && Calls.namesRising 0 (Calls.namesIn (a .names))) _ h in
     let b = yes-first 11 (between 1 (a .capacity) 64 && leb (length (Calls.namesIn (a .names))) (a .capacity) && between 1 (a .fileLength) 4_096 && eqb (length t) (16 + a .capacity * (32 + a .fileLength))) _ (x .1) in
     let a1 = and-l (eqb (length (a .names) % 2) 0 && between 1 (length (Calls.namesIn (a .names))) 64) _ (x .0) in
     let b1 = and-l (between 1 (a .capacity) 64 && leb (length (Calls.namesIn (a .names))) (a .capacity) && between 1 (a .fileLength) 4_096) _ (b .0) in
@@ -134,8 +134,8 @@ module _ (a : Calls.Founding) (f : Founds a) where
   unfolding Calls.founded Calls.foundedHeader firstOf get first part number bytesOf Calls.zeros
   founded-first = refl
 
-  pub founded-file : fileOf (Calls.founded c file names) ≡ file
-  unfolding Calls.founded Calls.foundedHeader fileOf get fileLength part Calls.zeros bytesOf
+  pub founded-file : fileLengthOf (Calls.founded c file names) ≡ file
+  unfolding Calls.founded Calls.foundedHeader fileLengthOf get fileLength part Calls.zeros bytesOf
   founded-file = number-bytes 2 file (omega (arith, f .bytes))
 
   header-form : get form (Calls.founded c file names) ≡ 1
@@ -154,7 +154,7 @@ module _ (a : Calls.Founding) (f : Founds a) where
       split = sym (add-mul (length names) (c - length names) (32 + file)) ∙ ap (λ (x : ℕ). x * (32 + file)) (omega (arith, f .room))
 
   founded-length : rowLength (Calls.founded c file names) ≡ 32 + file
-  unfolding rowLength fileOf
+  unfolding rowLength fileLengthOf
   founded-length = ap (λ (x : ℕ). 32 + x) founded-file
 
   founded-end : (k : ℕ) → rowsEnd (Calls.founded c file names) k ≡ 16 + k * (32 + file)
@@ -171,8 +171,8 @@ module _ (a : Calls.Founding) (f : Founds a) where
       ∙ ap (λ (j : ℕ). Calls.foundedRow (length names) file j (getD names k 0)) (one-add k)
 
   -- each name is one of 1 to 65,535
-  named : (a : ℕ) (l : List ℕ) → Calls.namesRise a l ≡ true → (k : ℕ) → k < length l → Within 65_535 (getD l k 0)
-  unfolding Calls.namesRise
+  named : (a : ℕ) (l : List ℕ) → Calls.namesRising a l ≡ true → (k : ℕ) → k < length l → Within 65_535 (getD l k 0)
+  unfolding Calls.namesRising
   named a [] h k q = absurd (not-suc-le-zero q)
   named a (x ∷ l) h zero q =
       let e : (ltb a x && leb x 65_535) ≡ true = and-l _ _ h in
@@ -315,9 +315,9 @@ module _ (a : Calls.Founding) (f : Founds a) where
       (every-of (length names) _ (λ i w. among-upward (length names) 1 i (omega arith) (omega arith))))
 
   -- names rise along the rows from row j + 1 on as they do in the list
-  rise-from : (l : List ℕ) (a j : ℕ) → Calls.namesRise a l ≡ true → ((k : ℕ) → k < length l → nameOf (Calls.founded c file names) (suc j + k) ≡ getD l k 0)
+  rise-from : (l : List ℕ) (a j : ℕ) → Calls.namesRising a l ≡ true → ((k : ℕ) → k < length l → nameOf (Calls.founded c file names) (suc j + k) ≡ getD l k 0)
       → risesFrom a (nameOf (Calls.founded c file names)) (upward (length l) (suc j)) ≡ true
-  unfolding upward risesFrom Calls.namesRise
+  unfolding upward risesFrom Calls.namesRising
   rise-from [] a j h g = refl
   rise-from (x ∷ l) a j h g =
       let z : suc j + 0 ≡ suc j = omega arith in

@@ -8,7 +8,7 @@ use native.Mathlib.Omega.{arith}
 use lib.ListN.{drop}
 use Rattle.sets.specs.Upto.{Within}
 use Rattle.bytes.specs.Bytes.{allZero}
-use Rattle.fields.specs.Layout.{get, form, capacity, used, first, fileLength, name, link, capacityOf, usedOf, firstOf, fileOf, nameOf, linkOf, rowsEnd, rowBytes}
+use Rattle.fields.specs.Layout.{get, form, capacity, used, first, fileLength, name, link, capacityOf, usedOf, firstOf, fileLengthOf, nameOf, linkOf, rowsEnd, rowBytes}
 use Rattle.table.specs.Chain.{orderOf}
 use Rattle.table.specs.WellFormed.{headerValues, lengthRight, visitsEach, namesRise, unusedZero}
 use Rattle.blocks.specs.Blocks.{block}
@@ -32,8 +32,8 @@ module _ {t u : List ℕ} (f : Frame t u) where
   unfolding firstOf first
   same-first = like-get (f .like) first (omega arith)
 
-  pub same-file : fileOf u ≡ fileOf t
-  unfolding fileOf fileLength
+  pub same-file : fileLengthOf u ≡ fileLengthOf t
+  unfolding fileLengthOf fileLength
   same-file = like-get (f .like) fileLength (omega arith)
 
   pub same-order : orderOf u ≡ orderOf t

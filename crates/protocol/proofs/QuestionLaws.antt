@@ -13,7 +13,7 @@ use Rattle.sets.specs.Sets.{has}
 use Rattle.bools.proofs.BoolLaws.{and-l, and-r}
 use Rattle.sets.proofs.SetLaws.{has-within}
 use Rattle.quorums.specs.declared.Kind.the-variants.{Read, Write}
-use Rattle.fields.specs.Layout.{usedOf, fileOf, staleOf, versionOf, desiredOf}
+use Rattle.fields.specs.Layout.{usedOf, fileLengthOf, staleOf, versionOf, desiredOf}
 use Rattle.table.specs.Chain.{orderOf}
 use Rattle.table.specs.WellFormed.{limit, onlyRows, wellFormed}
 use Rattle.table.proofs.FormLaws.{between-is}
@@ -114,11 +114,11 @@ early-passed t c r qs n l h = let a = passed-first t c r (before n qs) (rw (earl
 
 pub record ReadYes (t : List ℕ) (a : Calls.Reading) : Type 0 where
   pub first : ByCoordinator t (a .c) (a .r)
-  pub range : (1 ≤ a .count) × (a .offset + a .count ≤ fileOf t)
+  pub range : (1 ≤ a .count) × (a .offset + a .count ≤ fileLengthOf t)
   pub quorum : quorumHeld Read (orderOf t) (Calls.answers t (a .r)) (Calls.workSet Read t (a .c) (a .r)) ≡ true
   pub current : current (Calls.answers t (a .r)) (Calls.workSet Read t (a .c) (a .r)) ≡ true
 
-range-is : (t : List ℕ) (offset count : ℕ) → Calls.inFile t offset count ≡ true → (1 ≤ count) × (offset + count ≤ fileOf t)
+range-is : (t : List ℕ) (offset count : ℕ) → Calls.inFile t offset count ≡ true → (1 ≤ count) × (offset + count ≤ fileLengthOf t)
 unfolding Calls.inFile
 range-is t offset count h = (leb-true 1 count (and-l _ _ h), leb-true _ _ (and-r (leb 1 count) _ h))
 
@@ -134,7 +134,7 @@ read-yes t a h =
 
 pub record WriteYes (t : List ℕ) (a : Calls.Writing) : Type 0 where
   pub first : ByCoordinator t (a .c) (a .r)
-  pub range : (1 ≤ length (a .patch)) × (a .offset + length (a .patch) ≤ fileOf t)
+  pub range : (1 ≤ length (a .patch)) × (a .offset + length (a .patch) ≤ fileLengthOf t)
   pub quorum : quorumHeld Write (orderOf t) (Calls.answers t (a .r)) (Calls.workSet Write t (a .c) (a .r)) ≡ true
   pub current : current (Calls.answers t (a .r)) (Calls.workSet Write t (a .c) (a .r)) ≡ true
   pub room : goodVersion (Calls.answers t (a .r)) (Calls.workSet Write t (a .c) (a .r)) < limit

@@ -15,7 +15,7 @@ use Rattle.quorums.specs.declared.Kind.{Kind}
 use Rattle.quorums.specs.declared.Kind.the-variants.{Read, Write}
 use Rattle.bytes.specs.Bytes.{number, part}
 use Rattle.fields.specs.Layout
-use Rattle.fields.specs.Layout.{get, mark, version, desired, epoch, members, usedOf, firstOf, fileOf, nameOf, linkOf, staleOf, versionOf, desiredOf, epochOf, membersOf, contentsOf, rowBytes}
+use Rattle.fields.specs.Layout.{get, mark, version, desired, epoch, members, usedOf, firstOf, fileLengthOf, nameOf, linkOf, staleOf, versionOf, desiredOf, epochOf, membersOf, contentsOf, rowBytes}
 use Rattle.table.specs.Chain.{chain, orderOf}
 use Rattle.table.specs.WellFormed.{between, limit, onlyRows}
 use Rattle.bytes.proofs.ByteLaws.{part-part}
@@ -65,8 +65,8 @@ module _ {r : ℕ} {t u : List ℕ} (E : EqualIn r t u) where
   unfolding usedOf Layout.used
   used-same = get-same Layout.used (omega arith)
 
-  file-same : fileOf u ≡ fileOf t
-  unfolding fileOf Layout.fileLength
+  file-same : fileLengthOf u ≡ fileLengthOf t
+  unfolding fileLengthOf Layout.fileLength
   file-same = get-same Layout.fileLength (omega arith)
 
   first-same : firstOf u ≡ firstOf t

@@ -9,7 +9,7 @@ use Rattle.sets.specs.Sets.{has}
 use Rattle.quorums.specs.declared.Kind.{Kind}
 use Rattle.quorums.specs.declared.Kind.the-variants.{Read, Write}
 use Rattle.bytes.specs.Bytes.{bytesOf, part}
-use Rattle.fields.specs.Layout.{usedOf, fileOf, nameOf, staleOf, versionOf, desiredOf, contentsOf, rowBytes}
+use Rattle.fields.specs.Layout.{usedOf, fileLengthOf, nameOf, staleOf, versionOf, desiredOf, contentsOf, rowBytes}
 use Rattle.table.specs.Chain.{orderOf}
 use Rattle.table.specs.WellFormed.{between, limit, onlyRows, wellFormed}
 use Rattle.asking.specs.Asking.{Question, firstNo}
@@ -87,7 +87,7 @@ isUsed t i = between 1 i (usedOf t)
 
 -- "is the length at least 1 and offset + length at most L?"
 unfoldable pub inFile : List ℕ → ℕ → ℕ → Bool
-inFile t offset count = leb 1 count && leb (offset + count) (fileOf t)
+inFile t offset count = leb 1 count && leb (offset + count) (fileLengthOf t)
 
 -- ---- the set S that a read or a write works on, and the poll
 unfoldable pub answers : List ℕ → ℕ → Poll
@@ -104,9 +104,9 @@ namesIn (x ∷ []) = []
 namesIn (x ∷ y ∷ l) = (x + 256 * y) ∷ namesIn l
 
 -- "strictly rising, none 0", from above a; a name is at most 65,535
-unfoldable pub namesRise : ℕ → List ℕ → Bool
-namesRise a [] = true
-namesRise a (x ∷ l) = ltb a x && leb x 65_535 && namesRise x l
+unfoldable pub namesRising : ℕ → List ℕ → Bool
+namesRising a [] = true
+namesRising a (x ∷ l) = ltb a x && leb x 65_535 && namesRising x l
 
 -- "contents, versions, epochs, marks .. become 0": n zero bytes
 unfoldable pub zeros : ℕ → List ℕ
@@ -143,7 +143,7 @@ byCoordinator t c r qs =
 unfoldable pub questions : List ℕ → Call → List Question
 questions t (founding a) =
     let n = length (namesIn (a .names)) in
-    record { ask = 11; yes = eqb (length (a .names) % 2) 0 && between 1 n 64 && namesRise 0 (namesIn (a .names)) }
+    record { ask = 11; yes = eqb (length (a .names) % 2) 0 && between 1 n 64 && namesRising 0 (namesIn (a .names)) }
     ∷ record { ask = 12; yes = between 1 (a .capacity) 64 && leb n (a .capacity) && between 1 (a .fileLength) 4_096 && eqb (length t) (16 + a .capacity * (32 + a .fileLength)) }
     ∷ []
 questions t (read a) =

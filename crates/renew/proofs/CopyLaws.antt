@@ -12,7 +12,7 @@ use lib.Seq.{drop-drop, take-all, getD-drop, paste, paste-zero, paste-suc}
 use Rattle.sets.specs.Upto.{Within}
 use Rattle.bytes.specs.Bytes.{part, put}
 use Rattle.blocks.specs.Blocks.{withBlock}
-use Rattle.fields.specs.Layout.{get, store, mark, version, desired, contents, storeContents, usedOf, fileOf, rowLength, rowsEnd, rowBytes}
+use Rattle.fields.specs.Layout.{get, store, mark, version, desired, contents, storeContents, usedOf, fileLengthOf, rowLength, rowsEnd, rowBytes}
 use Rattle.table.specs.Contracts.{Sized}
 use Rattle.bytes.proofs.ByteLaws.{length-part, part-part, length-put, put-before, put-after, part-apart, put-put}
 use Rattle.bytes.proofs.CodeLaws.{part-back, part-is, part-length}
@@ -46,13 +46,13 @@ module _ (d : List ℕ) (from to n : ℕ) (hf : from + n ≤ length d) (ht : to 
 
 -- ---- a refresh: the fields of row `to` stored, then the contents of row `from` copied
 module _ {t : List ℕ} (s : Sized t) where
-  row-ends : (i : ℕ) → Within (usedOf t) i → rowsEnd t i ≡ rowsEnd t (i - 1) + (32 + fileOf t)
+  row-ends : (i : ℕ) → Within (usedOf t) i → rowsEnd t i ≡ rowsEnd t (i - 1) + (32 + fileLengthOf t)
   unfolding rowsEnd
   row-ends i w =
       let e : suc (i - 1) ≡ i = omega arith in
       omega (arith, row-length t, suc-mul (i - 1) (rowLength t), ap (λ (m : ℕ). m * rowLength t) e)
 
-  pub file-below : (i : ℕ) → Within (usedOf t) i → fileOf t ≤ rowsEnd t i
+  pub file-below : (i : ℕ) → Within (usedOf t) i → fileLengthOf t ≤ rowsEnd t i
   file-below i w = omega (arith, row-ends i w)
 
   with-row : (i : ℕ) → Within (usedOf t) i → (f : List ℕ → List ℕ) → withRow t i f ≡ put (rowsEnd t (i - 1)) (f (rowBytes t i)) t
@@ -68,7 +68,7 @@ pub record Places (t : List ℕ) (from to at size file source target : ℕ) : Ty
   pub other : from ≢ to
   pub e-at : at ≡ rowsEnd t (to - 1)
   pub e-size : size ≡ rowLength t
-  pub e-file : file ≡ fileOf t
+  pub e-file : file ≡ fileLengthOf t
   pub e-source : source ≡ rowsEnd t from - file
   pub e-target : target ≡ rowsEnd t to - file
 
@@ -133,7 +133,7 @@ module _ {t : List ℕ} {from to at size file source target : ℕ} (p : Places t
         side (inl q) = inl q
         side (inr q) = inr (omega (arith, width))
 
-    contents-long : length (contents (rowBytes t from)) ≡ fileOf t
+    contents-long : length (contents (rowBytes t from)) ≡ fileLengthOf t
     unfolding contents
     contents-long = length-drop 32 (rowBytes t from) ∙ omega (arith, length-row (p .table) from (p .source-row), row-length t)
 

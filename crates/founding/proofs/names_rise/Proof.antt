@@ -4,14 +4,14 @@ use Prim.Native.Nat.{_-_, _≤_}
 use native.Mathlib.Omega.{arith}
 use borrow.Author.Needs.{needs}
 use lib.ListN.{drop}
-use Rattle.protocol.specs.Calls.{namesIn, namesRise}
+use Rattle.protocol.specs.Calls.{namesIn, namesRising}
 use Rattle.laying.proofs.NameLaws.{name-at}
 use Rattle.founding.proofs.FoundingLaws.{rise-turn, rise-end}
 use Rattle.founding.proofs.names_rise.Statement.{statement}
 use Rattle.founding.proofs.names_rise.Tie as tie
 
 abbrev Inv-loop : tie.InvT-loop
-Inv-loop names n ok₀ low₀ i₀ ok low i = (i ≤ n) × ((ok && namesRise low (drop i (namesIn names))) ≡ namesRise 0 (namesIn names))
+Inv-loop names n ok₀ low₀ i₀ ok low i = (i ≤ n) × ((ok && namesRising low (drop i (namesIn names))) ≡ namesRising 0 (namesIn names))
 
 abbrev μ-loop : tie.MeasureT-loop
 μ-loop names n ok₀ low₀ i₀ ok low i = n - i

@@ -1,5 +1,5 @@
 use borrow.Author.Needs.{needs}
-use Rattle.fields.specs.Layout.{get, fileOf, fileLength}
+use Rattle.fields.specs.Layout.{get, fileLengthOf, fileLength}
 use Rattle.header.proofs.file_length.Statement.{statement}
 use Rattle.header.proofs.file_length.Tie as tie
 
@@ -10,7 +10,7 @@ cast-result : tie.Need-cast-result
 cast-result c = search needs
 
 returns : tie.Need-returns
-unfolding get fileOf fileLength
+unfolding get fileLengthOf fileLength
 returns c = c .u16-at .ensures
 
 pub file-length-spec : {M : Type 1} → statement M
