@@ -1,0 +1,2 @@
+pub mod RisingKept
+pub mod SeatLaws

@@ -1,0 +1,1 @@
+// The seats of a list on a well-formed table: claimed, and proved.
