@@ -16,11 +16,11 @@ use Rattle.asking.specs.Asking.{Question, firstNo}
 use Rattle.protocol.specs.Polls.{Poll, polled, highestEpoch, inForce, goodVersion, good, current, quorumHeld, workedOn}
 use Rattle.protocol.specs.Rows.{refreshedRow, withRow, withRows, wroteRow, checkedRow}
 
--- ---- the arguments of each call: "Coordinator c, answering set R .. c, f and t are row indexes"
+-- ---- the arguments of each call: "Coordinator c, answering set R (bit i − 1 for row i); c, f and t are row indexes."
 pub record Founding : Type 0 where
   pub capacity : ℕ
   pub fileLength : ℕ
-  -- bytes, two for each name
+  -- as bytes, two for each name
   pub names : List ℕ
 
 pub record Reading : Type 0 where
@@ -28,7 +28,7 @@ pub record Reading : Type 0 where
   pub r : ℕ
   pub offset : ℕ
   pub count : ℕ
-  -- the buffer lent, with whatever it holds
+  -- lent, with whatever bytes it holds
   pub buffer : List ℕ
 
 pub record Writing : Type 0 where
