@@ -10,7 +10,7 @@ use native.Mathlib.Omega.{arith}
 use lib.Dec.{eqb}
 use borrow.Author.Tests.{eq-eqb, ne-eqb}
 use lib.ListN.{length, take, drop, take-append-drop}
-use lib.Seq.{take-add, take-all}
+use lib.Seq.{take-add}
 use Rattle.sets.specs.Upto.{Within}
 use Rattle.sets.proofs.UptoLaws.{last}
 use Rattle.bytes.specs.Bytes.{part}
@@ -21,7 +21,7 @@ use Rattle.sets.proofs.MemberLaws.{only}
 use Rattle.blocks.specs.Blocks.{block, withBlock, withBlocks}
 
 -- the lists b 1 to b n, one after another
-pub joined : ℕ → (ℕ → List ℕ) → List ℕ
+joined : ℕ → (ℕ → List ℕ) → List ℕ
 joined zero b = []
 joined (suc n) b = joined n b ++ b (suc n)
 
@@ -149,15 +149,12 @@ module _ (a w : ℕ) where
       at fits i (no d) = rw (ne-eqb (suc k) i d) (block-other xs k fits f keeps i (λ e. d (sym e)))
 
   -- ---- a list is its head and its blocks
-  pub rebuilt-to : (xs : List ℕ) (n : ℕ) → take (a + n * w) xs ≡ take a xs ++ joined n (λ i. block a w i xs)
+  rebuilt-to : (xs : List ℕ) (n : ℕ) → take (a + n * w) xs ≡ take a xs ++ joined n (λ i. block a w i xs)
   unfolding joined block part
   rebuilt-to xs zero = let z : a + zero * w ≡ a = omega arith in rw z (sym (append-nil (take a xs)))
   rebuilt-to xs (suc n) =
       let e : a + suc n * w ≡ a + n * w + w = omega arith in
       rw e (take-add (a + n * w) w xs ∙ ap (λ (l : List ℕ). l ++ take w (drop (a + n * w) xs)) (rebuilt-to xs n) ∙ append-assoc (take a xs) (joined n (λ i. block a w i xs)) (part (a + n * w) w xs))
-
-  pub rebuilt : (xs : List ℕ) (n : ℕ) → length xs ≡ a + n * w → xs ≡ take a xs ++ joined n (λ i. block a w i xs)
-  rebuilt xs n e = sym (take-all (a + n * w) xs (omega arith)) ∙ rebuilt-to xs n
 
   -- so what is altered alike is equal
   pub alike : {xs ys zs : List ℕ} (n : ℕ) {s : ℕ → Bool} {f : ℕ → List ℕ → List ℕ} → Altered xs ys n s f → Altered xs zs n s f → ys ≡ zs
