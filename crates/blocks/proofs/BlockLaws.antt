@@ -40,6 +40,11 @@ module _ (a w : ℕ) where
   length-block xs n r zero v = absurd (omega arith)
   length-block xs n r (suc k) v = length-part (a + k * w) w xs (omega (arith, ends n k (omega arith)))
 
+  -- there is no block 0
+  pub no-block : (f : List ℕ → List ℕ) (xs : List ℕ) → (block a w zero xs ≡ []) × (withBlock a w zero f xs ≡ xs)
+  unfolding block withBlock
+  no-block f xs = (refl, refl)
+
   -- ---- one block, as long after the change as before
   module _ (xs : List ℕ) (k : ℕ) (room : a + suc k * w ≤ length xs) (f : List ℕ → List ℕ) (keeps : length (f (block a w (suc k) xs)) ≡ w) where
     abbrev new : List ℕ

@@ -11,19 +11,13 @@ use Rattle.sets.specs.Upto.{Within}
 use Rattle.bytes.specs.Bytes.{number, part}
 use Rattle.fields.specs.Layout.{Field, get, fileLength, rowLength, rowsEnd, rowBytes}
 use Rattle.blocks.specs.Blocks.{block}
-use Rattle.blocks.proofs.BlockLaws.{ends, length-block, Altered, blocks-changed, one-changed}
+use Rattle.blocks.proofs.BlockLaws.{length-block, Altered, blocks-changed, one-changed}
 use Rattle.protocol.specs.Rows.{withRow, withRows}
 
 -- u has the length and the header of t
 pub record Like (t u : List ℕ) : Type 0 where
   pub long : length u ≡ length t
   pub header : (a n : ℕ) → a + n ≤ 16 → part a n u ≡ part a n t
-
-pub like-refl : (t : List ℕ) → Like t t
-like-refl t = record { long = refl; header = λ a n h. refl }
-
-pub like-trans : {t u w : List ℕ} → Like t u → Like u w → Like t w
-like-trans l k = record { long = k .long ∙ l .long; header = λ a n h. k .header a n h ∙ l .header a n h }
 
 module _ {t u : List ℕ} (l : Like t u) where
   pub like-get : (f : Field) → f .place + f .width ≤ 16 → get f u ≡ get f t
@@ -41,11 +35,6 @@ module _ {t u : List ℕ} (l : Like t u) where
 -- a table of n rows
 abbrev pub Roomy : List ℕ → ℕ → Type 0
 Roomy t n = rowsEnd t n ≤ length t
-
--- where row i starts and ends
-pub row-within : (t : List ℕ) (n : ℕ) → Roomy t n → (k : ℕ) → k < n → rowsEnd t k + rowLength t ≤ length t
-unfolding rowsEnd
-row-within t n r k h = omega (arith, ends 16 (rowLength t) n k h)
 
 pub row-long : (t : List ℕ) (n : ℕ) → Roomy t n → (i : ℕ) → Within n i → length (rowBytes t i) ≡ rowLength t
 unfolding rowBytes rowsEnd
