@@ -1,4 +1,5 @@
 // The rows that an epoch check leaves.
+use fields::Laid;
 use rows::RowSet;
 ghost use mathlib.Core.Path.{_≡_};
 ghost use mathlib.Core.Bool.{true, cond};
@@ -11,12 +12,12 @@ ghost use Rattle.table.specs.Contracts.{Sized};
 ghost use Rattle.protocol.specs.Rows.{markedRow, enrolledRow, withRows, checkedRow};
 
 // A row gets an epoch number and its list.
-fn enroll_row(row: &mut [u8], epoch: u32, list: u64)
+fn enroll_row(row: &mut [u8], epoch: u32, list: Laid)
     requires { ⌜ 32 ≤ length (now row) ⌝ }
     ensures { λ r. ⌜ now (row .exit) ≡ enrolledRow epoch list (now (row .entry)) ⌝ }
 {
     fields::set_epoch(row, epoch);
-    fields::set_members(row, list);
+    fields::set_list(row, list);
 }
 
 // A row that is not good is marked.
@@ -31,7 +32,7 @@ fn mark_other(row: &mut [u8], good: bool, desired: u32)
 }
 
 // What an epoch check makes of a row of the new list.
-fn check_row(row: &mut [u8], good: bool, version: u32, epoch: u32, list: u64)
+fn check_row(row: &mut [u8], good: bool, version: u32, epoch: u32, list: Laid)
     requires { ⌜ 32 ≤ length (now row) ⌝ }
     ensures { λ r. ⌜ now (row .exit) ≡ enrolledRow epoch list (cond good (now (row .entry)) (markedRow version (now (row .entry)))) ⌝ }
 {
@@ -40,12 +41,18 @@ fn check_row(row: &mut [u8], good: bool, version: u32, epoch: u32, list: u64)
 }
 
 // What an epoch check makes of the rows of the new list.
-pub fn check_rows(t: &mut [u8], set: RowSet, good: RowSet, version: u32, epoch: u32)
+pub fn check_rows(
+    t: &mut [u8],
+    set: RowSet,
+    good: RowSet,
+    version: u32,
+    epoch: u32,
+    list: Laid,
+)
     requires { ⌜ Sized (now t) × ((i : ℕ) → has (set .bits) i ≡ true → Within (usedOf (now t)) i) ⌝ }
-    ensures { λ r. ⌜ now (t .exit) ≡ withRows (now (t .entry)) (has (set .bits)) (checkedRow (has (good .bits)) version epoch (set .bits)) (usedOf (now (t .entry))) ⌝ }
+    ensures { λ r. ⌜ now (t .exit) ≡ withRows (now (t .entry)) (has (set .bits)) (checkedRow (has (good .bits)) version epoch list) (usedOf (now (t .entry))) ⌝ }
 {
     let size = table::row_length(t);
-    let list = set.bits;
     let mut left = set;
     while !left.is_empty() {
         let i = left.lowest();

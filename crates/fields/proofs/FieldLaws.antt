@@ -1,12 +1,14 @@
 -- Fields: what was stored is read back; other fields, the reserved bytes and the contents stay; the length stays.
-use mathlib.Core.Path.{_≡_, sym, _∙_, ap}
+use mathlib.Core.Path.{_≡_, refl, sym, _∙_, ap}
 use mathlib.Core.Logic.{_⊎_, inl, inr}
 use mathlib.Core.List.{List}
 use Prim.Native.Nat.{ℕ, _+_, _-_, _^_, _≤_, _<_}
 use native.Mathlib.Omega.{arith}
 use lib.ListN.{length, drop}
 use Rattle.bytes.specs.Bytes.{number, bytesOf, part, put}
-use Rattle.fields.specs.Layout.{Field, get, store, reserved, contents, storeContents}
+use Rattle.fields.specs.declared.Laid.{Laid}
+use Rattle.blocks.specs.Blocks.{block}
+use Rattle.fields.specs.Layout.{Field, get, store, members, list, noList, rowBytes, listOf, reserved, contents, storeContents}
 use Rattle.bytes.proofs.ByteLaws.{length-bytes, number-bytes, length-put, part-put, part-apart, drop-put-after, drop-put-before}
 
 -- the bytes of f end by place n
@@ -73,3 +75,16 @@ module _ (offset : ℕ) (p xs : List ℕ) (h : 32 + offset + length p ≤ length
   contents-contents =
       let n : 32 + offset - 32 ≡ offset = omega arith in
       drop-put-before xs (32 + offset) p h 32 (omega arith) ∙ ap (λ (n : ℕ). put n p (drop 32 xs)) n
+
+-- ---- a row whose fields say what a list says has that list
+laid : ℕ → Laid
+laid m = record { members = m }
+
+pub list-is : (row : List ℕ) (l : Laid) → get members row ≡ l .members → list row ≡ l
+unfolding list laid
+list-is row l e = ap laid e
+
+-- there is no row 0
+pub no-row-no-list : (t : List ℕ) → listOf t 0 ≡ noList
+unfolding listOf list noList rowBytes block members get number part
+no-row-no-list t = refl

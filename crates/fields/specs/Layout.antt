@@ -6,6 +6,7 @@ use lib.Dec.{eqb}
 use lib.ListN.{drop}
 use Rattle.blocks.specs.Blocks.{block}
 use Rattle.bytes.specs.Bytes.{number, bytesOf, part, put}
+use Rattle.fields.specs.declared.Laid.{Laid}
 
 -- a number at a place, so many bytes wide
 pub record Field : Type 0 where
@@ -46,6 +47,16 @@ epoch = record { place = 12; width = 4 }
 
 unfoldable pub members : Field
 members = record { place = 16; width = 8 }
+
+-- a row's epoch list as it was laid; the row with another; and no list
+unfoldable pub list : List ℕ → Laid
+list row = record { members = get members row }
+
+unfoldable pub storeList : Laid → List ℕ → List ℕ
+storeList l row = store members (l .members) row
+
+unfoldable pub noList : Laid
+noList = record { members = 0 }
 
 -- a row's part: "3 stale mark; 4 to 7 version; 8 to 11 desired version; 24 to 31 zero; then L contents bytes"
 unfoldable pub mark : Field
@@ -101,8 +112,8 @@ linkOf t i = get link (rowBytes t i)
 unfoldable pub epochOf : List ℕ → ℕ → ℕ
 epochOf t i = get epoch (rowBytes t i)
 
-unfoldable pub membersOf : List ℕ → ℕ → ℕ
-membersOf t i = get members (rowBytes t i)
+unfoldable pub listOf : List ℕ → ℕ → Laid
+listOf t i = list (rowBytes t i)
 
 unfoldable pub staleOf : List ℕ → ℕ → Bool
 staleOf t i = eqb (get mark (rowBytes t i)) 1

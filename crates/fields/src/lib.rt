@@ -3,8 +3,18 @@ ghost use mathlib.Core.Path.{_≡_};
 ghost use Prim.Native.Nat.{_+_, _≤_};
 ghost use lib.Dec.{eqb};
 ghost use lib.ListN.{length};
-ghost use Rattle.fields.specs.Layout.{get, store, name, link, mark, version, desired, epoch, members, contents, storeContents};
+ghost use Rattle.fields.specs.Layout.{get, store, name, link, mark, version, desired, epoch, members, list, storeList, contents, storeContents};
 ghost use Rattle.bytes.specs.Bytes.{part};
+
+// A list of rows as it was laid: bit i − 1 of `members` for row i.
+pub struct Laid {
+    pub members: u64,
+}
+
+impl Laid {
+    // No list.
+    pub const NONE: Laid = Laid { members: 0 };
+}
 
 // A row's head; the contents stand behind it.
 pub const HEAD: usize = 32;
@@ -82,6 +92,16 @@ pub fn members(row: &[u8]) -> u64
     bytes::u64_at(row, MEMBERS_AT)
 }
 
+// A row's list.
+pub fn list(row: &[u8]) -> Laid
+    requires { ⌜ 32 ≤ length (now row) ⌝ }
+    ensures { λ r. ⌜ r ≡ list (now (row .entry)) ⌝ }
+{
+    Laid {
+        members: members(row),
+    }
+}
+
 pub fn set_name(row: &mut [u8], v: u16)
     requires { ⌜ 32 ≤ length (now row) ⌝ }
     ensures { λ r. ⌜ now (row .exit) ≡ store name v (now (row .entry)) ⌝ }
@@ -124,11 +144,11 @@ pub fn set_epoch(row: &mut [u8], v: u32)
     bytes::store_at(row, EPOCH_AT, 4, v as u64);
 }
 
-pub fn set_members(row: &mut [u8], v: u64)
+pub fn set_list(row: &mut [u8], l: Laid)
     requires { ⌜ 32 ≤ length (now row) ⌝ }
-    ensures { λ r. ⌜ now (row .exit) ≡ store members v (now (row .entry)) ⌝ }
+    ensures { λ r. ⌜ now (row .exit) ≡ storeList l (now (row .entry)) ⌝ }
 {
-    bytes::store_at(row, MEMBERS_AT, 8, v);
+    bytes::store_at(row, MEMBERS_AT, 8, l.members);
 }
 
 // Bytes laid over the contents, from an offset on.

@@ -12,11 +12,12 @@ use Rattle.sets.specs.Upto.{Within, upward}
 use Rattle.bools.proofs.BoolLaws.{clash}
 use Rattle.sets.proofs.SetLaws.{has-within}
 use Rattle.quorums.specs.declared.Kind.the-variants.{Read}
-use Rattle.fields.specs.Layout.{get, mark, version, epoch, members, contents, epochOf, membersOf, staleOf, versionOf, contentsOf}
+use Rattle.fields.specs.Layout.{get, mark, version, epoch, list, contents, epochOf, listOf, staleOf, versionOf, contentsOf}
+use Rattle.protocol.specs.Lists.{laidNow}
 use Rattle.protocol.specs.Polls.{polled}
 use Rattle.protocol.specs.Calls.{Founding, namesIn, zeros, founded}
 use Rattle.protocol.proofs.ListLaws.{inhabited}
-use Rattle.protocol.proofs.FoundedLaws.{Founds, founded-used, founded-file, founded-name, founded-order, founded-formed, at-row, row-members, zero-mark, zero-version, zero-epoch, row-contents}
+use Rattle.protocol.proofs.FoundedLaws.{Founds, founded-used, founded-file, founded-name, founded-order, founded-formed, at-row, row-list, zero-mark, zero-version, zero-epoch, row-contents}
 use Rattle.history.specs.Book.{order, nameIn, opened}
 use Rattle.history.proofs.Invariant.{aim, Inv}
 use Rattle.history.proofs.State.{whole, State}
@@ -33,9 +34,9 @@ module _ (a : Founding) (f : Founds a) where
   unfolding epochOf t
   epoch-zero = at-row a f (λ i r. get epoch r ≡ 0) (zero-epoch a f)
 
-  members-all : (i : ℕ) → Within (length names) i → membersOf t i ≡ 2 ^ length names - 1
-  unfolding membersOf t
-  members-all = at-row a f (λ i r. get members r ≡ 2 ^ length names - 1) (row-members a f)
+  list-all : (i : ℕ) → Within (length names) i → listOf t i ≡ laidNow (2 ^ length names - 1)
+  unfolding listOf t
+  list-all = at-row a f (λ i r. list r ≡ laidNow (2 ^ length names - 1)) (row-list a f)
 
   version-zero : (i : ℕ) → Within (length names) i → versionOf t i ≡ 0
   unfolding versionOf t
@@ -50,13 +51,13 @@ module _ (a : Founding) (f : Founds a) where
   zero-contents = at-row a f (λ i r. contents r ≡ zeros (a .fileLength)) (row-contents a f)
 
   start : Inv (length names) (whole t) (contentsOf t) (opened a) 0
-  unfolding opened aim whole polled order
+  unfolding opened aim whole polled order laidNow
   start = record {
     epochs = record {
       below = λ i u. rw (epoch-zero i u) (omega arith);
       inside = λ i u m. epoch-zero i u;
-      forced = λ i u q. members-all i u;
-      owned = λ i u. sym (members-all i u);
+      forced = λ i u q. list-all i u;
+      owned = λ i u. sym (list-all i u);
       bound = ones-lt (length names);
       dead = λ i u l. absurd (omega arith);
     };
@@ -67,7 +68,7 @@ module _ (a : Founding) (f : Founds a) where
       kept = λ k h. rw (version-zero i u) (sym (lt-leb k 0 (omega arith)));
     };
     live = λ s h.
-        let w = inhabited (upward (length names) 1) (2 ^ length names - 1) Read s h in
+        let w = inhabited (upward (length names) 1) (laidNow (2 ^ length names - 1)) Read s h in
         let u = has-within (length names) (2 ^ length names - 1) (w .0) (ones-lt (length names)) (w .1) in
         (w .0, u, w .2, rw (no-mark (w .0) u) (version-zero (w .0) u));
   }

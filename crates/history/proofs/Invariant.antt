@@ -15,6 +15,7 @@ use Rattle.sets.proofs.UptoLaws.{every-at, every-of, some-at, some-of}
 use Rattle.sets.proofs.SetLaws.{has-within}
 use Rattle.quorums.specs.declared.Kind.{Kind}
 use Rattle.quorums.specs.declared.Kind.the-variants.{Read, Write}
+use Rattle.fields.specs.declared.Laid.{Laid}
 use Rattle.protocol.specs.Lists.{listQuorum, listChoice}
 use Rattle.protocol.specs.Polls.{Poll, highestEpoch, inForce, goodVersion, good, current, quorumHeld, ownTry, workedOn}
 use Rattle.protocol.proofs.ListLaws.{inhabited, reads, grows}
@@ -26,15 +27,15 @@ unfoldable pub aim : Poll → ℕ → ℕ
 aim p i = cond (p .stale i) (p .desired i) (p .version i)
 
 -- membership: e is the highest epoch, the rows that have it have the list in force, and that list has no other row
-pub record Epochs (n : ℕ) (order : List ℕ) (epoch members : ℕ → ℕ) (force : ℕ) (own : ℕ → ℕ) (e : ℕ) : Type 0 where
+pub record Epochs (n : ℕ) (order : List ℕ) (epoch : ℕ → ℕ) (list : ℕ → Laid) (force : Laid) (own : ℕ → Laid) (e : ℕ) : Type 0 where
   pub below : (i : ℕ) → Within n i → epoch i ≤ e
-  pub inside : (i : ℕ) → Within n i → has force i ≡ true → epoch i ≡ e
-  pub forced : (i : ℕ) → Within n i → epoch i ≡ e → members i ≡ force
-  pub owned : (i : ℕ) → Within n i → own i ≡ members i
-  pub bound : force < 2 ^ n
+  pub inside : (i : ℕ) → Within n i → has (force .members) i ≡ true → epoch i ≡ e
+  pub forced : (i : ℕ) → Within n i → epoch i ≡ e → list i ≡ force
+  pub owned : (i : ℕ) → Within n i → own i ≡ list i
+  pub bound : force .members < 2 ^ n
   -- the paper's Lemma 1: rows of no higher epoch than that of a row left behind hold no read quorum of its list
   pub dead : (i : ℕ) → Within n i → epoch i < e
-      → (s : ℕ → Bool) → ((j : ℕ) → Within n j → s j ≡ true → epoch j ≤ epoch i) → listQuorum Read order (members i) s ≡ true → ⊥
+      → (s : ℕ → Bool) → ((j : ℕ) → Within n j → s j ≡ true → epoch j ≤ epoch i) → listQuorum Read order (list i) s ≡ true → ⊥
 
 -- contents: a row against the book's writes, its file and what the row has
 pub record Versions (stale : Bool) (version desired : ℕ) (contents : List ℕ) (writes : ℕ) (file : List ℕ) (hasWrite : ℕ → Bool) : Type 0 where
@@ -45,7 +46,7 @@ pub record Versions (stale : Bool) (version desired : ℕ) (contents : List ℕ)
   pub kept : (k : ℕ) → 1 ≤ k → hasWrite k ≡ leb k version
 
 pub record Inv (n : ℕ) (p : Poll) (c : ℕ → List ℕ) (b : Book) (e : ℕ) : Type 0 where
-  pub epochs : Epochs n (order b) (p .epoch) (p .members) (b .inForce) (b .own) e
+  pub epochs : Epochs n (order b) (p .epoch) (p .list) (b .inForce) (b .own) e
   pub versions : (i : ℕ) → Within n i → Versions (p .stale i) (p .version i) (p .desired i) (c i) (b .writes) (b .file) (b .hasWrite i)
   -- every read quorum of the list in force has a row that has every write, or desires the last one
   pub live : (s : ℕ → Bool) → listQuorum Read (order b) (b .inForce) s ≡ true → (i : ℕ) × Within n i × (s i ≡ true) × (aim p i ≡ b .writes)
@@ -72,8 +73,8 @@ module _ (n : ℕ) (p : Poll) (c : ℕ → List ℕ) (b : Book) (e : ℕ) (few :
       go true z = absurd (omega (arith, I .versions i u .wants z))
       go false z = z
 
-  listed : (i : ℕ) → has (b .inForce) i ≡ true → Within n i
-  listed i h = has-within n (b .inForce) i (I .epochs .bound) h
+  listed : (i : ℕ) → has (b .inForce .members) i ≡ true → Within n i
+  listed i h = has-within n (b .inForce .members) i (I .epochs .bound) h
 
   -- ---- a set of used rows
   module _ (s : ℕ → Bool) (ins : (i : ℕ) → s i ≡ true → Within n i) where
@@ -106,13 +107,13 @@ module _ (n : ℕ) (p : Poll) (c : ℕ → List ℕ) (b : Book) (e : ℕ) (few :
             u = ins i (l .inside)
 
             go : Dec (p .epoch i ≡ e) → listQuorum kind (order b) (b .inForce) s ≡ true
-            go (yes t) = subst (λ (v : ℕ). listQuorum kind (order b) v s ≡ true) (sym (l .list) ∙ I .epochs .forced i u t) h
+            go (yes t) = subst (λ (v : Laid). listQuorum kind (order b) v s ≡ true) (sym (l .list) ∙ I .epochs .forced i u t) h
             go (no d) = absurd (I .epochs .dead i u (omega (arith, I .epochs .below i u)) s
                 (λ j v m. omega (arith, l .highest, epoch-le p s j (place j m) m))
-                (subst (λ (v : ℕ). listQuorum Read (order b) v s ≡ true) (sym (l .list)) (reads (order b) (inForce p s) kind s h)))
+                (subst (λ (v : Laid). listQuorum Read (order b) v s ≡ true) (sym (l .list)) (reads (order b) (inForce p s) kind s h)))
 
         back : listQuorum kind (order b) (b .inForce) s ≡ true → (some 64 s && listQuorum kind (order b) (inForce p s) s) ≡ true
-        back h = and-i _ _ (someone kind h) (subst (λ (v : ℕ). listQuorum kind (order b) v s ≡ true) (sym (in-force (reads (order b) (b .inForce) kind s h) .1)) h)
+        back h = and-i _ _ (someone kind h) (subst (λ (v : Laid). listQuorum kind (order b) v s ≡ true) (sym (in-force (reads (order b) (b .inForce) kind s h) .1)) h)
 
     -- ---- that holds a read quorum of the list in force
     module _ (q : holdsQuorum b Read s ≡ true) where
@@ -183,7 +184,7 @@ module _ (n : ℕ) (p : Poll) (c : ℕ → List ℕ) (b : Book) (e : ℕ) (few :
 
     tried-in : (i : ℕ) → tried i ≡ true → r i ≡ true
     unfolding tried ownTry
-    tried-in i h = cut-in (listChoice kind (order b) (p .members k) a) r i h
+    tried-in i h = cut-in (listChoice kind (order b) (p .list k) a) r i h
 
     tried-used : (i : ℕ) → tried i ≡ true → Within n i
     tried-used i h = ins i (tried-in i h)

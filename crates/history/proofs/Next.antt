@@ -14,6 +14,7 @@ use Rattle.fields.specs.Layout.{get, mark, version, desired, contents, rowBytes
 use Rattle.table.specs.WellFormed.{limit}
 use Rattle.bytes.proofs.ByteLaws.{length-put}
 use Rattle.table.proofs.FormLaws.{Formed}
+use Rattle.fields.specs.declared.Laid.{Laid}
 use Rattle.protocol.specs.Polls.{polled, highestEpoch, inForce, goodVersion, good, current}
 use Rattle.protocol.specs.Calls.{Writing, Sending, Checking, answers, workSet}
 use Rattle.protocol.proofs.RowLaws.{fieldAt, fieldsOf, changed}
@@ -84,7 +85,7 @@ module _ (t : List ℕ) (b : Book) (e : ℕ) (S : State t b e) (a : Writing) (y 
   unfolding u s whole polled changed fieldsOf fieldAt staleOf versionOf desiredOf contentsOf
   wrote = record {
     epoch = λ i v. write-membership t a y i v .0;
-    members = λ i v. write-membership t a y i v .1;
+    list = λ i v. write-membership t a y i v .1;
     out = λ i v m. stays-of t u i (write-leaves t a y .out i v m);
     taken = rw (good-is, version-is) (λ i v m g. is-of t u i (write-taken t a y i v m g));
     marked = rw (good-is, version-is) (λ i v m g. is-of t u i (write-marked t a y i v m g));
@@ -110,7 +111,7 @@ module _ (t : List ℕ) (b : Book) (e : ℕ) (S : State t b e) (a : Sending) (y 
   unfolding su whole polled changed fieldsOf fieldAt staleOf versionOf desiredOf contentsOf
   sent = record {
     epoch = λ i v. send-membership t a y i v .0;
-    members = λ i v. send-membership t a y i v .1;
+    list = λ i v. send-membership t a y i v .1;
     out = λ i v m. stays-of t su i (send-leaves t a y .out i v (ne-eqb (a .t) i (λ q. eqb-false i (a .t) m (sym q))));
     target = is-of t su (a .t) (send-target t a y);
   }
@@ -132,7 +133,7 @@ module _ (t : List ℕ) (b : Book) (e : ℕ) (S : State t b e) (a : Checking) (y
   force-is : (highestEpoch (answers t (a .r)) (has (a .r)) ≡ e) × (inForce (answers t (a .r)) (has (a .r)) ≡ b .inForce)
   force-is = force-check t b e S (a .c) (a .r) (y .first) check-quorum
 
-  pub next-same : a .r ≡ inForce (answers t (a .r)) (has (a .r)) → State t (agreed b (a .r)) e
+  pub next-same : a .r ≡ inForce (answers t (a .r)) (has (a .r)) .members → State t (agreed b (a .r)) e
   unfolding agreed order nameIn
   next-same z = record {
     formed = S .formed;
@@ -140,7 +141,7 @@ module _ (t : List ℕ) (b : Book) (e : ℕ) (S : State t b e) (a : Checking) (y
     chain = S .chain;
     names = S .names;
     file = S .file;
-    inv = keep-list (usedOf t) (whole t) (contentsOf t) b e (few t b e S (a .r)) (S .inv) (whole t) (contentsOf t) (a .r) (y .first .rows) check-quorum (z ∙ force-is .1);
+    inv = keep-list (usedOf t) (whole t) (contentsOf t) b e (few t b e S (a .r)) (S .inv) (whole t) (contentsOf t) (a .r) (y .first .rows) check-quorum (z ∙ ap (λ (v : Laid). v .members) (force-is .1));
   }
 
   module _ (room : highestEpoch (answers t (a .r)) (has (a .r)) < limit) (cur : current (answers t (a .r)) (has (a .r)) ≡ true) where
@@ -155,7 +156,7 @@ module _ (t : List ℕ) (b : Book) (e : ℕ) (S : State t b e) (a : Checking) (y
     unfolding cu whole polled changed fieldsOf fieldAt staleOf versionOf desiredOf contentsOf
     checked = record {
       epoch = rw (sym (epoch-whole t b e S (a .r) (has (a .r)) all)) (λ i v. check-membership t a y room cur i v .0);
-      members = λ i v. check-membership t a y room cur i v .1;
+      list = λ i v. check-membership t a y room cur i v .1;
       out = λ i v m. stays-of t cu i (check-leaves t a y room .out i v m);
       taken = rw (sym (good-whole t b e S (a .r) (has (a .r)) all)) (λ i v m g. is-of t cu i (check-taken t a y room i v m g));
       marked = rw (sym (good-whole t b e S (a .r) (has (a .r)) all), sym (version-whole t b e S (a .r) (has (a .r)) all)) (λ i v m g. is-of t cu i (check-marked t a y room i v m g));

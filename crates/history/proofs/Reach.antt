@@ -19,7 +19,7 @@ use Rattle.fields.specs.Layout.{usedOf, fileLengthOf}
 use Rattle.table.specs.Chain.{orderOf}
 use Rattle.table.specs.WellFormed.{between, limit, onlyRows}
 use Rattle.table.proofs.FormLaws.{well-formed-of}
-use Rattle.protocol.specs.Lists.{listChoice}
+use Rattle.protocol.specs.Lists.{laidNow, listChoice}
 use Rattle.protocol.specs.Polls.{goodVersion, current, quorumHeld}
 use Rattle.asking.specs.Asking.{firstNo, before}
 use Rattle.protocol.specs.Calls.{Founding, Writing, founding, write, isUsed, inFile, byCoordinator, questions, outcome, answers, workSet, namesIn, namesRising, zeros}
@@ -39,7 +39,7 @@ again = record { c = 1; r = 1; offset = 0; patch = 7 ∷ [] }
 -- the book of a file of one byte on one machine
 record Lone (b : Book) : Type 0 where
   pub names : b .names ≡ 10 ∷ []
-  pub list : b .inForce ≡ 1
+  pub list : b .inForce ≡ laidNow 1
   pub file : length (b .file) ≡ 1
   pub all : hasAll b 1 ≡ true
 

@@ -41,7 +41,7 @@ masked t r = record {
   version = λ i m. rw m;
   desired = λ i m. rw m;
   epoch = λ i m. rw m;
-  members = λ i m. rw m;
+  list = λ i m. rw m;
 }
 
 module _ (t : List ℕ) (b : Book) (e : ℕ) (S : State t b e) (r : ℕ) where

@@ -14,9 +14,10 @@ use Rattle.bools.proofs.BoolLaws.{or-l, or-r, or-e, clash, same-test}
 use Rattle.sets.proofs.SetLaws.{has-within}
 use Rattle.quorums.specs.declared.Kind.the-variants.{Read, Write}
 use Rattle.bytes.specs.Bytes.{put}
-use Rattle.protocol.specs.Lists.{listQuorum}
+use Rattle.fields.specs.declared.Laid.{Laid}
+use Rattle.protocol.specs.Lists.{laidNow, listQuorum}
 use Rattle.protocol.specs.Polls.{Poll, highestEpoch, inForce, goodVersion, good, current}
-use Rattle.protocol.proofs.ListLaws.{shared, inhabited, reads}
+use Rattle.protocol.proofs.ListLaws.{laid-again, shared, inhabited, reads}
 use Rattle.protocol.proofs.PollLaws.{good-at, good-of}
 use Rattle.history.specs.Book.{Book, order, hasAll, holdsQuorum, written, passedOn, agreed}
 use Rattle.history.proofs.Invariant.{aim, Epochs, Versions, Inv, clean, in-force, version-is, good-is}
@@ -41,9 +42,9 @@ unfolding aim
 aim-of q = rw (q .stale, q .version, q .desired)
 
 -- epochs and lists that stay
-epochs-of : {n : ℕ} {order : List ℕ} {f g f′ g′ : ℕ → ℕ} {force : ℕ} {own : ℕ → ℕ} {e : ℕ}
+epochs-of : {n : ℕ} {order : List ℕ} {f f′ : ℕ → ℕ} {g g′ : ℕ → Laid} {force : Laid} {own : ℕ → Laid} {e : ℕ}
     → ((i : ℕ) → Within n i → f′ i ≡ f i) → ((i : ℕ) → Within n i → g′ i ≡ g i) → Epochs n order f g force own e → Epochs n order f′ g′ force own e
-epochs-of {n} {order} {f} {g} {f′} {g′} {force} {own} {e} q m E = record {
+epochs-of {n} {order} {f} {f′} {g} {g′} {force} {own} {e} q m E = record {
   below = λ i u. rw (q i u) (E .below i u);
   inside = λ i u. rw (q i u) (E .inside i u);
   forced = λ i u. rw (q i u, m i u) (E .forced i u);
@@ -76,7 +77,7 @@ module _ (n : ℕ) (p : Poll) (c : ℕ → List ℕ) (b : Book) (e : ℕ) (few :
   -- the rows after a write that worked on s: version v, patch at offset
   pub record Wrote (s : ℕ → Bool) (v offset : ℕ) (patch : List ℕ) : Type 0 where
     pub epoch : (i : ℕ) → Within n i → p′ .epoch i ≡ p .epoch i
-    pub members : (i : ℕ) → Within n i → p′ .members i ≡ p .members i
+    pub list : (i : ℕ) → Within n i → p′ .list i ≡ p .list i
     pub out : (i : ℕ) → Within n i → s i ≡ false → Stays p c p′ c′ i
     pub taken : (i : ℕ) → Within n i → s i ≡ true → good p s i ≡ true → Is p′ c′ i (p .stale i) v (p .desired i) (put offset patch (c i))
     pub marked : (i : ℕ) → Within n i → s i ≡ true → good p s i ≡ false → Is p′ c′ i true (p .version i) v (c i)
@@ -135,12 +136,12 @@ module _ (n : ℕ) (p : Poll) (c : ℕ → List ℕ) (b : Book) (e : ℕ) (few :
 
     pub keep-write : Inv n p′ c′ (written b s offset patch) e
     unfolding written order
-    keep-write = record { epochs = epochs-of (w .epoch) (w .members) (I .epochs); versions = wrote-versions; live = wrote-live }
+    keep-write = record { epochs = epochs-of (w .epoch) (w .list) (I .epochs); versions = wrote-versions; live = wrote-live }
 
   -- ---- the rows after a send from f to t
   pub record Sent (f t : ℕ) : Type 0 where
     pub epoch : (i : ℕ) → Within n i → p′ .epoch i ≡ p .epoch i
-    pub members : (i : ℕ) → Within n i → p′ .members i ≡ p .members i
+    pub list : (i : ℕ) → Within n i → p′ .list i ≡ p .list i
     pub out : (i : ℕ) → Within n i → eqb i t ≡ false → Stays p c p′ c′ i
     pub target : Is p′ c′ t false (p .version f) 0 (c f)
 
@@ -183,12 +184,12 @@ module _ (n : ℕ) (p : Poll) (c : ℕ → List ℕ) (b : Book) (e : ℕ) (few :
 
     pub keep-send : Inv n p′ c′ (passedOn b f t) e
     unfolding passedOn order
-    keep-send = record { epochs = epochs-of (w .epoch) (w .members) (I .epochs); versions = sent-versions; live = sent-live }
+    keep-send = record { epochs = epochs-of (w .epoch) (w .list) (I .epochs); versions = sent-versions; live = sent-live }
 
   -- ---- the rows after a check over r that makes epoch x
   pub record Checked (r x : ℕ) : Type 0 where
     pub epoch : (i : ℕ) → Within n i → p′ .epoch i ≡ cond (has r i) x (p .epoch i)
-    pub members : (i : ℕ) → Within n i → p′ .members i ≡ cond (has r i) r (p .members i)
+    pub list : (i : ℕ) → Within n i → p′ .list i ≡ cond (has r i) (laidNow r) (p .list i)
     pub out : (i : ℕ) → Within n i → has r i ≡ false → Stays p c p′ c′ i
     pub taken : (i : ℕ) → Within n i → has r i ≡ true → good p (has r) i ≡ true → Stays p c p′ c′ i
     pub marked : (i : ℕ) → Within n i → has r i ≡ true → good p (has r) i ≡ false → Is p′ c′ i true (p .version i) (goodVersion p (has r)) (c i)
@@ -202,23 +203,26 @@ module _ (n : ℕ) (p : Poll) (c : ℕ → List ℕ) (b : Book) (e : ℕ) (few :
     check-q = reads (order b) (b .inForce) Write (has r) q
 
     -- that changes nothing
-    pub keep-list : r ≡ b .inForce → Inv n p c (agreed b r) e
+    pub keep-list : r ≡ b .inForce .members → Inv n p c (agreed b r) e
     unfolding agreed order
     keep-list z = record {
       epochs = record {
         below = I .epochs .below;
-        inside = rw z (I .epochs .inside);
-        forced = rw z (I .epochs .forced);
+        inside = rw same (I .epochs .inside);
+        forced = rw same (I .epochs .forced);
         owned = λ i u. go i u (has r i) refl;
-        bound = us;
+        bound = rw same (I .epochs .bound);
         dead = I .epochs .dead;
       };
       versions = I .versions;
-      live = rw z (I .live);
+      live = rw same (I .live);
     }
       where
-        go : (i : ℕ) → Within n i → (x : Bool) → has r i ≡ x → cond x r (b .own i) ≡ p .members i
-        go i u true m = z ∙ sym (I .epochs .forced i u (I .epochs .inside i u (rw (← z) m)))
+        same : laidNow r ≡ b .inForce
+        same = ap laidNow z ∙ laid-again (b .inForce)
+
+        go : (i : ℕ) → Within n i → (x : Bool) → has r i ≡ x → cond x (laidNow r) (b .own i) ≡ p .list i
+        go i u true m = same ∙ sym (I .epochs .forced i u (I .epochs .inside i u (rw (← z) m)))
         go i u false m = I .epochs .owned i u
 
     -- that makes a new epoch
@@ -229,13 +233,13 @@ module _ (n : ℕ) (p : Poll) (c : ℕ → List ℕ) (b : Book) (e : ℕ) (few :
       new : goodVersion p (has r) ≡ b .writes
       new = version-is n p c b e few I (has r) ins check-q cur
 
-      new-epochs : Epochs n (order b) (λ i. cond (has r i) (suc e) (p .epoch i)) (λ i. cond (has r i) r (p .members i)) r (λ i. cond (has r i) r (b .own i)) (suc e)
-      unfolding holdsQuorum
+      new-epochs : Epochs n (order b) (λ i. cond (has r i) (suc e) (p .epoch i)) (λ i. cond (has r i) (laidNow r) (p .list i)) (laidNow r) (λ i. cond (has r i) (laidNow r) (b .own i)) (suc e)
+      unfolding holdsQuorum laidNow
       new-epochs = record {
         below = λ i u. below i u (has r i);
         inside = λ i u m. rw m;
         forced = λ i u. forced i u (has r i);
-        owned = λ i u. ap (λ (x : ℕ). cond (has r i) r x) (I .epochs .owned i u);
+        owned = λ i u. ap (λ (x : Laid). cond (has r i) (laidNow r) x) (I .epochs .owned i u);
         bound = us;
         dead = λ i u. dead i u (has r i);
       }
@@ -244,7 +248,7 @@ module _ (n : ℕ) (p : Poll) (c : ℕ → List ℕ) (b : Book) (e : ℕ) (few :
           below i u true = omega arith
           below i u false = omega (arith, I .epochs .below i u)
 
-          forced : (i : ℕ) → Within n i → (x : Bool) → cond x (suc e) (p .epoch i) ≡ suc e → cond x r (p .members i) ≡ r
+          forced : (i : ℕ) → Within n i → (x : Bool) → cond x (suc e) (p .epoch i) ≡ suc e → cond x (laidNow r) (p .list i) ≡ laidNow r
           forced i u true h = refl
           forced i u false h = absurd (omega (arith, I .epochs .below i u))
 
@@ -254,7 +258,7 @@ module _ (n : ℕ) (p : Poll) (c : ℕ → List ℕ) (b : Book) (e : ℕ) (few :
 
           dead : (i : ℕ) → Within n i → (x : Bool) → cond x (suc e) (p .epoch i) < suc e → (s : ℕ → Bool)
               → ((j : ℕ) → Within n j → s j ≡ true → cond (has r j) (suc e) (p .epoch j) ≤ cond x (suc e) (p .epoch i))
-              → listQuorum Read (order b) (cond x r (p .members i)) s ≡ true → ⊥
+              → listQuorum Read (order b) (cond x (laidNow r) (p .list i)) s ≡ true → ⊥
           dead i u true l s f h = omega arith
           dead i u false l s f h = go (ℕ-discrete (p .epoch i) e)
             where
@@ -285,8 +289,9 @@ module _ (n : ℕ) (p : Poll) (c : ℕ → List ℕ) (b : Book) (e : ℕ) (few :
               short (yes z) = absurd (clash (sym g ∙ good-of p (has r) i (record { inside = m; clean = clean n p c b e few I i u z; newest = z ∙ sym new })))
           go false m y g = versions-of (w .out i u m) v
 
-      new-live : (s : ℕ → Bool) → listQuorum Read (order b) r s ≡ true → (i : ℕ) × Within n i × (s i ≡ true) × (aim p′ i ≡ b .writes)
-      new-live s h = let m = inhabited (order b) r Read s h in (m .0, ins (m .0) (m .1), m .2, go (m .0) (m .1) (good p (has r) (m .0)) refl)
+      new-live : (s : ℕ → Bool) → listQuorum Read (order b) (laidNow r) s ≡ true → (i : ℕ) × Within n i × (s i ≡ true) × (aim p′ i ≡ b .writes)
+      unfolding laidNow
+      new-live s h = let m = inhabited (order b) (laidNow r) Read s h in (m .0, ins (m .0) (m .1), m .2, go (m .0) (m .1) (good p (has r) (m .0)) refl)
         where
           go : (i : ℕ) → has r i ≡ true → (y : Bool) → good p (has r) i ≡ y → aim p′ i ≡ b .writes
           go i m true g = let d = good-at p (has r) i g in aim-of (w .taken i (ins i m) m g) ∙ rw (d .clean) (d .newest ∙ new)
@@ -295,7 +300,7 @@ module _ (n : ℕ) (p : Poll) (c : ℕ → List ℕ) (b : Book) (e : ℕ) (few :
       pub keep-check : Inv n p′ c′ (agreed b r) (suc e)
       unfolding agreed order
       keep-check = record {
-        epochs = epochs-of (λ i u. w .epoch i u ∙ ap (λ (x : ℕ). cond (has r i) x (p .epoch i)) next) (w .members) new-epochs;
+        epochs = epochs-of (λ i u. w .epoch i u ∙ ap (λ (x : ℕ). cond (has r i) x (p .epoch i)) next) (w .list) new-epochs;
         versions = new-versions;
         live = new-live;
       }

@@ -37,12 +37,12 @@ module _ (t : List ℕ) (b : Book) (e : ℕ) (S : State t b e) where
   next-done (read a) h = (e, S)
   next-done (write a) h = (e, next-write t b e S a (write-yes t a h))
   next-done (send a) h = (e, next-send t b e S a (send-yes t a h))
-  next-done (check a) h = go (eqb (a .r) (inForce (answers t (a .r)) (has (a .r)))) refl
+  next-done (check a) h = go (eqb (a .r) (inForce (answers t (a .r)) (has (a .r)) .members)) refl
     where
       y : CheckYes t a
       y = check-yes t a h
 
-      go : (x : Bool) → eqb (a .r) (inForce (answers t (a .r)) (has (a .r))) ≡ x → (e′ : ℕ) × State (done t (check a) .table) (agreed b (a .r)) e′
+      go : (x : Bool) → eqb (a .r) (inForce (answers t (a .r)) (has (a .r)) .members) ≡ x → (e′ : ℕ) × State (done t (check a) .table) (agreed b (a .r)) e′
       go true q = (e, rw q (next-same t b e S a y (eqb-true _ _ q)))
       go false q =
           let cur : current (answers t (a .r)) (has (a .r)) ≡ true = rw q at (y .current) in
@@ -92,17 +92,17 @@ always-well-formed t b x = well-formed-of t (reached t b x .1 .formed)
 -- ---- checks
 module _ (t : List ℕ) (b : Book) (e : ℕ) (S : State t b e) (a : Checking) where
   six-seven : ByCoordinator t (a .c) (a .r)
-      → _≡_ {A = ℕ} (cond (quorumHeld Write (orderOf t) (answers t (a .r)) (has (a .r))) (cond (eqb (a .r) (inForce (answers t (a .r)) (has (a .r))) || current (answers t (a .r)) (has (a .r))) 0 7) 6)
-      (cond (holdsQuorum b Write (has (a .r))) (cond (eqb (a .r) (b .inForce) || someHasAll b (has (a .r))) 0 7) 6)
+      → _≡_ {A = ℕ} (cond (quorumHeld Write (orderOf t) (answers t (a .r)) (has (a .r))) (cond (eqb (a .r) (inForce (answers t (a .r)) (has (a .r)) .members) || current (answers t (a .r)) (has (a .r))) 0 7) 6)
+      (cond (holdsQuorum b Write (has (a .r))) (cond (eqb (a .r) (b .inForce .members) || someHasAll b (has (a .r))) 0 7) 6)
   six-seven B = rw (six-check t b e S (a .c) (a .r) B) (go (holdsQuorum b Write (has (a .r))) refl)
     where
       go : (x : Bool) → holdsQuorum b Write (has (a .r)) ≡ x
-          → _≡_ {A = ℕ} (cond x (cond (eqb (a .r) (inForce (answers t (a .r)) (has (a .r))) || current (answers t (a .r)) (has (a .r))) 0 7) 6) (cond x (cond (eqb (a .r) (b .inForce) || someHasAll b (has (a .r))) 0 7) 6)
+          → _≡_ {A = ℕ} (cond x (cond (eqb (a .r) (inForce (answers t (a .r)) (has (a .r)) .members) || current (answers t (a .r)) (has (a .r))) 0 7) 6) (cond x (cond (eqb (a .r) (b .inForce .members) || someHasAll b (has (a .r))) 0 7) 6)
       go true q = let w = seven-check t b e S (a .c) (a .r) B q in rw (w .0, w .1)
       go false q = refl
 
   check-right : firstNo (before 6 (questions t (check a))) ≡ 0
-      → firstNo (before 8 (questions t (check a))) ≡ cond (holdsQuorum b Write (has (a .r))) (cond (eqb (a .r) (b .inForce) || someHasAll b (has (a .r))) 0 7) 6
+      → firstNo (before 8 (questions t (check a))) ≡ cond (holdsQuorum b Write (has (a .r))) (cond (eqb (a .r) (b .inForce .members) || someHasAll b (has (a .r))) 0 7) 6
   unfolding questions before byCoordinator firstNo
   check-right h =
       let x = yes-first 0 (wellFormed t) (record { ask = 2; yes = isUsed t (a .c) && onlyRows (usedOf t) (a .r) } ∷ record { ask = 3; yes = has (a .r) (a .c) } ∷ []) h in

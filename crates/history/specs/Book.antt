@@ -9,7 +9,8 @@ use Rattle.sets.specs.Sets.{has, cutTo}
 use Rattle.quorums.specs.declared.Kind.{Kind}
 use Rattle.quorums.specs.declared.Kind.the-variants.{Write}
 use Rattle.bytes.specs.Bytes.{put}
-use Rattle.protocol.specs.Lists.{listQuorum, listChoice}
+use Rattle.fields.specs.declared.Laid.{Laid}
+use Rattle.protocol.specs.Lists.{laidNow, listQuorum, listChoice}
 use Rattle.protocol.specs.Calls.{Founding, Call, founding, read, write, send, check, namesIn, zeros}
 
 pub record Book : Type 0 where
@@ -19,8 +20,8 @@ pub record Book : Type 0 where
   pub file : List ℕ
   pub writes : ℕ
   -- the list in force, and each row's own list
-  pub inForce : ℕ
-  pub own : ℕ → ℕ
+  pub inForce : Laid
+  pub own : ℕ → Laid
   -- row i has done write k, the first being write 1
   pub hasWrite : ℕ → ℕ → Bool
 
@@ -39,8 +40,8 @@ opened a =
       names = names;
       file = zeros (a .fileLength);
       writes = 0;
-      inForce = 2 ^ length names - 1;
-      own = λ i. 2 ^ length names - 1;
+      inForce = laidNow (2 ^ length names - 1);
+      own = λ i. laidNow (2 ^ length names - 1);
       hasWrite = λ i k. false;
     }
 
@@ -91,8 +92,8 @@ agreed b r = record {
   names = b .names;
   file = b .file;
   writes = b .writes;
-  inForce = r;
-  own = λ i. cond (has r i) r (b .own i);
+  inForce = laidNow r;
+  own = λ i. cond (has r i) (laidNow r) (b .own i);
   hasWrite = b .hasWrite;
 }
 

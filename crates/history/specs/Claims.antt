@@ -34,7 +34,7 @@ AlwaysWellFormed = (t : List ℕ) (b : Book) → Reached t b → wellFormed t �
 -- a check that passes 1 to 3 meets 6 and 7 by the book: a write quorum of the list in force; R that list, or a row of R with every done write
 unfoldable pub ChecksByBook : Type 0
 ChecksByBook = (t : List ℕ) (b : Book) → Reached t b → (a : Checking) → firstNo (before 6 (questions t (check a))) ≡ 0
-    → firstNo (before 8 (questions t (check a))) ≡ cond (holdsQuorum b Write (has (a .r))) (cond (eqb (a .r) (b .inForce) || someHasAll b (has (a .r))) 0 7) 6
+    → firstNo (before 8 (questions t (check a))) ≡ cond (holdsQuorum b Write (has (a .r))) (cond (eqb (a .r) (b .inForce .members) || someHasAll b (has (a .r))) 0 7) 6
 
 -- ---- 1,000,000 from both sides
 -- k is a read or a write, with the answering set R

@@ -42,12 +42,12 @@ small-done t (read a) h =
     version-small t (a .c) (a .r) (read-yes t a h .first) (workSet Read t (a .c) (a .r)) (worked-in Read (orderOf t) (answers t (a .r)) (a .c) (nameOf t (a .c)) (has (a .r)))
 small-done t (write a) h = omega (arith, write-yes t a h .room)
 small-done t (send a) h = let y = send-yes t a h in formed t (y .formed) .rows (a .f) (y .from-used) .small-version
-small-done t (check a) h = go (eqb (a .r) (inForce (answers t (a .r)) (has (a .r)))) refl
+small-done t (check a) h = go (eqb (a .r) (inForce (answers t (a .r)) (has (a .r)) .members)) refl
   where
     y : CheckYes t a
     y = check-yes t a h
 
-    go : (b : Bool) → eqb (a .r) (inForce (answers t (a .r)) (has (a .r))) ≡ b → cond b (highestEpoch (answers t (a .r)) (has (a .r))) (highestEpoch (answers t (a .r)) (has (a .r)) + 1) ≤ limit
+    go : (b : Bool) → eqb (a .r) (inForce (answers t (a .r)) (has (a .r)) .members) ≡ b → cond b (highestEpoch (answers t (a .r)) (has (a .r))) (highestEpoch (answers t (a .r)) (has (a .r)) + 1) ≤ limit
     go true q = epoch-small t (a .c) (a .r) (y .first) (has (a .r)) (λ i m. m)
     go false q = let room : ltb (highestEpoch (answers t (a .r)) (has (a .r))) limit ≡ true = rw q at (y .room) in omega (arith, ltb-true)
 
@@ -88,12 +88,12 @@ only-done t (write a) r Claims.byWrite h =
     let y = write-yes t a h in only-leaves (a .r) (λ i m. worked-in Write (orderOf t) (answers t (a .r)) (a .c) (nameOf t (a .c)) (has (a .r)) i m) (write-leaves t a y)
 only-done t (send a) r Claims.bySend h =
     let y = send-yes t a h in only-leaves (a .r) (λ i m. subst (λ (x : ℕ). has (a .r) x ≡ true) (eqb-true (a .t) i m) (y .to-answered)) (send-leaves t a y)
-only-done t (check a) r Claims.byCheck h = go (eqb (a .r) (inForce (answers t (a .r)) (has (a .r)))) refl
+only-done t (check a) r Claims.byCheck h = go (eqb (a .r) (inForce (answers t (a .r)) (has (a .r)) .members)) refl
   where
     y : CheckYes t a
     y = check-yes t a h
 
-    go : (b : Bool) → eqb (a .r) (inForce (answers t (a .r)) (has (a .r))) ≡ b → Claims.OnlyRowsOf (a .r) t (done t (check a) .table)
+    go : (b : Bool) → eqb (a .r) (inForce (answers t (a .r)) (has (a .r)) .members) ≡ b → Claims.OnlyRowsOf (a .r) t (done t (check a) .table)
     go true q = rw q (only-none (a .r) t)
     go false q = rw q (only-leaves (a .r) (λ i m. m) (check-leaves t a y (ltb-true _ _ (rw q at (y .room)))))
 

@@ -18,11 +18,13 @@ use Rattle.sets.proofs.UptoLaws.{every-of}
 use Rattle.sets.proofs.SetLaws.{has-all}
 use Rattle.bytes.specs.Bytes.{number, bytesOf, part, allZero}
 use Rattle.blocks.specs.Blocks.{block}
-use Rattle.fields.specs.Layout.{get, form, capacity, used, first, fileLength, name, link, mark, version, desired, epoch, members, reserved, contents, rowLength, rowsEnd, rowBytes, capacityOf, usedOf, firstOf, fileLengthOf, nameOf, linkOf}
+use Rattle.fields.specs.Layout.{get, form, capacity, used, first, fileLength, name, link, mark, version, desired, epoch, members, list, reserved, contents, rowLength, rowsEnd, rowBytes, capacityOf, usedOf, firstOf, fileLengthOf, nameOf, linkOf}
 use Rattle.table.specs.Chain.{chain, orderOf, among, risesFrom}
 use Rattle.table.specs.WellFormed.{between, limit, headerValues, lengthRight, visitsEach, namesRise, unusedZero}
 use Rattle.bytes.proofs.ByteLaws.{length-bytes, number-bytes}
+use Rattle.fields.proofs.FieldLaws.{list-is}
 use Rattle.table.proofs.FormLaws.{between-is, is-between, RowFacts, Formed}
+use Rattle.protocol.specs.Lists.{laidNow}
 use Rattle.protocol.specs.Calls
 use Rattle.asking.specs.Asking.{firstNo}
 use Rattle.asking.proofs.AskingLaws.{yes-first}
@@ -199,9 +201,13 @@ module _ (a : Calls.Founding) (f : Founds a) where
     unfolding Calls.foundedRow get link part number Calls.zeros bytesOf
     row-link = omega arith
 
-    pub row-members : get members (Calls.foundedRow (length names) file i x) ≡ 2 ^ length names - 1
-    unfolding Calls.foundedRow get members part Calls.zeros bytesOf
+    row-members : get members (Calls.foundedRow (length names) file i x) ≡ 2 ^ length names - 1
+    unfolding Calls.foundedRow laidNow get members part Calls.zeros bytesOf
     row-members = number-bytes 8 (2 ^ length names - 1) list-fits
+
+    pub row-list : list (Calls.foundedRow (length names) file i x) ≡ laidNow (2 ^ length names - 1)
+    unfolding laidNow
+    row-list = list-is _ _ row-members
 
     pub zero-mark : get mark (Calls.foundedRow (length names) file i x) ≡ 0
     unfolding Calls.foundedRow get mark part number Calls.zeros bytesOf

@@ -11,7 +11,10 @@ use Rattle.sets.specs.Upto.{Within}
 use Rattle.sets.specs.Sets.{has}
 use Rattle.bools.proofs.BoolLaws.{clash}
 use Rattle.quorums.specs.declared.Kind.the-variants.{Write}
-use Rattle.fields.specs.Layout.{get, name, link, desired, epoch, members, rowBytes, usedOf, epochOf, membersOf, staleOf, versionOf, desiredOf}
+use Rattle.fields.specs.declared.Laid.{Laid}
+use Rattle.fields.specs.Layout.{get, name, link, desired, epoch, list, rowBytes, usedOf, epochOf, listOf, staleOf, versionOf, desiredOf}
+use Rattle.fields.proofs.FieldLaws.{list-is}
+use Rattle.protocol.specs.Lists.{laidNow}
 use Rattle.table.specs.WellFormed.{limit}
 use Rattle.table.proofs.FormLaws.{RowFacts, Formed, formed, header-facts}
 use Rattle.protocol.specs.Polls.{polled, highestEpoch, goodVersion, good, current}
@@ -49,12 +52,17 @@ facts-after {n} {i} {row} {new} {c} {f} r b e1 e2 g = record {
   own = rw (b .fields 7 (omega arith)) (g .own);
 }
 
+-- used rows of one epoch have one list
+one-list : {t : List ℕ} → Formed t → (i j : ℕ) → Within (usedOf t) i → Within (usedOf t) j → epochOf t i ≡ epochOf t j → listOf t i ≡ listOf t j
+unfolding epochOf listOf list
+one-list w i j u v e = list-is _ _ (w .agree i j u v e)
+
 -- a table whose changed rows are right, and whose rows agree on lists, is well formed
 keep-formed : {t u : List ℕ} {s : ℕ → Bool} → Formed t → Leaves t u s
     → ((i : ℕ) → Within (usedOf t) i → s i ≡ true → RowFacts (usedOf t) i (rowBytes u i))
-    → ((i j : ℕ) → Within (usedOf t) i → Within (usedOf t) j → epochOf u i ≡ epochOf u j → membersOf u i ≡ membersOf u j)
+    → ((i j : ℕ) → Within (usedOf t) i → Within (usedOf t) j → epochOf u i ≡ epochOf u j → listOf u i ≡ listOf u j)
     → Formed u
-unfolding epochOf membersOf
+unfolding epochOf listOf list
 keep-formed {t} {u} {s} w l facts agree = record {
   header = same-header (l .frame) ∙ w .header;
   long = same-long (l .frame) ∙ w .long;
@@ -62,7 +70,7 @@ keep-formed {t} {u} {s} w l facts agree = record {
   visits = same-visits (l .frame) ∙ w .visits;
   rise = same-rise (l .frame) ∙ w .rise;
   zero = zero-stays (l .change) refl (same-used (l .frame)) ∙ w .zero;
-  agree = rw (same-used (l .frame)) agree;
+  agree = rw (same-used (l .frame)) (λ i j v x e. ap (λ (z : Laid). z .members) (agree i j v x e));
 }
   where
     go : (i : ℕ) → Within (usedOf t) i → (b : Bool) → s i ≡ b → RowFacts (usedOf t) i (rowBytes u i)
@@ -148,25 +156,24 @@ module _ (t : List ℕ) (a : Writing) (y : WriteYes t a) where
 
   -- epochs and lists stay
   pub write-membership : (i : ℕ) → Within (usedOf t) i
-      → (epochOf (writeTable t a y) i ≡ epochOf t i) × (membersOf (writeTable t a y) i ≡ membersOf t i)
-  unfolding changed fieldsOf fieldAt epochOf membersOf
+      → (epochOf (writeTable t a y) i ≡ epochOf t i) × (listOf (writeTable t a y) i ≡ listOf t i)
+  unfolding changed fieldsOf fieldAt epochOf listOf list
   write-membership i u = go (workSet Write t (a .c) (a .r) i) refl (good (answers t (a .r)) (workSet Write t (a .c) (a .r)) i) refl
     where
       new : List ℕ
       new = rowBytes (writeTable t a y) i
 
       go : (x : Bool) → workSet Write t (a .c) (a .r) i ≡ x → (b : Bool) → good (answers t (a .r)) (workSet Write t (a .c) (a .r)) i ≡ b
-          → (get epoch new ≡ get epoch (rowBytes t i)) × (get members new ≡ get members (rowBytes t i))
-      go false m b g = let e = write-leaves t a y .out i u m in (ap (get epoch) e, ap (get members) e)
-      go true m true g = let e = write-taken t a y i u m g .fields in (e 6 (omega arith), e 7 (omega arith))
-      go true m false g = let e = write-marked t a y i u m g .fields in (e 6 (omega arith), e 7 (omega arith))
+          → (get epoch new ≡ get epoch (rowBytes t i)) × (list new ≡ list (rowBytes t i))
+      go false m b g = let e = write-leaves t a y .out i u m in (ap (get epoch) e, ap list e)
+      go true m true g = let e = write-taken t a y i u m g .fields in (e 6 (omega arith), list-is _ _ (e 7 (omega arith)))
+      go true m false g = let e = write-marked t a y i u m g .fields in (e 6 (omega arith), list-is _ _ (e 7 (omega arith)))
 
   pub write-formed : Formed (writeTable t a y)
-  unfolding epochOf membersOf
   write-formed = keep-formed ww (write-leaves t a y) write-facts (λ i j u v e.
       let x = write-membership i u in
       let b = write-membership j v in
-      x .1 ∙ ww .agree i j u v (sym (x .0) ∙ e ∙ b .0) ∙ sym (b .1))
+      x .1 ∙ one-list ww i j u v (sym (x .0) ∙ e ∙ b .0) ∙ sym (b .1))
 
 -- ---- a send
 module _ (t : List ℕ) (a : Sending) (y : SendYes t a) where
@@ -188,22 +195,21 @@ module _ (t : List ℕ) (a : Sending) (y : SendYes t a) where
       }))
 
   pub send-membership : (i : ℕ) → Within (usedOf t) i
-      → (epochOf (sendTable t a y) i ≡ epochOf t i) × (membersOf (sendTable t a y) i ≡ membersOf t i)
-  unfolding changed fieldsOf fieldAt epochOf membersOf
+      → (epochOf (sendTable t a y) i ≡ epochOf t i) × (listOf (sendTable t a y) i ≡ listOf t i)
+  unfolding changed fieldsOf fieldAt epochOf listOf list
   send-membership i u = go (eqb (a .t) i) refl
     where
       go : (x : Bool) → eqb (a .t) i ≡ x
-          → (get epoch (rowBytes (sendTable t a y) i) ≡ get epoch (rowBytes t i)) × (get members (rowBytes (sendTable t a y) i) ≡ get members (rowBytes t i))
-      go false m = let e = send-leaves t a y .out i u m in (ap (get epoch) e, ap (get members) e)
-      go true m = subst (λ (x : ℕ). (get epoch (rowBytes (sendTable t a y) x) ≡ get epoch (rowBytes t x)) × (get members (rowBytes (sendTable t a y) x) ≡ get members (rowBytes t x))) (eqb-true (a .t) i m)
-          (let e = send-target t a y .fields in (e 6 (omega arith), e 7 (omega arith)))
+          → (get epoch (rowBytes (sendTable t a y) i) ≡ get epoch (rowBytes t i)) × (list (rowBytes (sendTable t a y) i) ≡ list (rowBytes t i))
+      go false m = let e = send-leaves t a y .out i u m in (ap (get epoch) e, ap list e)
+      go true m = subst (λ (x : ℕ). (get epoch (rowBytes (sendTable t a y) x) ≡ get epoch (rowBytes t x)) × (list (rowBytes (sendTable t a y) x) ≡ list (rowBytes t x))) (eqb-true (a .t) i m)
+          (let e = send-target t a y .fields in (e 6 (omega arith), list-is _ _ (e 7 (omega arith))))
 
   pub send-formed : Formed (sendTable t a y)
-  unfolding epochOf membersOf
   send-formed = keep-formed sw (send-leaves t a y) send-facts (λ i j u v e.
       let x = send-membership i u in
       let b = send-membership j v in
-      x .1 ∙ sw .agree i j u v (sym (x .0) ∙ e ∙ b .0) ∙ sym (b .1))
+      x .1 ∙ one-list sw i j u v (sym (x .0) ∙ e ∙ b .0) ∙ sym (b .1))
 
 -- ---- a check that changes the list
 module _ (t : List ℕ) (a : Checking) (y : CheckYes t a) (room : highestEpoch (answers t (a .r)) (has (a .r)) < limit) (cur : current (answers t (a .r)) (has (a .r)) ≡ true) where
@@ -246,22 +252,18 @@ module _ (t : List ℕ) (a : Checking) (y : CheckYes t a) (room : highestEpoch (
 
   -- rows that answered have the new epoch and list, the others keep theirs
   pub check-membership : (i : ℕ) → Within (usedOf t) i
-      → (epochOf (checkTable t a y room) i ≡ cond (has (a .r) i) (highestEpoch (answers t (a .r)) (has (a .r)) + 1) (epochOf t i)) × (membersOf (checkTable t a y room) i ≡ cond (has (a .r) i) (a .r) (membersOf t i))
-  unfolding changed fieldsOf fieldAt epochOf membersOf
+      → (epochOf (checkTable t a y room) i ≡ cond (has (a .r) i) (highestEpoch (answers t (a .r)) (has (a .r)) + 1) (epochOf t i)) × (listOf (checkTable t a y room) i ≡ cond (has (a .r) i) (laidNow (a .r)) (listOf t i))
+  unfolding changed fieldsOf fieldAt epochOf listOf laidNow
   check-membership i u = go (has (a .r) i) refl (good (answers t (a .r)) (has (a .r)) i) refl
     where
       new : List ℕ
       new = rowBytes (checkTable t a y room) i
 
       go : (x : Bool) → has (a .r) i ≡ x → (b : Bool) → good (answers t (a .r)) (has (a .r)) i ≡ b
-          → (get epoch new ≡ cond x (highestEpoch (answers t (a .r)) (has (a .r)) + 1) (get epoch (rowBytes t i))) × (get members new ≡ cond x (a .r) (get members (rowBytes t i)))
-      go false m b g = let e = check-leaves t a y room .out i u m in (ap (get epoch) e, ap (get members) e)
-      go true m true g = let e = check-taken t a y room i u m g .fields in (e 6 (omega arith), e 7 (omega arith))
-      go true m false g = let e = check-marked t a y room i u m g .fields in (e 6 (omega arith), e 7 (omega arith))
-
-  old-agree : (i j : ℕ) → Within (usedOf t) i → Within (usedOf t) j → epochOf t i ≡ epochOf t j → membersOf t i ≡ membersOf t j
-  unfolding epochOf membersOf
-  old-agree = chw .agree
+          → (get epoch new ≡ cond x (highestEpoch (answers t (a .r)) (has (a .r)) + 1) (get epoch (rowBytes t i))) × (list new ≡ cond x (laidNow (a .r)) (list (rowBytes t i)))
+      go false m b g = let e = check-leaves t a y room .out i u m in (ap (get epoch) e, ap list e)
+      go true m true g = let e = check-taken t a y room i u m g .fields in (e 6 (omega arith), list-is _ _ (e 7 (omega arith)))
+      go true m false g = let e = check-marked t a y room i u m g .fields in (e 6 (omega arith), list-is _ _ (e 7 (omega arith)))
 
   -- where no used row outside R has the new epoch already
   pub check-formed : ((i : ℕ) → Within (usedOf t) i → has (a .r) i ≡ false → epochOf t i ≡ highestEpoch (answers t (a .r)) (has (a .r)) + 1 → ⊥) → Formed (checkTable t a y room)
@@ -272,8 +274,8 @@ module _ (t : List ℕ) (a : Checking) (y : CheckYes t a) (room : highestEpoch (
     where
       go : (i j : ℕ) → Within (usedOf t) i → Within (usedOf t) j → (x : Bool) → has (a .r) i ≡ x → (y : Bool) → has (a .r) j ≡ y
           → cond x (highestEpoch (answers t (a .r)) (has (a .r)) + 1) (epochOf t i) ≡ cond y (highestEpoch (answers t (a .r)) (has (a .r)) + 1) (epochOf t j)
-          → cond x (a .r) (membersOf t i) ≡ cond y (a .r) (membersOf t j)
+          → cond x (laidNow (a .r)) (listOf t i) ≡ cond y (laidNow (a .r)) (listOf t j)
       go i j u v true ex true ey e = refl
       go i j u v true ex false ey e = absurd (new j v ey (sym e))
       go i j u v false ex true ey e = absurd (new i u ex e)
-      go i j u v false ex false ey e = old-agree i j u v e
+      go i j u v false ex false ey e = one-list chw i j u v e

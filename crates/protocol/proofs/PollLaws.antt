@@ -11,6 +11,7 @@ use Rattle.sets.specs.Sets.{cutTo}
 use Rattle.bools.proofs.BoolLaws.{and-l, and-r, and-i, clash}
 use Rattle.sets.proofs.UptoLaws.{some-at, some-of, some-none, some-ext, most-le, most-at, most-under, most-ext, lowest-at, lowest-ext}
 use Rattle.quorums.specs.declared.Kind.{Kind}
+use Rattle.fields.specs.declared.Laid.{Laid}
 use Rattle.protocol.specs.Lists.{listQuorum, listChoice}
 use Rattle.protocol.specs.Polls.{Poll, highestEpoch, inForce, unmarked, marked, goodVersion, good, current, quorumHeld, ownTry, workedOn}
 
@@ -19,7 +20,7 @@ pub record Leads (p : Poll) (s : ℕ → Bool) (i : ℕ) : Type 0 where
   pub place : Within 64 i
   pub inside : s i ≡ true
   pub highest : p .epoch i ≡ highestEpoch p s
-  pub list : p .members i ≡ inForce p s
+  pub list : p .list i ≡ inForce p s
 
 pub record Good (p : Poll) (s : ℕ → Bool) (i : ℕ) : Type 0 where
   pub inside : s i ≡ true
@@ -107,7 +108,7 @@ pub record Agree (p q : Poll) (s : ℕ → Bool) : Type 0 where
   pub version : (i : ℕ) → s i ≡ true → p .version i ≡ q .version i
   pub desired : (i : ℕ) → s i ≡ true → p .desired i ≡ q .desired i
   pub epoch : (i : ℕ) → s i ≡ true → p .epoch i ≡ q .epoch i
-  pub members : (i : ℕ) → s i ≡ true → p .members i ≡ q .members i
+  pub list : (i : ℕ) → s i ≡ true → p .list i ≡ q .list i
 
 -- a test of what is in s
 within : (s : ℕ → Bool) (a b : ℕ → Bool) → ((i : ℕ) → s i ≡ true → a i ≡ b i) → (i : ℕ) → (s i && a i) ≡ (s i && b i)
@@ -128,7 +129,7 @@ module _ (p q : Poll) (s : ℕ → Bool) (g : Agree p q s) where
       let here : (i : ℕ) → s i ≡ true → eqb (p .epoch i) (highestEpoch p s) ≡ eqb (q .epoch i) (highestEpoch q s) =
       λ i m. ap₂ eqb (g .epoch i m) epoch-same in
       let e : leader p s ≡ leader q s = lowest-ext 64 _ _ (λ i w. within s _ _ here i) in
-      ap (p .members) e ∙ g .members (leader q s) (lead-is q s h .inside)
+      ap (p .list) e ∙ g .list (leader q s) (lead-is q s h .inside)
 
   unmarked-same : (i : ℕ) → unmarked p s i ≡ unmarked q s i
   unfolding unmarked
@@ -174,17 +175,17 @@ agree-less p q s r sub g = record {
   version = λ i m. g .version i (sub i m);
   desired = λ i m. g .desired i (sub i m);
   epoch = λ i m. g .epoch i (sub i m);
-  members = λ i m. g .members i (sub i m);
+  list = λ i m. g .list i (sub i m);
 }
 
 module _ (kind : Kind) (order : List ℕ) (p q : Poll) (c a : ℕ) (r : ℕ → Bool) (answers : r c ≡ true) (g : Agree p q r) where
   pub try-same : ownTry kind order p c a r ≡ ownTry kind order q c a r
   unfolding ownTry
-  try-same = ap (λ (v : ℕ). cutTo (listChoice kind order v a) r) (g .members c answers)
+  try-same = ap (λ (v : Laid). cutTo (listChoice kind order v a) r) (g .list c answers)
 
   pub try-in : (i : ℕ) → ownTry kind order q c a r i ≡ true → r i ≡ true
   unfolding ownTry
-  try-in i h = cut-in (listChoice kind order (q .members c) a) r i h
+  try-in i h = cut-in (listChoice kind order (q .list c) a) r i h
 
   pub worked-same : workedOn kind order p c a r ≡ workedOn kind order q c a r
   unfolding workedOn
@@ -198,10 +199,10 @@ unfolding workedOn ownTry
 worked-in kind order p c a r i = go (quorumHeld kind order p tried && current p tried)
   where
     tried : ℕ → Bool
-    tried = cutTo (listChoice kind order (p .members c) a) r
+    tried = cutTo (listChoice kind order (p .list c) a) r
 
     go : (b : Bool) → cond b tried r i ≡ true → r i ≡ true
-    go true h = cut-in (listChoice kind order (p .members c) a) r i h
+    go true h = cut-in (listChoice kind order (p .list c) a) r i h
     go false h = h
 
 -- ---- good rows of any poll: the unmarked rows of S that no unmarked row of S is ahead of

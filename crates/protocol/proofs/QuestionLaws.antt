@@ -187,14 +187,14 @@ send-yes t a h =
 pub record CheckYes (t : List ℕ) (a : Calls.Checking) : Type 0 where
   pub first : ByCoordinator t (a .c) (a .r)
   pub quorum : quorumHeld Write (orderOf t) (Calls.answers t (a .r)) (has (a .r)) ≡ true
-  pub current : (eqb (a .r) (inForce (Calls.answers t (a .r)) (has (a .r))) || current (Calls.answers t (a .r)) (has (a .r))) ≡ true
-  pub room : (eqb (a .r) (inForce (Calls.answers t (a .r)) (has (a .r))) || ltb (highestEpoch (Calls.answers t (a .r)) (has (a .r))) limit) ≡ true
+  pub current : (eqb (a .r) (inForce (Calls.answers t (a .r)) (has (a .r)) .members) || current (Calls.answers t (a .r)) (has (a .r))) ≡ true
+  pub room : (eqb (a .r) (inForce (Calls.answers t (a .r)) (has (a .r)) .members) || ltb (highestEpoch (Calls.answers t (a .r)) (has (a .r))) limit) ≡ true
 
 pub check-yes : (t : List ℕ) (a : Calls.Checking) → firstNo (Calls.questions t (Calls.check a)) ≡ 0 → CheckYes t a
 unfolding Calls.questions
 check-yes t a h =
     let x = passed-first t (a .c) (a .r) _ h in
     let q = yes-first 5 (quorumHeld Write (orderOf t) (Calls.answers t (a .r)) (has (a .r))) _ (x .1) in
-    let m = yes-first 6 (eqb (a .r) (inForce (Calls.answers t (a .r)) (has (a .r))) || current (Calls.answers t (a .r)) (has (a .r))) _ (q .1) in
-    let l = yes-first 7 (eqb (a .r) (inForce (Calls.answers t (a .r)) (has (a .r))) || ltb (highestEpoch (Calls.answers t (a .r)) (has (a .r))) limit) _ (m .1) in
+    let m = yes-first 6 (eqb (a .r) (inForce (Calls.answers t (a .r)) (has (a .r)) .members) || current (Calls.answers t (a .r)) (has (a .r))) _ (q .1) in
+    let l = yes-first 7 (eqb (a .r) (inForce (Calls.answers t (a .r)) (has (a .r)) .members) || ltb (highestEpoch (Calls.answers t (a .r)) (has (a .r))) limit) _ (m .1) in
     record { first = x .0; quorum = q .0; current = m .0; room = l .0 }

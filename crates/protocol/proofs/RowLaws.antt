@@ -12,9 +12,10 @@ use Rattle.sets.specs.Upto.{Within, every}
 use Rattle.bools.proofs.BoolLaws.{and-l, and-r, or-e}
 use Rattle.sets.proofs.UptoLaws.{every-at}
 use Rattle.bytes.specs.Bytes.{put}
-use Rattle.fields.specs.Layout.{Field, get, store, name, link, mark, version, desired, epoch, members, reserved, contents, storeContents}
+use Rattle.fields.specs.Layout.{Field, get, store, name, link, mark, version, desired, epoch, members, storeList, reserved, contents, storeContents}
 use Rattle.bytes.proofs.ByteLaws.{put-all}
 use Rattle.fields.proofs.FieldLaws.{Apart, length-store, get-store, get-other, reserved-store, contents-store, length-contents, get-contents, reserved-contents, contents-contents}
+use Rattle.fields.specs.declared.Laid.{Laid}
 use Rattle.protocol.specs.Rows.{markedRow, patchedRow, enrolledRow, refreshedRow}
 
 -- ---- the seven fields of a row, numbered from 1: name, link, mark, version, desired, epoch, members
@@ -122,10 +123,10 @@ module _ (row : List ℕ) (long : 32 ≤ length row) where
   patched-row v offset p h l = then-contents offset p l (then-store 4 v (omega arith) h long (unchanged row))
 
   -- a row that became new is enrolled
-  pub then-enrolled : {new c : List ℕ} {f : ℕ → ℕ} (e list : ℕ) → e < 256 ^ 4 → list < 256 ^ 8 → Becomes row new f c
-      → Becomes row (enrolledRow e list new) (changed (changed f 6 e) 7 list) c
-  unfolding enrolledRow fieldAt epoch members
-  then-enrolled e list he hl b = then-store 7 list (omega arith) hl long (then-store 6 e (omega arith) he long b)
+  pub then-enrolled : {new c : List ℕ} {f : ℕ → ℕ} (e : ℕ) (l : Laid) → e < 256 ^ 4 → l .members < 256 ^ 8 → Becomes row new f c
+      → Becomes row (enrolledRow e l new) (changed (changed f 6 e) 7 (l .members)) c
+  unfolding enrolledRow storeList fieldAt epoch members
+  then-enrolled e l he hl b = then-store 7 (l .members) (omega arith) hl long (then-store 6 e (omega arith) he long b)
 
   pub refreshed-row : (source : List ℕ) → get version source < 256 ^ 4 → length source ≡ length row
       → Becomes row (refreshedRow source row) (changed (changed (changed (fieldsOf row) 3 0) 4 (get version source)) 5 0) (contents source)

@@ -15,11 +15,12 @@ use Rattle.quorums.specs.declared.Kind.{Kind}
 use Rattle.quorums.specs.declared.Kind.the-variants.{Read, Write}
 use Rattle.bytes.specs.Bytes.{number, part}
 use Rattle.fields.specs.Layout
-use Rattle.fields.specs.Layout.{get, mark, version, desired, epoch, members, usedOf, firstOf, fileLengthOf, nameOf, linkOf, staleOf, versionOf, desiredOf, epochOf, membersOf, contentsOf, rowBytes}
+use Rattle.fields.specs.Layout.{get, mark, version, desired, epoch, list, noList, usedOf, firstOf, fileLengthOf, nameOf, linkOf, staleOf, versionOf, desiredOf, epochOf, listOf, contentsOf, rowBytes}
 use Rattle.table.specs.Chain.{chain, orderOf}
 use Rattle.table.specs.WellFormed.{between, limit, onlyRows}
 use Rattle.bytes.proofs.ByteLaws.{part-part}
 use Rattle.table.proofs.FormLaws.{Formed, formed, header-facts}
+use Rattle.protocol.specs.Lists.{laidNow}
 use Rattle.protocol.specs.Polls.{Poll, polled, highestEpoch, inForce, goodVersion, good, current, workedOn}
 use Rattle.protocol.specs.Rows.{wroteRow, checkedRow, refreshedRow}
 use Rattle.asking.specs.Asking.{Question, firstNo}
@@ -85,13 +86,13 @@ module _ {r : ℕ} {t u : List ℕ} (E : EqualIn r t u) where
 
   -- what the rows of R say is the same
   poll-same : answers u r ≡ answers t r
-  unfolding answers polled staleOf versionOf desiredOf epochOf membersOf
+  unfolding answers polled staleOf versionOf desiredOf epochOf listOf
   poll-same = λ j. record {
     stale = fun-ext (λ i. test i (has r i) refl) j;
     version = fun-ext (λ i. number-at version i (has r i) refl) j;
     desired = fun-ext (λ i. number-at desired i (has r i) refl) j;
     epoch = fun-ext (λ i. number-at epoch i (has r i) refl) j;
-    members = fun-ext (λ i. number-at members i (has r i) refl) j;
+    list = fun-ext (λ i. list-at i (has r i) refl) j;
   }
     where
       test : (i : ℕ) (b : Bool) → has r i ≡ b → (b && eqb (get mark (rowBytes u i)) 1) ≡ (b && eqb (get mark (rowBytes t i)) 1)
@@ -101,6 +102,10 @@ module _ {r : ℕ} {t u : List ℕ} (E : EqualIn r t u) where
       number-at : (f : Layout.Field) (i : ℕ) (b : Bool) → has r i ≡ b → cond b (get f (rowBytes u i)) 0 ≡ cond b (get f (rowBytes t i)) 0
       number-at f i true m = ap (get f) (sym (E .rows i m))
       number-at f i false m = refl
+
+      list-at : (i : ℕ) (b : Bool) → has r i ≡ b → cond b (list (rowBytes u i)) noList ≡ cond b (list (rowBytes t i)) noList
+      list-at i true m = ap list (sym (E .rows i m))
+      list-at i false m = refl
 
   work-same : (kind : Kind) (c : ℕ) → has r c ≡ true → workSet kind u c r ≡ workSet kind t c r
   unfolding workSet nameOf
@@ -210,7 +215,7 @@ done-same t u (send a) r bySend E ht hu = record {
 
     alike : Changed u (done u (send a) .table) (usedOf u) (eqb (a .t)) (λ i. refreshedRow (rowBytes t (a .f)))
     alike = changed-as E refl (ap (λ (x : List ℕ). λ (i : ℕ). refreshedRow x) (sym (E .rows (a .f) (y .from-answered)))) (send-changed u a (send-yes u a hu))
-done-same t u (check a) r byCheck E ht hu = go (eqb (a .r) (inForce (answers t (a .r)) (has (a .r)))) refl
+done-same t u (check a) r byCheck E ht hu = go (eqb (a .r) (inForce (answers t (a .r)) (has (a .r)) .members)) refl
   where
     y : CheckYes t a
     y = check-yes t a ht
@@ -218,10 +223,10 @@ done-same t u (check a) r byCheck E ht hu = go (eqb (a .r) (inForce (answers t (
     z : CheckYes u a
     z = check-yes u a hu
 
-    same-u : (b : Bool) → eqb (a .r) (inForce (answers t (a .r)) (has (a .r))) ≡ b → eqb (a .r) (inForce (answers u (a .r)) (has (a .r))) ≡ b
-    same-u b q = ap (λ (p : Poll). eqb (a .r) (inForce p (has (a .r)))) (poll-same E) ∙ q
+    same-u : (b : Bool) → eqb (a .r) (inForce (answers t (a .r)) (has (a .r)) .members) ≡ b → eqb (a .r) (inForce (answers u (a .r)) (has (a .r)) .members) ≡ b
+    same-u b q = ap (λ (p : Poll). eqb (a .r) (inForce p (has (a .r)) .members)) (poll-same E) ∙ q
 
-    go : (b : Bool) → eqb (a .r) (inForce (answers t (a .r)) (has (a .r))) ≡ b → SameFor (a .r) (done t (check a)) (done u (check a))
+    go : (b : Bool) → eqb (a .r) (inForce (answers t (a .r)) (has (a .r)) .members) ≡ b → SameFor (a .r) (done t (check a)) (done u (check a))
     go true q = rw (q, same-u true q) (record { refusal = refl; value = ap (λ (p : Poll). highestEpoch p (has (a .r))) (sym (poll-same E)); buffer = refl; rows = λ i m. E .rows i m })
     go false q =
         let room : ltb (highestEpoch (answers t (a .r)) (has (a .r))) limit ≡ true = rw q at (y .room) in
@@ -231,7 +236,7 @@ done-same t u (check a) r byCheck E ht hu = go (eqb (a .r) (inForce (answers t (
           value = ap (λ (p : Poll). highestEpoch p (has (a .r)) + 1) (sym (poll-same E));
           buffer = refl;
           rows = λ i m. changed-same E (check-rows t a y (ltb-true _ _ room))
-              (changed-as E refl (ap (λ (p : Poll). checkedRow (good p (has (a .r))) (goodVersion p (has (a .r))) (highestEpoch p (has (a .r)) + 1) (a .r)) (poll-same E)) (check-rows u a z (ltb-true _ _ room-u)))
+              (changed-as E refl (ap (λ (p : Poll). checkedRow (good p (has (a .r))) (goodVersion p (has (a .r))) (highestEpoch p (has (a .r)) + 1) (laidNow (a .r))) (poll-same E)) (check-rows u a z (ltb-true _ _ room-u)))
               i (answered-used t (a .c) (a .r) [] (y .first) i m) m;
         })
 

@@ -13,6 +13,7 @@ use Rattle.fields.specs.Layout.{usedOf, fileLengthOf, nameOf, staleOf, versionO
 use Rattle.table.specs.Chain.{orderOf}
 use Rattle.table.specs.WellFormed.{between, limit, onlyRows, wellFormed}
 use Rattle.asking.specs.Asking.{Question, firstNo}
+use Rattle.protocol.specs.Lists.{laidNow}
 use Rattle.protocol.specs.Polls.{Poll, polled, highestEpoch, inForce, goodVersion, good, current, quorumHeld, workedOn}
 use Rattle.protocol.specs.Rows.{refreshedRow, withRow, withRows, wroteRow, checkedRow}
 
@@ -118,7 +119,7 @@ foundedHeader capacity n fileLength = 1 ∷ capacity ∷ n ∷ 1 ∷ (bytesOf 2 
 
 -- row i of n: its name, the next row (0 after the last), the list of all used rows, and all else 0
 unfoldable pub foundedRow : ℕ → ℕ → ℕ → ℕ → List ℕ
-foundedRow n fileLength i x = bytesOf 2 x ++ (cond (eqb i n) 0 (i + 1) ∷ (zeros 13 ++ (bytesOf 8 (2 ^ n - 1) ++ (zeros 8 ++ zeros fileLength))))
+foundedRow n fileLength i x = bytesOf 2 x ++ (cond (eqb i n) 0 (i + 1) ∷ (zeros 13 ++ (bytesOf 8 (laidNow (2 ^ n - 1) .members) ++ (zeros 8 ++ zeros fileLength))))
 
 -- "It puts them in rows 1 upward": the rows from row i on
 unfoldable pub foundedRows : ℕ → ℕ → ℕ → List ℕ → List ℕ
@@ -173,7 +174,7 @@ questions t (send a) =
     ∷ []
 questions t (check a) =
     let p = answers t (a .r) in
-    let same = eqb (a .r) (inForce p (has (a .r))) in
+    let same = eqb (a .r) (inForce p (has (a .r)) .members) in
     byCoordinator t (a .c) (a .r) (
     record { ask = 6; yes = quorumHeld Write (orderOf t) p (has (a .r)) }
     ∷ record { ask = 7; yes = same || current p (has (a .r)) }
@@ -200,9 +201,9 @@ done t (send a) = leaves (send a) 0 (versionOf t (a .f)) (withRow t (a .t) (refr
 done t (check a) =
     let p = answers t (a .r) in
     let e = highestEpoch p (has (a .r)) in
-    let same = eqb (a .r) (inForce p (has (a .r))) in
+    let same = eqb (a .r) (inForce p (has (a .r)) .members) in
     leaves (check a) 0 (cond same e (e + 1))
-    (cond same t (withRows t (has (a .r)) (checkedRow (good p (has (a .r))) (goodVersion p (has (a .r))) (e + 1) (a .r)) (usedOf t)))
+    (cond same t (withRows t (has (a .r)) (checkedRow (good p (has (a .r))) (goodVersion p (has (a .r))) (e + 1) (laidNow (a .r))) (usedOf t)))
 
 -- "A refusal has value 0 and alters no byte of the table, of a read's buffer .."
 unfoldable pub refused : List ℕ → Call → ℕ → Outcome

@@ -4,29 +4,37 @@ use mathlib.Core.List.{List}
 use Prim.Native.Nat.{ℕ, _-_}
 use lib.Dec.{eqb, leb}
 use lib.ListN.{length, getD}
-use Rattle.sets.specs.Upto.{some, keep}
-use Rattle.sets.specs.Sets.{has, size}
-use Rattle.grid.specs.declared.Grid.{Grid}
+use Rattle.sets.specs.Upto.{some, count, keep}
+use Rattle.sets.specs.Sets.{has}
 use Rattle.quorums.specs.declared.Kind.{Kind}
 use Rattle.grid.specs.Sizes.{published}
 use Rattle.quorums.specs.Quorums.{quorum, choice}
+use Rattle.fields.specs.declared.Laid.{Laid}
 
--- the grid that a list is laid in
-unfoldable pub gridOf : ℕ → Grid
-gridOf v = published (size v)
+-- the list that a founding or a check lays of the rows r
+unfoldable pub laidNow : ℕ → Laid
+laidNow r = record { members = r }
 
--- "Members in chain order fill row by row": the members of list v in chain order
-unfoldable pub seats : List ℕ → ℕ → List ℕ
-seats order v = keep (has v) order
+-- "Members in chain order fill row by row": the rows that pass p, in chain order
+unfoldable pub seats : List ℕ → (ℕ → Bool) → List ℕ
+seats order p = keep p order
 
 -- the row at position k, counted from 1, passes
 unfoldable pub atSeat : List ℕ → (ℕ → Bool) → ℕ → Bool
 atSeat rows p k = leb 1 k && leb k (length rows) && p (getD rows (k - 1) 0)
 
--- the rows s hold a quorum of list v; "rows outside the list count for nothing here"
-unfoldable pub listQuorum : Kind → List ℕ → ℕ → (ℕ → Bool) → Bool
-listQuorum kind order v s = quorum kind (gridOf v) (size v) (atSeat (seats order v) s)
+-- ---- a level: those that pass p, laid in the grid of their number
+-- the rows s hold a quorum of them
+unfoldable pub level : Kind → List ℕ → (ℕ → Bool) → (ℕ → Bool) → Bool
+level kind order p s = let N = count 64 p in quorum kind (published N) N (atSeat (seats order p) s)
 
--- row i is in the choice that the name a makes over list v: it stands at a chosen position
-unfoldable pub listChoice : Kind → List ℕ → ℕ → ℕ → ℕ → Bool
-listChoice kind order v a i = some (size v) (λ k. choice kind (gridOf v) (size v) a k && atSeat (seats order v) (eqb i) k)
+-- row i is in the choice that the name a makes over them: it stands at a chosen position
+unfoldable pub levelChoice : Kind → List ℕ → (ℕ → Bool) → ℕ → ℕ → Bool
+levelChoice kind order p a i = let N = count 64 p in some N (λ k. choice kind (published N) N a k && atSeat (seats order p) (eqb i) k)
+
+-- ---- a list is one level; "rows outside the list count for nothing here"
+unfoldable pub listQuorum : Kind → List ℕ → Laid → (ℕ → Bool) → Bool
+listQuorum kind order l s = level kind order (has (l .members)) s
+
+unfoldable pub listChoice : Kind → List ℕ → Laid → ℕ → ℕ → Bool
+listChoice kind order l a i = levelChoice kind order (has (l .members)) a i

@@ -6,7 +6,8 @@ use lib.Dec.{eqb, ltb}
 use Rattle.sets.specs.Upto.{some, lowest, most}
 use Rattle.sets.specs.Sets.{cutTo}
 use Rattle.quorums.specs.declared.Kind.{Kind}
-use Rattle.fields.specs.Layout.{epochOf, membersOf, staleOf, versionOf, desiredOf}
+use Rattle.fields.specs.declared.Laid.{Laid}
+use Rattle.fields.specs.Layout.{noList, epochOf, listOf, staleOf, versionOf, desiredOf}
 use Rattle.protocol.specs.Lists.{listQuorum, listChoice}
 
 -- "The state gathered by a poll is one value, with a place for each of the 64 rows."
@@ -15,16 +16,16 @@ pub record Poll : Type 0 where
   pub version : ℕ → ℕ
   pub desired : ℕ → ℕ
   pub epoch : ℕ → ℕ
-  pub members : ℕ → ℕ
+  pub list : ℕ → Laid
 
--- what the rows of s say; every other row reads as 0
+-- what the rows of s say; every other row reads as 0, its list as none
 unfoldable pub polled : List ℕ → (ℕ → Bool) → Poll
 polled t s = record {
   stale = λ i. s i && staleOf t i;
   version = λ i. cond (s i) (versionOf t i) 0;
   desired = λ i. cond (s i) (desiredOf t i) 0;
   epoch = λ i. cond (s i) (epochOf t i) 0;
-  members = λ i. cond (s i) (membersOf t i) 0;
+  list = λ i. cond (s i) (listOf t i) noList;
 }
 
 -- ---- of a set S of rows, by a poll
@@ -34,8 +35,8 @@ module _ (p : Poll) (s : ℕ → Bool) where
   highestEpoch = most 64 s (p .epoch)
 
   -- "V the list of the highest epoch in S": that of the lowest row that has it
-  unfoldable pub inForce : ℕ
-  inForce = p .members (lowest 64 (λ i. s i && eqb (p .epoch i) highestEpoch))
+  unfoldable pub inForce : Laid
+  inForce = p .list (lowest 64 (λ i. s i && eqb (p .epoch i) highestEpoch))
 
   unfoldable pub unmarked : ℕ → Bool
   unmarked i = s i && not (p .stale i)
@@ -63,7 +64,7 @@ module _ (kind : Kind) (order : List ℕ) (p : Poll) where
 
   -- "P: c's own choice over c's own list, cut down to R", by c's name a
   unfoldable pub ownTry : ℕ → ℕ → (ℕ → Bool) → ℕ → Bool
-  ownTry c a r = cutTo (listChoice kind order (p .members c) a) r
+  ownTry c a r = cutTo (listChoice kind order (p .list c) a) r
 
   -- "If questions 6 and 7 are yes for P, the call works on P; otherwise on R."
   unfoldable pub workedOn : ℕ → ℕ → (ℕ → Bool) → ℕ → Bool

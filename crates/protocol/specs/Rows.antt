@@ -3,7 +3,8 @@ use mathlib.Core.Bool.{Bool, cond}
 use mathlib.Core.List.{List}
 use Prim.Native.Nat.{ℕ}
 use Rattle.blocks.specs.Blocks.{withBlock, withBlocks}
-use Rattle.fields.specs.Layout.{get, store, mark, version, desired, epoch, members, contents, storeContents, rowLength}
+use Rattle.fields.specs.declared.Laid.{Laid}
+use Rattle.fields.specs.Layout.{get, store, mark, version, desired, epoch, storeList, contents, storeContents, rowLength}
 
 -- "is marked and desires the new version"
 unfoldable pub markedRow : ℕ → List ℕ → List ℕ
@@ -14,8 +15,8 @@ unfoldable pub patchedRow : ℕ → ℕ → List ℕ → List ℕ → List ℕ
 patchedRow v offset patch row = storeContents offset patch (store version v row)
 
 -- "gets list R and V's epoch number plus one"
-unfoldable pub enrolledRow : ℕ → ℕ → List ℕ → List ℕ
-enrolledRow e list row = store members list (store epoch e row)
+unfoldable pub enrolledRow : ℕ → Laid → List ℕ → List ℕ
+enrolledRow e l row = storeList l (store epoch e row)
 
 -- "t takes f's contents and version; mark and desired become 0"
 unfoldable pub refreshedRow : List ℕ → List ℕ → List ℕ
@@ -34,5 +35,5 @@ unfoldable pub wroteRow : (ℕ → Bool) → ℕ → ℕ → List ℕ → ℕ �
 wroteRow good v offset patch i row = cond (good i) (patchedRow v offset patch row) (markedRow v row)
 
 -- "every row of R gets list R and V's epoch number plus one; rows not good are marked and desire the good version"
-unfoldable pub checkedRow : (ℕ → Bool) → ℕ → ℕ → ℕ → ℕ → List ℕ → List ℕ
-checkedRow good v e list i row = enrolledRow e list (cond (good i) row (markedRow v row))
+unfoldable pub checkedRow : (ℕ → Bool) → ℕ → ℕ → Laid → ℕ → List ℕ → List ℕ
+checkedRow good v e l i row = enrolledRow e l (cond (good i) row (markedRow v row))

@@ -1,2 +1,3 @@
 pub mod RisingKept
 pub mod SeatLaws
+pub mod HeldLaws

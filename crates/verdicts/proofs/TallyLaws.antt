@@ -11,7 +11,7 @@ use Rattle.polls.specs.Shows.{Shows}
 use Rattle.places.specs.declared.Top.{Top}
 use Rattle.places.specs.Places.{placed, Tops}
 use Rattle.verdicts.specs.declared.Tally.{Tally}
-use Rattle.verdicts.specs.Tallied.{Tallied}
+use Rattle.verdicts.specs.Judged.{Tallied}
 
 not-not : (b : Bool) → not (not b) ≡ b
 not-not true = refl

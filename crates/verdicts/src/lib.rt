@@ -1,31 +1,42 @@
 // What is found of a set of rows that answered: its good rows, the list in force, and questions 6 and 7.
 use bools::both;
+use fields::Laid;
 use quorums::Kind;
 use rows::RowSet;
 ghost use mathlib.Core.Path.{_≡_};
 ghost use mathlib.Core.Bool.{true, cond, _&&_};
-ghost use Prim.Native.Nat.{ℕ};
+ghost use Prim.Native.Nat.{ℕ, _^_, _<_};
 ghost use lib.ListN.{take};
 ghost use Rattle.sets.specs.Upto.{Within, some, lowest};
 ghost use Rattle.sets.specs.Sets.{has};
-ghost use Rattle.fields.specs.Layout.{usedOf};
+ghost use Rattle.fields.specs.Layout.{usedOf, listOf};
 ghost use Rattle.table.specs.Contracts.{Sized, Listed};
 ghost use Rattle.protocol.specs.Lists.{listQuorum};
 ghost use Rattle.protocol.specs.Polls.{Poll};
+ghost use Rattle.protocol.specs.Calls.{answers};
 ghost use Rattle.polls.specs.Shows.{Shows};
-ghost use Rattle.verdicts.specs.Tallied.{listOf, pollOf, Tallied};
+ghost use Rattle.verdicts.specs.Judged.{pollOf, Tallied, Judged};
 
-// Of a set, by the poll: its good rows, their version, is it current, the highest epoch, the rows that have it.
-pub struct Tally {
+// Of a set, by a poll: its good rows, their version, is it current, the highest epoch, the rows that have it.
+struct Tally {
+    good: RowSet,
+    version: u32,
+    current: bool,
+    epoch: u32,
+    leaders: RowSet,
+}
+
+// The same with the list in force, V.
+pub struct Verdict {
     pub good: RowSet,
     pub version: u32,
     pub current: bool,
     pub epoch: u32,
-    pub leaders: RowSet,
+    pub list: Laid,
 }
 
 // What a poll says of a set of rows. The arrays are those of the poll.
-pub fn tally_of<'a>(
+fn tally_of<'a>(
     stale: RowSet,
     versions: &'a [u32; 64],
     desired: &'a [u32; 64],
@@ -49,24 +60,40 @@ pub fn tally_of<'a>(
     }
 }
 
-// The list of the lowest of some rows; the empty one where there is none.
-pub fn list_of(t: &[u8], leaders: RowSet) -> RowSet
+// The list of the lowest of some rows; none where there is no row.
+fn list_of(t: &[u8], leaders: RowSet) -> Laid
     requires { ⌜ Sized (now t) × ((i : ℕ) → has (leaders .bits) i ≡ true → Within (usedOf (now t)) i) ⌝ }
-    ensures { λ r. ⌜ r .bits ≡ listOf (now (t .entry)) (lowest 64 (has (leaders .bits))) ⌝ }
+    ensures { λ r. ⌜ r ≡ listOf (now (t .entry)) (lowest 64 (has (leaders .bits))) ⌝ }
 {
     let leader = leaders.lowest();
     if leader == 0 {
-        return RowSet::EMPTY;
+        return Laid::NONE;
     }
-    RowSet {
-        bits: fields::members(table::row_of(t, leader)),
+    fields::list(table::row_of(t, leader))
+}
+
+// What a poll of a set of rows says of it.
+pub fn judged(t: &[u8], s: RowSet) -> Verdict
+    requires { ⌜ Sized (now t) × (s .bits < 2 ^ usedOf (now t)) ⌝ }
+    ensures { λ r. ⌜ Judged (answers (now (t .entry)) (s .bits)) (has (s .bits)) r ⌝ }
+{
+    let poll = polls::gather(t, s);
+    let found = tally_of(poll.stale, &poll.versions, &poll.desired, &poll.epochs, s);
+    let good = found.good;
+    let leaders = found.leaders;
+    Verdict {
+        good: good,
+        version: found.version,
+        current: found.current,
+        epoch: found.epoch,
+        list: list_of(t, leaders),
     }
 }
 
 // Question 6: does a set hold a quorum of a list? An empty one does not.
-fn quorum_held(kind: Kind, order: &[u8; 64], count: usize, list: RowSet, s: RowSet) -> bool
+pub fn quorum_held(kind: Kind, order: &[u8; 64], count: usize, list: Laid, s: RowSet) -> bool
     requires { ⌜ Listed 64 (now order) count ⌝ }
-    ensures { λ r. ⌜ r ≡ (some 64 (has (s .bits)) && listQuorum kind (take count (now (order .entry))) (list .bits) (has (s .bits))) ⌝ }
+    ensures { λ r. ⌜ r ≡ (some 64 (has (s .bits)) && listQuorum kind (take count (now (order .entry))) list (has (s .bits))) ⌝ }
 {
     if s.is_empty() {
         return false;
@@ -79,12 +106,12 @@ pub fn asked(
     kind: Kind,
     order: &[u8; 64],
     count: usize,
-    list: RowSet,
+    list: Laid,
     s: RowSet,
     current: bool,
 ) -> u32
     requires { ⌜ Listed 64 (now order) count ⌝ }
-    ensures { λ r. ⌜ r ≡ cond (some 64 (has (s .bits)) && listQuorum kind (take count (now (order .entry))) (list .bits) (has (s .bits))) (cond current 0 7) 6 ⌝ }
+    ensures { λ r. ⌜ r ≡ cond (some 64 (has (s .bits)) && listQuorum kind (take count (now (order .entry))) list (has (s .bits))) (cond current 0 7) 6 ⌝ }
 {
     if !quorum_held(kind, order, count, list, s) {
         return 6;

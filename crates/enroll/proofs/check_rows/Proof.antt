@@ -17,10 +17,10 @@ use Rattle.enroll.proofs.check_rows.Tie as tie
 
 -- the rows taken so far are enrolled
 abbrev Inv-loop : tie.InvT-loop
-Inv-loop t₀ good version epoch size list left₀ t left = (p : ℕ → Bool) × Taken (left₀ .bits) (left .bits) p × Done t₀ (checkedRow (has (good .bits)) version epoch list) size p t
+Inv-loop t₀ good version epoch list size left₀ t left = (p : ℕ → Bool) × Taken (left₀ .bits) (left .bits) p × Done t₀ (checkedRow (has (good .bits)) version epoch list) size p t
 
 abbrev μ-loop : tie.MeasureT-loop
-μ-loop t₀ good version epoch size list left₀ t left = left .bits
+μ-loop t₀ good version epoch list size left₀ t left = left .bits
 
 -- in a turn some row is left
 some-left : (c : tie.Then1 Inv-loop μ-loop) → some 64 (has (c .before .before .loop .left .bits)) ≡ true

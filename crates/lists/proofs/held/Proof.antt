@@ -14,8 +14,8 @@ use Rattle.lists.proofs.held.Statement.{statement}
 use Rattle.lists.proofs.held.Tie as tie
 
 abbrev Inv-loop : tie.InvT-loop
-Inv-loop order count list shared positions₀ seats₀ j₀ positions taken j = (j ≤ count) × (taken ≡ length (seats (take j order) (list .bits)))
-    × ((s : ℕ → Bool) → has (shared .bits) ≡ cutTo (has (list .bits)) s → has (positions .bits) ≡ atSeat (seats (take j order) (list .bits)) s)
+Inv-loop order count list shared positions₀ seats₀ j₀ positions taken j = (j ≤ count) × (taken ≡ length (seats (take j order) (has (list .bits))))
+    × ((s : ℕ → Bool) → has (shared .bits) ≡ cutTo (has (list .bits)) s → has (positions .bits) ≡ atSeat (seats (take j order) (has (list .bits))) s)
 
 abbrev μ-loop : tie.MeasureT-loop
 μ-loop order count list shared positions₀ seats₀ j₀ positions taken j = count - j
@@ -25,7 +25,7 @@ few : (c : tie.In-loop Inv-loop μ-loop) → c .before .loop .seats < 64
 few c =
     let l = c .before .loop in
     let s = c .before .before .before in
-    omega (arith, seat-few (s .args .order .now) (s .args .list .bits) (l .j) (s .pre .places) (omega (arith, s .pre .few)))
+    omega (arith, seat-few (s .args .order .now) (has (s .args .list .bits)) (l .j) (s .pre .places) (omega (arith, s .pre .few)))
 
 -- so the next seat is a position
 seat : (c : tie.In-loop Inv-loop μ-loop) → c .before .loop .seats % 64 + 1 ≡ c .before .loop .seats + 1
@@ -80,9 +80,9 @@ loop-again c =
     let shared = has (cut .cut .result .bits) in
     let listed = c .before .at2 .ensures ∙ ap (has (a .list .bits)) (row-here p) in (
       omega arith,
-      c .step .ensures ∙ seat-next (a .order .now) (a .list .bits) (l .j) places inside (l .inv .1) listed,
+      c .step .ensures ∙ seat-next (a .order .now) (has (a .list .bits)) (l .j) places inside (l .inv .1) listed,
       λ s e. c .before .before .add .ensures ∙ ap (λ (k : ℕ). cond (c .before .before .before .at .result) (gaining (has (l .positions .bits)) k) (has (l .positions .bits))) (seat (p .before))
-          ∙ held-next (a .order .now) (a .list .bits) (l .j) places inside (l .inv .1) listed s (has (l .positions .bits)) _ (l .inv .2 s e)
+          ∙ held-next (a .order .now) (has (a .list .bits)) (l .j) places inside (l .inv .1) listed s (has (l .positions .bits)) _ (l .inv .2 s e)
           (c .before .before .before .at .ensures ∙ ap shared (row-here p) ∙ ap (λ (f : ℕ → Bool). f row) e ∙ ap (λ (x : Bool). x && s row) (sym listed)),
     )
 

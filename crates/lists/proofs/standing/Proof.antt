@@ -15,8 +15,8 @@ use Rattle.lists.proofs.standing.Statement.{statement}
 use Rattle.lists.proofs.standing.Tie as tie
 
 abbrev Inv-loop : tie.InvT-loop
-Inv-loop order count list positions rows₀ seats₀ j₀ rows taken j = (j ≤ count) × (taken ≡ length (seats (take j order) (list .bits)))
-    × (has (rows .bits) ≡ (λ (i : ℕ). some 64 (λ k. has (positions .bits) k && atSeat (seats (take j order) (list .bits)) (eqb i) k)))
+Inv-loop order count list positions rows₀ seats₀ j₀ rows taken j = (j ≤ count) × (taken ≡ length (seats (take j order) (has (list .bits))))
+    × (has (rows .bits) ≡ (λ (i : ℕ). some 64 (λ k. has (positions .bits) k && atSeat (seats (take j order) (has (list .bits))) (eqb i) k)))
 
 abbrev μ-loop : tie.MeasureT-loop
 μ-loop order count list positions rows₀ seats₀ j₀ rows taken j = count - j
@@ -26,7 +26,7 @@ few : (c : tie.In-loop Inv-loop μ-loop) → c .before .loop .seats < 64
 few c =
     let l = c .before .loop in
     let s = c .before .before in
-    omega (arith, seat-few (s .args .order .now) (s .args .list .bits) (l .j) (s .pre .places) (omega (arith, s .pre .few)))
+    omega (arith, seat-few (s .args .order .now) (has (s .args .list .bits)) (l .j) (s .pre .places) (omega (arith, s .pre .few)))
 
 -- so the next seat is a position
 seat : (c : tie.In-loop Inv-loop μ-loop) → c .before .loop .seats % 64 + 1 ≡ c .before .loop .seats + 1
@@ -79,9 +79,9 @@ loop-again c =
     let b = c .before .before .both in
     let listed = c .before .before .before .before .at .ensures ∙ ap (has (a .list .bits)) (row-here p) in (
       omega arith,
-      c .step .ensures ∙ seat-next (a .order .now) (a .list .bits) (l .j) (s .pre .places) inside (l .inv .1) listed,
+      c .step .ensures ∙ seat-next (a .order .now) (has (a .list .bits)) (l .j) (s .pre .places) inside (l .inv .1) listed,
       c .before .add .ensures ∙ ap (λ (i : ℕ). cond (b .result) (gaining set i) set) (row-here p)
-          ∙ standing-next (a .order .now) (a .list .bits) (l .j) (s .pre .places) inside (l .inv .1) listed (has (a .positions .bits)) set _ (s .pre .each (l .j) (omega arith)) (l .inv .2)
+          ∙ standing-next (a .order .now) (has (a .list .bits)) (l .j) (s .pre .places) inside (l .inv .1) listed (has (a .positions .bits)) set _ (s .pre .each (l .j) (omega arith)) (l .inv .2)
           (b .ensures ∙ ap (_&&_ (c .before .before .before .before .at .result)) (c .before .before .before .at2 .ensures ∙ ap (has (a .positions .bits)) (seat (p .before)))),
     )
 

@@ -1,0 +1,63 @@
+-- A choice holds a quorum of the rows that it was made over, on a well-formed table.
+use mathlib.Core.Path.{_≡_, refl}
+use mathlib.Core.Bool.{Bool, true, _&&_}
+use mathlib.Core.List.{List}
+use Prim.Native.Nat.{ℕ, _-_, _≤_}
+use native.Mathlib.Omega.{arith}
+use lib.Dec.{eqb, leb}
+use lib.ListN.{length, getD}
+use borrow.Author.Tests.{le-leb, leb-true, eqb-true, eq-eqb}
+use Rattle.bools.proofs.BoolLaws.{and-l, and-r, and-i}
+use Rattle.sets.specs.Upto.{Within, some, count, keep}
+use Rattle.sets.proofs.UptoLaws.{some-at, some-of}
+use Rattle.sets.proofs.KeepLaws.{kept}
+use Rattle.quorums.specs.declared.Kind.{Kind}
+use Rattle.grid.specs.Sizes.{published}
+use Rattle.quorums.specs.Quorums.{choice}
+use Rattle.grid.proofs.SizeLaws.{published-fits}
+use Rattle.quorums.proofs.QuorumLaws as Q
+use Rattle.fields.specs.Layout.{usedOf}
+use Rattle.table.specs.Chain.{orderOf}
+use Rattle.table.specs.WellFormed.{wellFormed}
+use Rattle.protocol.specs.Lists.{seats, atSeat, level, levelChoice}
+use Rattle.protocol.proofs.ListLaws.{level-grows}
+use Rattle.seats.specs.Seats.{EveryListIsSeated, EveryChoiceHolds}
+use Rattle.seats.proofs.SeatLaws.{every-list-is-seated}
+
+-- who is chosen passes
+pub chosen-in : (kind : Kind) (order : List ℕ) (p : ℕ → Bool) (a i : ℕ) → levelChoice kind order p a i ≡ true → p i ≡ true
+unfolding levelChoice atSeat seats
+chosen-in kind order p a i h =
+    let w = some-at (count 64 p) _ h in
+    let k = w .0 in
+    let s = and-r (choice kind (published (count 64 p)) (count 64 p) a k) _ (w .2) in
+    let b = and-l (leb 1 k && leb k (length (keep p order))) _ s in
+    let l : 1 ≤ k = leb-true 1 k (and-l _ _ b) in
+    let u : k ≤ length (keep p order) = leb-true k _ (and-r (leb 1 k) _ b) in
+    rw (eqb-true i _ (and-r (leb 1 k && leb k (length (keep p order))) _ s)) (kept p order (k - 1) (omega arith))
+
+-- the row at position k passes
+at-seat : (rows : List ℕ) (q : ℕ → Bool) (k : ℕ) → Within (length rows) k → q (getD rows (k - 1) 0) ≡ true → atSeat rows q k ≡ true
+unfolding atSeat
+at-seat rows q k w h = rw (le-leb 1 k (w .0), le-leb k (length rows) (w .1)) h
+
+-- where there is a seat for each position of the grid, the row at a chosen one is chosen
+choice-holds : (kind : Kind) (order : List ℕ) (p : ℕ → Bool) (a : ℕ) → length (seats order p) ≡ count 64 p → 1 ≤ count 64 p → level kind order p (levelChoice kind order p a) ≡ true
+unfolding level levelChoice
+choice-holds kind order p a many one =
+    Q.grows (published N) N (choice kind (published N) N a) (atSeat (seats order p) (levelChoice kind order p a)) at kind (Q.choice-holds (published N) N (published-fits N one) kind a)
+  where
+    N : ℕ
+    N = count 64 p
+
+    at : (k : ℕ) → Within N k → choice kind (published N) N a k ≡ true → atSeat (seats order p) (levelChoice kind order p a) k ≡ true
+    at k w h =
+        let row = getD (seats order p) (k - 1) 0 in
+        let there : Within (length (seats order p)) k = rw many w in
+        at-seat (seats order p) _ k there (some-of N _ k w (and-i _ _ h (at-seat (seats order p) (eqb row) k there (eq-eqb row row refl))))
+
+pub every-choice-holds : EveryChoiceHolds
+unfolding EveryChoiceHolds EveryListIsSeated
+every-choice-holds t e p used one kind a =
+    let h = choice-holds kind (orderOf t) p a (every-list-is-seated t e p used .many) one in
+    (h, level-grows (orderOf t) p kind (levelChoice kind (orderOf t) p a) p (chosen-in kind (orderOf t) p a) h)
