@@ -12,6 +12,7 @@ ghost use mathlib.Core.Bool.{true};
 ghost use Prim.Native.Nat.{_^_, _<_};
 ghost use Rattle.fields.specs.Layout.{usedOf};
 ghost use Rattle.table.specs.WellFormed.{wellFormed};
+ghost use Rattle.table.specs.Contracts.{Ordered};
 ghost use Rattle.protocol.specs.Calls.{resultOf, outcome, check};
 ghost use Rattle.checks.specs.Examined.{Examined};
 
@@ -24,14 +25,13 @@ struct Verdict {
     list: RowSet,
 }
 
-// What an epoch check finds of the rows that answered, by one poll.
-fn examine(t: &[u8], answering: RowSet) -> Verdict
-    requires { ⌜ (wellFormed (now t) ≡ true) × (answering .bits < 2 ^ usedOf (now t)) ⌝ }
+// What an epoch check finds of the rows that answered, by one poll. `order` starts with the used rows in chain order.
+fn examine(t: &[u8], order: &[u8; 64], answering: RowSet) -> Verdict
+    requires { ⌜ (wellFormed (now t) ≡ true) × Ordered (now t) (now order) × (answering .bits < 2 ^ usedOf (now t)) ⌝ }
     ensures { λ r. ⌜ Examined (now (t .entry)) (answering .bits) r ⌝ }
 {
-    let order = chain::chain_order(t);
     let poll = polls::gather(t, answering);
-    let count = order.count;
+    let count = header::used(t);
     let stale = poll.stale;
     let whole = tally_of(
         stale,
@@ -44,14 +44,7 @@ fn examine(t: &[u8], answering: RowSet) -> Verdict
     let leaders = whole.leaders;
     let list = list_of(t, leaders);
     Verdict {
-        refusal: asked(
-            Kind::Write,
-            &order.rows,
-            count,
-            list,
-            answering,
-            whole.current,
-        ),
+        refusal: asked(Kind::Write, order, count, list, answering, whole.current),
         good: good,
         version: whole.version,
         epoch: whole.epoch,
@@ -65,11 +58,12 @@ pub fn check(t: &mut [u8], c: usize, r: u64) -> u64
     ensures { λ x. ⌜ (let o = outcome (now (t .entry)) (check (record { c = c; r = r })) in (x ≡ resultOf o) × (now (t .exit) ≡ o .table)) ⌝ }
 {
     let answering = RowSet { bits: r };
-    let no = coordinator_asked(t, c, answering);
+    let mut order = [0u8; 64];
+    let no = coordinator_asked(t, c, answering, &mut order);
     if no != 0 {
         return result(no, 0);
     }
-    let v = examine(t, answering);
+    let v = examine(t, &order, answering);
     if v.refusal == 6 {
         return result(6, 0);
     }

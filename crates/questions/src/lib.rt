@@ -7,6 +7,7 @@ ghost use mathlib.Core.List.{[]};
 ghost use Prim.Native.Nat.{_+_, _*_, _^_};
 ghost use lib.Dec.{leb, ltb};
 ghost use Rattle.table.specs.WellFormed.{limit};
+ghost use Rattle.table.specs.Contracts.{Ordered};
 ghost use Rattle.asking.specs.Asking.{firstNo};
 ghost use Rattle.protocol.specs.Calls.{byCoordinator};
 ghost use Rattle.questions.specs.Stages.{toRange};
@@ -25,11 +26,11 @@ pub fn below_limit(number: u32) -> bool
     number < 1_000_000
 }
 
-// Questions 1 to 3 of a call by a coordinator: the first no, 0 where there is none.
-pub fn coordinator_asked(t: &[u8], c: usize, answering: RowSet) -> u32
-    ensures { λ r. ⌜ r ≡ firstNo (byCoordinator (now (t .entry)) c (answering .bits) []) ⌝ }
+// Questions 1 to 3 of a call by a coordinator: the first no, 0 where there is none. Then `order` starts with the used rows in chain order.
+pub fn coordinator_asked(t: &[u8], c: usize, answering: RowSet, order: &mut [u8; 64]) -> u32
+    ensures { λ r. ⌜ (r ≡ firstNo (byCoordinator (now (t .entry)) c (answering .bits) [])) × (r ≡ 0 → Ordered (now (t .entry)) (now (order .exit))) ⌝ }
 {
-    if wellformed::well_formed(t) {
+    if wellformed::ordered(t, order) {
         let used = header::used(t);
         if both(
             values::between(1, c, used),
@@ -58,11 +59,18 @@ fn in_range(file: usize, offset: usize, count: usize) -> bool
     offset <= file - count
 }
 
-// Questions 1 to 4 of a read or a write: the first no, 0 where there is none.
-pub fn range_asked(t: &[u8], c: usize, answering: RowSet, offset: usize, count: usize) -> u32
-    ensures { λ r. ⌜ r ≡ firstNo (toRange (now (t .entry)) c (answering .bits) offset count) ⌝ }
+// Questions 1 to 4 of a read or a write: the first no, 0 where there is none. Then `order` starts with the used rows in chain order.
+pub fn range_asked(
+    t: &[u8],
+    c: usize,
+    answering: RowSet,
+    offset: usize,
+    count: usize,
+    order: &mut [u8; 64],
+) -> u32
+    ensures { λ r. ⌜ (r ≡ firstNo (toRange (now (t .entry)) c (answering .bits) offset count)) × (r ≡ 0 → Ordered (now (t .entry)) (now (order .exit))) ⌝ }
 {
-    let no = coordinator_asked(t, c, answering);
+    let no = coordinator_asked(t, c, answering, order);
     if no != 0 {
         return no;
     }

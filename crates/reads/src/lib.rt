@@ -11,14 +11,15 @@ pub fn read(t: &[u8], c: usize, r: u64, offset: usize, count: usize, buffer: &mu
     ensures { λ x. ⌜ (let o = outcome (now (t .entry)) (read (record { c = c; r = r; offset = offset; count = count; buffer = now (buffer .entry) })) in (x ≡ resultOf o) × (now (t .entry) ≡ o .table) × (now (buffer .exit) ≡ o .buffer)) ⌝ }
 {
     let answering = RowSet { bits: r };
-    let no = range_asked(t, c, answering, offset, count);
+    let mut order = [0u8; 64];
+    let no = range_asked(t, c, answering, offset, count, &mut order);
     if no != 0 {
         return result(no, 0);
     }
     if buffer.len() != count {
         return result(5, 0);
     }
-    let s = settle::settle(Kind::Read, t, c, answering);
+    let s = settle::settle(Kind::Read, t, &order, c, answering);
     if s.refusal != 0 {
         return result(s.refusal, 0);
     }

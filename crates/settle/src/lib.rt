@@ -11,6 +11,7 @@ ghost use Prim.Native.Nat.{_^_, _<_};
 ghost use Rattle.sets.specs.Sets.{has};
 ghost use Rattle.fields.specs.Layout.{usedOf};
 ghost use Rattle.table.specs.WellFormed.{wellFormed};
+ghost use Rattle.table.specs.Contracts.{Ordered};
 ghost use Rattle.settle.specs.Works.{Works};
 
 // The set that a call works on: the first no among questions 6 and 7 (0: none), its good rows and their version.
@@ -34,31 +35,23 @@ fn settled_on(rows: RowSet, refusal: u32, found: Tally) -> Settled
 }
 
 // The set that a read or a write works on, found by one poll: P, the coordinator's own choice cut down to the rows that answered,
-// if questions 6 and 7 are yes for it; otherwise all of them.
-pub fn settle(kind: Kind, t: &[u8], c: usize, answering: RowSet) -> Settled
-    requires { ⌜ (wellFormed (now t) ≡ true) × (answering .bits < 2 ^ usedOf (now t)) × (has (answering .bits) c ≡ true) ⌝ }
+// if questions 6 and 7 are yes for it; otherwise all of them. `order` starts with the used rows in chain order.
+pub fn settle(kind: Kind, t: &[u8], order: &[u8; 64], c: usize, answering: RowSet) -> Settled
+    requires { ⌜ (wellFormed (now t) ≡ true) × Ordered (now t) (now order) × (answering .bits < 2 ^ usedOf (now t)) × (has (answering .bits) c ≡ true) ⌝ }
     ensures { λ r. ⌜ Works kind (now (t .entry)) c (answering .bits) r ⌝ }
 {
-    let order = chain::chain_order(t);
     let poll = polls::gather(t, answering);
-    let count = order.count;
+    let count = header::used(t);
     let row = table::row_of(t, c);
     let own = RowSet {
         bits: fields::members(row),
     };
-    let tried = lists::choice(kind, &order.rows, count, own, fields::name(row)).cut(answering);
+    let tried = lists::choice(kind, order, count, own, fields::name(row)).cut(answering);
     // read here, and not where the poll is gathered: so the compiler need not copy the poll
     let stale = poll.stale;
     let part = tally_of(stale, &poll.versions, &poll.desired, &poll.epochs, tried);
     let leaders = part.leaders;
-    let no = asked(
-        kind,
-        &order.rows,
-        count,
-        list_of(t, leaders),
-        tried,
-        part.current,
-    );
+    let no = asked(kind, order, count, list_of(t, leaders), tried, part.current);
     if no == 0 {
         return settled_on(tried, no, part);
     }
@@ -72,7 +65,7 @@ pub fn settle(kind: Kind, t: &[u8], c: usize, answering: RowSet) -> Settled
     let latest = whole.leaders;
     let all_no = asked(
         kind,
-        &order.rows,
+        order,
         count,
         list_of(t, latest),
         answering,

@@ -1,7 +1,6 @@
 -- The walk along the chain.
-use mathlib.Core.Path.{_≡_, refl, sym, _∙_, ap, ap₂, fun-ext}
+use mathlib.Core.Path.{_≡_, refl, sym, subst, _∙_, ap, ap₂, fun-ext}
 use mathlib.Core.Bool.{Bool, true, false, _&&_, _||_, and-true, and-false, or-false}
-use mathlib.Core.Logic.{_⊎_, inl, inr}
 use mathlib.Core.List.{List, [], _∷_, _++_, append-nil}
 use Prim.Native.Nat.{ℕ, zero, suc, _+_, _-_, _≤_, _<_}
 use native.Mathlib.Nat.{zero-add}
@@ -9,7 +8,7 @@ use native.Mathlib.Numerals.{add-one}
 use native.Mathlib.Decide.{decLe}
 use native.Mathlib.Omega.{arith}
 use lib.Dec.{eqb}
-use lib.ListN.{length, take, set, replicate, length-set, length-take}
+use lib.ListN.{length, take, set, length-set, length-take, length-append}
 use lib.Seq.{take-all, take-suc-set, append-snoc, getD-set-same, getD-set-other}
 use borrow.Author.Tests.{eqb-true, eq-eqb, ne-eqb, lt-ltb, le-ltb}
 use borrow.Author.Count.{below-more}
@@ -21,7 +20,7 @@ use Rattle.sets.proofs.SetLaws.{empty-at, gain-where}
 use Rattle.fields.specs.Layout.{usedOf, firstOf, linkOf, nameOf}
 use Rattle.table.specs.Chain.{chain, orderOf, among, risesFrom}
 use Rattle.table.specs.WellFormed.{visitsEach, namesRise, wellFormed}
-use Rattle.table.specs.Contracts.{Linked, Listed}
+use Rattle.table.specs.Contracts.{Linked, Listed, Ordered}
 use Rattle.table.proofs.TestLaws.{eqb-swap}
 use Rattle.table.proofs.WellFormedLaws.{header, few-rows, link-in}
 
@@ -55,10 +54,6 @@ module _ (t : List ℕ) (e : wellFormed t ≡ true) where
       let n : length (chain (linkOf t) (suc (usedOf t)) (firstOf t)) ≡ usedOf t = eqb-true _ _ (and-l _ _ visits) in
       chain-start (linkOf t) (usedOf t) (firstOf t) ∙ take-all (usedOf t) (chain (linkOf t) (suc (usedOf t)) (firstOf t)) (omega arith)
 
-  pub order-length : length (orderOf t) ≡ usedOf t
-  unfolding visitsEach
-  order-length = ap length order-path ∙ eqb-true _ _ (and-l _ _ visits)
-
   pub order-each : (i : ℕ) → Within (usedOf t) i → among (orderOf t) i ≡ true
   unfolding visitsEach
   order-each i w = rw order-path (every-at (usedOf t) _ (and-r (eqb (length (chain (linkOf t) (suc (usedOf t)) (firstOf t))) (usedOf t)) _ visits) i w)
@@ -67,29 +62,50 @@ module _ (t : List ℕ) (e : wellFormed t ≡ true) where
   unfolding wellFormed namesRise
   order-rises = let n : namesRise t ≡ true = search (and-l, and-r) in rw order-path n
 
--- ---- chain_order: the rows passed, and the row that comes next (0 where the chain has ended)
-pub record Walked (t rows : List ℕ) (count next : ℕ) : Type 0 where
+-- ---- rows in an array
+pub listed-in : {n m count : ℕ} {rows : List ℕ} → n ≤ m → Listed n rows count → Listed m rows count
+listed-in h l = record { places = l .places; few = l .few; each = λ k q. let w = l .each k q in omega arith }
+
+-- ---- the walk: the chain with one step more than rows are used, and what is left of it behind the rows passed
+abbrev whole : List ℕ → List ℕ
+whole t = chain (linkOf t) (suc (usedOf t)) (firstOf t)
+
+abbrev rest : List ℕ → ℕ → ℕ → List ℕ
+rest t count next = chain (linkOf t) (suc (usedOf t) - count) next
+
+-- `count` rows were passed: `rows` starts with them, `seen` are they, their names rise to `low`; `next` is to come (0 where the chain has ended)
+pub record Walked (t rows : List ℕ) (seen : ℕ → Bool) (low count next : ℕ) : Type 0 where
   pub listed : Listed (usedOf t) rows count
   pub few : count ≤ usedOf t
   pub on : next ≤ usedOf t
   pub path : (m : ℕ) → take count rows ++ chain (linkOf t) m next ≡ chain (linkOf t) (count + m) (firstOf t)
-
-pub listed-in : {n m count : ℕ} {rows : List ℕ} → n ≤ m → Listed n rows count → Listed m rows count
-listed-in h l = record { places = l .places; few = l .few; each = λ k q. let w = l .each k q in omega arith }
+  pub members : among (whole t) ≡ (λ (i : ℕ). seen i || among (rest t count next) i)
+  pub rising : risesFrom 0 (nameOf t) (whole t) ≡ risesFrom low (nameOf t) (rest t count next)
 
 module _ {t : List ℕ} (l : Linked t) where
-  pub walk-start : (next : ℕ) → next ≡ firstOf t → Walked t (replicate 64 0) 0 next
-  walk-start next e = record {
-    listed = record { places = refl; few = omega arith; each = λ k h. absurd (omega arith) };
-    few = omega arith;
-    on = omega (arith, header (l .sized .header) .first);
-    path = λ m. ap₂ (chain (linkOf t)) (sym (zero-add m)) e;
-  }
+  pub walk-start : (rows : List ℕ) (next : ℕ) → length rows ≡ 64 → next ≡ firstOf t → Walked t rows (has 0) 0 0 next
+  walk-start rows next d e =
+      let z : suc (usedOf t) - 0 ≡ suc (usedOf t) = omega arith in
+      let all : whole t ≡ rest t 0 next = sym (ap₂ (chain (linkOf t)) z e) in
+      record {
+        listed = record { places = d; few = omega arith; each = λ k h. absurd (omega arith) };
+        few = omega arith;
+        on = omega (arith, header (l .sized .header) .first);
+        path = λ m. ap₂ (chain (linkOf t)) (sym (zero-add m)) e;
+        members = fun-ext (λ i. rw (empty-at i) (ap (λ (xs : List ℕ). among xs i) all));
+        rising = ap (risesFrom 0 (nameOf t)) all;
+      }
 
-  pub walk-turn : {rows : List ℕ} {count next : ℕ} → Walked t rows count next
-      → (after : ℕ) → count < usedOf t → 1 ≤ next → after ≡ linkOf t next → Walked t (set rows count next) (count + 1) after
-  walk-turn {rows} {count} {next} w after h p e =
+  pub walk-turn : {rows : List ℕ} {seen : ℕ → Bool} {low count next : ℕ} → Walked t rows seen low count next
+      → (more : ℕ → Bool) (name after : ℕ) → count < usedOf t → 1 ≤ next → more ≡ gaining seen next → name ≡ nameOf t next → low < name → after ≡ linkOf t next
+      → Walked t (set rows count next) more name (count + 1) after
+  unfolding among risesFrom
+  walk-turn {rows} {seen} {low} {count} {next} w more name after h p g d up e =
       let room : count < length rows = omega (arith, few-rows (l .sized), w .listed .places) in
+      let n : suc (usedOf t) - count ≡ suc (suc (usedOf t) - (count + 1)) = omega arith in
+      let step : rest t count next ≡ next ∷ rest t (count + 1) after =
+      ap (λ (k : ℕ). chain (linkOf t) k next) n ∙ chain-suc (linkOf t) _ next p
+      ∙ ap (λ (k : ℕ). next ∷ chain (linkOf t) (suc (usedOf t) - (count + 1)) k) (sym e) in
       record {
         listed = record {
           places = length-set rows count next ∙ w .listed .places;
@@ -101,79 +117,10 @@ module _ {t : List ℕ} (l : Linked t) where
         few = omega arith;
         on = rw e (link-in l next (p, w .on));
         path = λ m.
-            let n : count + suc m ≡ count + 1 + m = omega arith in
+            let k : count + suc m ≡ count + 1 + m = omega arith in
             rw (e, add-one count, take-suc-set rows count next room, append-snoc)
             (ap (λ (xs : List ℕ). take count rows ++ xs) (sym (chain-suc (linkOf t) m next p)) ∙ w .path (suc m)
-            ∙ ap (λ (k : ℕ). chain (linkOf t) k (firstOf t)) (n ∙ ap (λ (k : ℕ). k + m) (add-one count)));
-      }
-
--- where the chain ends, or as many rows are passed as are used, these are the order
-order-at : {t rows : List ℕ} {count next : ℕ} → Walked t rows count next → (next ≡ 0) ⊎ (usedOf t ≤ count) → take count rows ≡ orderOf t
-unfolding orderOf chain
-order-at {t} {rows} {count} {next} w stop =
-    let n : count + (usedOf t - count) ≡ usedOf t = omega (arith, w .few) in
-    sym (append-nil (take count rows)) ∙ ap (λ (xs : List ℕ). take count rows ++ xs) (sym (nothing stop))
-    ∙ w .path (usedOf t - count) ∙ ap (λ (k : ℕ). chain (linkOf t) k (firstOf t)) n
-  where
-    nothing : (next ≡ 0) ⊎ (usedOf t ≤ count) → chain (linkOf t) (usedOf t - count) next ≡ []
-    nothing (inl e) = ap (chain (linkOf t) (usedOf t - count)) e ∙ chain-zero (linkOf t) (usedOf t - count)
-    nothing (inr h) = let z : usedOf t - count ≡ 0 = omega arith in rw z
-
-pub order-is : {t rows : List ℕ} {count next : ℕ} → Walked t rows count next → usedOf t ≤ count → take count rows ≡ orderOf t
-order-is w h = order-at w (inr h)
-
--- before that the chain goes on
-pub row-next : {t rows : List ℕ} {count next : ℕ} → wellFormed t ≡ true → Walked t rows count next → count < usedOf t → 1 ≤ next
-row-next {t} {rows} {count} {next} e w h = go (decLe 1 next)
-  where
-    go : Dec (1 ≤ next) → 1 ≤ next
-    go (yes p) = p
-    go (no p) =
-        let z : next ≡ 0 = omega arith in
-        let whole : length (take count rows) ≡ usedOf t = ap length (order-at w (inl z)) ∙ order-length t e in
-        absurd (omega (arith, whole, length-take count rows))
-
--- ---- chain_right: the chain with one step more than rows are used, and what is left of it behind the rows passed
-abbrev path : List ℕ → List ℕ
-path t = chain (linkOf t) (suc (usedOf t)) (firstOf t)
-
-abbrev rest : List ℕ → ℕ → ℕ → List ℕ
-rest t count next = chain (linkOf t) (suc (usedOf t) - count) next
-
--- `count` rows were passed, `seen` are they, their names rise to `low`
-pub record Passed (t : List ℕ) (seen : ℕ → Bool) (low count next : ℕ) : Type 0 where
-  pub few : count ≤ usedOf t
-  pub on : next ≤ usedOf t
-  pub lengths : length (path t) ≡ count + length (rest t count next)
-  pub members : among (path t) ≡ (λ (i : ℕ). seen i || among (rest t count next) i)
-  pub rising : risesFrom 0 (nameOf t) (path t) ≡ risesFrom low (nameOf t) (rest t count next)
-
-module _ {t : List ℕ} (l : Linked t) where
-  pub pass-start : (next : ℕ) → next ≡ firstOf t → Passed t (has 0) 0 0 next
-  pass-start next e =
-      let z : suc (usedOf t) - 0 ≡ suc (usedOf t) = omega arith in
-      let all : path t ≡ rest t 0 next = sym (ap₂ (chain (linkOf t)) z e) in
-      record {
-        few = omega arith;
-        on = omega (arith, header (l .sized .header) .first);
-        lengths = omega (arith, ap length all);
-        members = fun-ext (λ i. rw (empty-at i) (ap (λ (xs : List ℕ). among xs i) all));
-        rising = ap (risesFrom 0 (nameOf t)) all;
-      }
-
-  pub pass-turn : {seen : ℕ → Bool} {low count next : ℕ} → Passed t seen low count next
-      → (more : ℕ → Bool) (name after : ℕ) → count < usedOf t → 1 ≤ next → more ≡ gaining seen next → name ≡ nameOf t next → low < name → after ≡ linkOf t next
-      → Passed t more name (count + 1) after
-  unfolding among risesFrom
-  pass-turn {seen} {low} {count} {next} w more name after h p g d up e =
-      let n : suc (usedOf t) - count ≡ suc (suc (usedOf t) - (count + 1)) = omega arith in
-      let step : rest t count next ≡ next ∷ rest t (count + 1) after =
-      ap (λ (k : ℕ). chain (linkOf t) k next) n ∙ chain-suc (linkOf t) _ next p
-      ∙ ap (λ (k : ℕ). next ∷ chain (linkOf t) (suc (usedOf t) - (count + 1)) k) (sym e) in
-      record {
-        few = omega arith;
-        on = rw e (link-in l next (p, w .on));
-        lengths = omega (arith, w .lengths, ap length step);
+            ∙ ap (λ (j : ℕ). chain (linkOf t) j (firstOf t)) (k ∙ ap (λ (j : ℕ). j + m) (add-one count)));
         members = fun-ext (λ i.
             ap (λ (q : ℕ → Bool). q i) (w .members) ∙ ap (λ (xs : List ℕ). seen i || among xs i) step
             ∙ swap (seen i) (among (rest t (count + 1) after) i) (eqb next i)
@@ -189,7 +136,7 @@ module _ {t : List ℕ} (l : Linked t) where
       swap false false c = sym (or-false c)
 
 -- each way out
-module _ {t : List ℕ} {seen : ℕ → Bool} {low count next : ℕ} (w : Passed t seen low count next) where
+module _ {t rows : List ℕ} {seen : ℕ → Bool} {low count next : ℕ} (w : Walked t rows seen low count next) where
   ended : next ≡ 0 → rest t count next ≡ []
   ended e = ap (chain (linkOf t) (suc (usedOf t) - count)) e ∙ chain-zero (linkOf t) (suc (usedOf t) - count)
 
@@ -198,29 +145,47 @@ module _ {t : List ℕ} {seen : ℕ → Bool} {low count next : ℕ} (w : Passed
       let n : suc (usedOf t) - count ≡ suc (usedOf t - count) = omega (arith, w .few) in
       ap (λ (k : ℕ). chain (linkOf t) k next) n ∙ chain-suc (linkOf t) (usedOf t - count) next p
 
+  lengths : length (whole t) ≡ count + length (rest t count next)
+  lengths =
+      let n : count + (suc (usedOf t) - count) ≡ suc (usedOf t) = omega (arith, w .few) in
+      let k : length (take count rows) ≡ count = omega (arith, length-take count rows, w .listed .places, w .listed .few) in
+      ap length (sym (w .path (suc (usedOf t) - count) ∙ ap (λ (j : ℕ). chain (linkOf t) j (firstOf t)) n))
+      ∙ length-append (take count rows) (rest t count next) ∙ ap (λ (j : ℕ). j + length (rest t count next)) k
+
   -- the chain has not as many rows as are used
-  miscounted : (length (path t) ≡ usedOf t → ⊥) → false ≡ (visitsEach t && namesRise t)
+  miscounted : (length (whole t) ≡ usedOf t → ⊥) → false ≡ (visitsEach t && namesRise t)
   unfolding visitsEach
-  miscounted d = sym (rw (ne-eqb (length (path t)) (usedOf t) d))
+  miscounted d = sym (rw (ne-eqb (length (whole t)) (usedOf t) d))
 
-  pub pass-short : next ≡ 0 → count < usedOf t → false ≡ (visitsEach t && namesRise t)
-  pass-short e h = miscounted (λ q. omega (arith, w .lengths, ap length (ended e)))
+  pub walk-short : next ≡ 0 → count < usedOf t → false ≡ (visitsEach t && namesRise t)
+  walk-short e h = miscounted (λ q. omega (arith, lengths, ap length (ended e)))
 
-  pub pass-falls : 1 ≤ next → nameOf t next ≤ low → false ≡ (visitsEach t && namesRise t)
+  pub walk-falls : 1 ≤ next → nameOf t next ≤ low → false ≡ (visitsEach t && namesRise t)
   unfolding namesRise risesFrom
-  pass-falls p h =
+  walk-falls p h =
       let f : namesRise t ≡ false = w .rising ∙ ap (risesFrom low (nameOf t)) (goes-on p) ∙ rw (le-ltb low (nameOf t next) h) in
       sym (rw f (and-false (visitsEach t)))
 
-  pub pass-all : count ≡ usedOf t → (eqb next 0 && every (usedOf t) seen) ≡ (visitsEach t && namesRise t)
-  unfolding visitsEach namesRise among risesFrom
-  pass-all e = go (decLe 1 next)
-    where
-      go : Dec (1 ≤ next) → (eqb next 0 && every (usedOf t) seen) ≡ (visitsEach t && namesRise t)
-      go (yes p) = rw (ne-eqb next 0 (λ q. omega arith)) (miscounted (λ q. omega (arith, w .lengths, ap length (goes-on p))))
-      go (no p) =
-          let z : next ≡ 0 = omega arith in
-          let n : length (path t) ≡ usedOf t = omega (arith, w .lengths, ap length (ended z)) in
-          let m : among (path t) ≡ seen = w .members ∙ fun-ext (λ i. ap (λ (xs : List ℕ). seen i || among xs i) (ended z) ∙ or-false (seen i)) in
-          let r : risesFrom 0 (nameOf t) (path t) ≡ true = w .rising ∙ ap (risesFrom low (nameOf t)) (ended z) in
-          rw (eq-eqb next 0 z, eq-eqb (length (path t)) (usedOf t) n, m, r) (sym (and-true (every (usedOf t) seen)))
+  module _ (e : count ≡ usedOf t) where
+    pub walk-all : (eqb next 0 && every (usedOf t) seen) ≡ (visitsEach t && namesRise t)
+    unfolding visitsEach namesRise among risesFrom
+    walk-all = go (decLe 1 next)
+      where
+        go : Dec (1 ≤ next) → (eqb next 0 && every (usedOf t) seen) ≡ (visitsEach t && namesRise t)
+        go (yes p) = rw (ne-eqb next 0 (λ q. omega arith)) (miscounted (λ q. omega (arith, lengths, ap length (goes-on p))))
+        go (no p) =
+            let z : next ≡ 0 = omega arith in
+            let n : length (whole t) ≡ usedOf t = omega (arith, lengths, ap length (ended z)) in
+            let m : among (whole t) ≡ seen = w .members ∙ fun-ext (λ i. ap (λ (xs : List ℕ). seen i || among xs i) (ended z) ∙ or-false (seen i)) in
+            let r : risesFrom 0 (nameOf t) (whole t) ≡ true = w .rising ∙ ap (risesFrom low (nameOf t)) (ended z) in
+            rw (eq-eqb next 0 z, eq-eqb (length (whole t)) (usedOf t) n, m, r) (sym (and-true (every (usedOf t) seen)))
+
+    -- the rows passed are the order
+    pub walk-order : Ordered t rows
+    unfolding orderOf chain
+    walk-order = record {
+      listed = subst (Listed (usedOf t) rows) e (w .listed);
+      order =
+          let n : count + 0 ≡ usedOf t = omega arith in
+          ap (λ (k : ℕ). take k rows) (sym e) ∙ sym (append-nil (take count rows)) ∙ w .path 0 ∙ ap (λ (k : ℕ). chain (linkOf t) k (firstOf t)) n;
+    }

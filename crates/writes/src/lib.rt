@@ -12,11 +12,12 @@ pub fn write(t: &mut [u8], c: usize, r: u64, offset: usize, patch: &[u8]) -> u64
     ensures { λ x. ⌜ (let o = outcome (now (t .entry)) (write (record { c = c; r = r; offset = offset; patch = now (patch .entry) })) in (x ≡ resultOf o) × (now (t .exit) ≡ o .table)) ⌝ }
 {
     let answering = RowSet { bits: r };
-    let no = range_asked(t, c, answering, offset, patch.len());
+    let mut order = [0u8; 64];
+    let no = range_asked(t, c, answering, offset, patch.len(), &mut order);
     if no != 0 {
         return result(no, 0);
     }
-    let s = settle::settle(Kind::Write, t, c, answering);
+    let s = settle::settle(Kind::Write, t, &order, c, answering);
     if s.refusal != 0 {
         return result(s.refusal, 0);
     }

@@ -1,6 +1,6 @@
 use mathlib.Core.Path.{_∙_}
 use borrow.Author.Needs.{needs}
-use Rattle.table.proofs.WellFormedLaws.{sized}
+use Rattle.table.proofs.WellFormedLaws.{sized, long}
 use Rattle.quorums.specs.declared.Kind.the-variants.{Write}
 use Rattle.protocol.specs.Calls.{answers}
 use Rattle.sets.specs.Sets.{has}
@@ -11,24 +11,23 @@ use Rattle.checks.proofs.examine.Statement.{statement}
 use Rattle.checks.proofs.examine.Tie as tie
 
 -- the chain order and the poll
-polled-here : (c : tie.After-gather) → let a = c .before .before .before .args in
-    let o = c .before .chain-order .result in
-    Gathered (a .t .now) (o .rows) (o .count) (c .gather .result) (a .answering .bits)
+polled-here : (c : tie.After-used) → let a = c .before .before .before .args in
+    Gathered (a .t .now) (a .order .now) (c .used .result) (c .before .gather .result) (a .answering .bits)
 polled-here c =
     let s = c .before .before .before in
-    let o = c .before .chain-order .ensures in
-    gathered (s .pre .0) (s .pre .1) (o .0) (o .1) (c .gather .ensures)
+    let o = s .pre .1 in
+    gathered (s .pre .0) (s .pre .2) (rw (c .used .ensures) (o .listed)) (rw (c .used .ensures) (o .order)) (c .before .gather .ensures)
 
 -- what the poll says of the rows that answered
 found : (c : tie.After-tally-of) → let a = c .before .before .before .before .before .before .before .before .before .args in
     Tallied (answers (a .t .now) (a .answering .bits)) (has (a .answering .bits)) (c .tally-of .result)
 found c = c .tally-of .ensures _ (polled-here (c .before .before .before .before .before .before) .poll)
 
-chain-order-requires : tie.Need-chain-order-requires
-chain-order-requires c κs = c .before .pre .0
-
 gather-requires : tie.Need-gather-requires
-gather-requires c κs = let s = c .before .before in (sized (s .pre .0), s .pre .1)
+gather-requires c κs = let s = c .before in (sized (s .pre .0), s .pre .2)
+
+used-requires : tie.Need-used-requires
+used-requires c κs = long (sized (c .before .before .pre .0))
 
 tally-of-requires : tie.Need-tally-of-requires
 tally-of-requires c κs = search needs
@@ -40,11 +39,11 @@ list-of-requires c κs =
     (g .sized, leader-used g (λ i h. h) (found t))
 
 asked-requires : tie.Need-asked-requires
-asked-requires c κs = polled-here (c .before .before .before .before .before .before .before .before .before .before .before) .listed
+asked-requires c κs = polled-here (c .before .before .before .before .before .before .before .before .before) .listed
 
 returns : tie.Need-returns
 returns c =
-    let l = c .before .before .before in
+    let l = c .before in
     let t = l .before .before .before in
     let g = polled-here (t .before .before .before .before .before .before) in
     let f = found t in
@@ -60,8 +59,8 @@ pub examine-spec : {M : Type 1} → statement M
 examine-spec =
     tie.close
     (tie.spec
-    chain-order-requires
     gather-requires
+    used-requires
     tally-of-requires
     list-of-requires
     asked-requires

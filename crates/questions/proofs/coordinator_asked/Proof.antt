@@ -11,21 +11,29 @@ use Rattle.fields.specs.Layout.{usedOf}
 use Rattle.questions.proofs.coordinator_asked.Statement.{statement}
 use Rattle.questions.proofs.coordinator_asked.Tie as tie
 
-well-formed-requires : tie.Need-well-formed-requires
-well-formed-requires c κs = search needs
+-- question 1 is yes
+formed : (c : tie.Then1) → wellFormed (c .before .before .before .before .args .t .now) ≡ true
+formed c = sym (c .before .ordered .ensures .0) ∙ c .if1 .taken
+
+-- question 2, as it was asked
+named : (c : tie.After-both) → let a = c .before .before .before .before .before .before .before .before .args in (isUsed (a .t .now) (a .c) && onlyRows (usedOf (a .t .now)) (a .answering .bits)) ≡ c .both .result
+unfolding isUsed
+named c =
+    let a = c .before .before .before .before .before .before .before .before .args in
+    let u = c .before .before .before .used .ensures in
+    sym (c .both .ensures ∙ ap₂ _&&_ (c .before .before .between .ensures ∙ ap (between 1 (a .c)) u) (c .before .only-rows .ensures ∙ ap (λ (n : ℕ). onlyRows n (a .answering .bits)) u))
+
+ordered-requires : tie.Need-ordered-requires
+ordered-requires c κs = search needs
 
 used-requires : tie.Need-used-requires
-used-requires c κs =
-    let wf : wellFormed (c .before .before .before .args .t .now) ≡ true = sym (c .before .well-formed .ensures) ∙ c .if1 .taken in
-    long (sized wf)
+used-requires c κs = long (sized (formed c))
 
 between-requires : tie.Need-between-requires
 between-requires c κs = search needs
 
 only-rows-requires : tie.Need-only-rows-requires
-only-rows-requires c κs =
-    let wf : wellFormed (c .before .before .before .before .before .args .t .now) ≡ true = sym (c .before .before .before .well-formed .ensures) ∙ c .before .before .if1 .taken in
-    omega (arith, c .before .used .ensures, few-rows (sized wf))
+only-rows-requires c κs = omega (arith, c .before .used .ensures, few-rows (sized (formed (c .before .before))))
 
 both-requires : tie.Need-both-requires
 both-requires c κs = search needs
@@ -34,43 +42,31 @@ has-requires : tie.Need-has-requires
 has-requires c κs = search needs
 
 returns : tie.Need-returns
-unfolding isUsed
 returns c =
-    let a = c .before .before .before .before .before .before .before .before .before .before .args in
     let k = c .before .before .before in
-    let u = k .before .before .before .used .ensures in
-    let two : (isUsed (a .t .now) (a .c) && onlyRows (usedOf (a .t .now)) (a .answering .bits)) ≡ k .both .result =
-    sym (k .both .ensures ∙ ap₂ _&&_ (k .before .before .between .ensures ∙ ap (between 1 (a .c)) u) (k .before .only-rows .ensures ∙ ap (λ (n : ℕ). onlyRows n (a .answering .bits)) u)) in
-    by-answers _ _ _ true true true (sym (c .before .before .before .before .before .before .before .before .well-formed .ensures) ∙ c .before .before .before .before .before .before .before .if1 .taken) (two ∙ c .before .before .if2 .taken) (sym (c .before .has .ensures) ∙ c .if3 .taken)
+    let f = k .before .before .before .before in (
+      by-answers _ _ _ true true true (formed f) (named k ∙ c .before .before .if2 .taken) (sym (c .before .has .ensures) ∙ c .if3 .taken),
+      λ _. f .before .ordered .ensures .1 (f .if1 .taken),
+    )
 
 returns-2 : tie.Need-returns-2
-unfolding isUsed
 returns-2 c =
-    let a = c .before .before .before .before .before .before .before .before .before .before .args in
     let k = c .before .before .before in
-    let u = k .before .before .before .used .ensures in
-    let two : (isUsed (a .t .now) (a .c) && onlyRows (usedOf (a .t .now)) (a .answering .bits)) ≡ k .both .result =
-    sym (k .both .ensures ∙ ap₂ _&&_ (k .before .before .between .ensures ∙ ap (between 1 (a .c)) u) (k .before .only-rows .ensures ∙ ap (λ (n : ℕ). onlyRows n (a .answering .bits)) u)) in
-    by-answers _ _ _ true true false (sym (c .before .before .before .before .before .before .before .before .well-formed .ensures) ∙ c .before .before .before .before .before .before .before .if1 .taken) (two ∙ c .before .before .if2 .taken) (sym (c .before .has .ensures) ∙ c .if3 .left)
+    (by-answers _ _ _ true true false (formed (k .before .before .before .before)) (named k ∙ c .before .before .if2 .taken) (sym (c .before .has .ensures) ∙ c .if3 .left), λ e. absurd (omega arith))
 
 returns-3 : tie.Need-returns-3
-unfolding isUsed
 returns-3 c =
-    let a = c .before .before .before .before .before .before .before .before .args in
     let k = c .before in
-    let u = k .before .before .before .used .ensures in
-    let two : (isUsed (a .t .now) (a .c) && onlyRows (usedOf (a .t .now)) (a .answering .bits)) ≡ k .both .result =
-    sym (k .both .ensures ∙ ap₂ _&&_ (k .before .before .between .ensures ∙ ap (between 1 (a .c)) u) (k .before .only-rows .ensures ∙ ap (λ (n : ℕ). onlyRows n (a .answering .bits)) u)) in
-    by-answers _ _ _ true false _ (sym (c .before .before .before .before .before .before .well-formed .ensures) ∙ c .before .before .before .before .before .if1 .taken) (two ∙ c .if2 .left) refl
+    (by-answers _ _ _ true false _ (formed (k .before .before .before .before)) (named k ∙ c .if2 .left) refl, λ e. absurd (omega arith))
 
 returns-4 : tie.Need-returns-4
-returns-4 c = by-answers _ _ _ false _ _ (sym (c .before .well-formed .ensures) ∙ c .if1 .left) refl refl
+returns-4 c = (by-answers _ _ _ false _ _ (sym (c .before .ordered .ensures .0) ∙ c .if1 .left) refl refl, λ e. absurd (omega arith))
 
 pub coordinator-asked-spec : {M : Type 1} → statement M
 coordinator-asked-spec =
     tie.close
     (tie.spec
-    well-formed-requires
+    ordered-requires
     used-requires
     between-requires
     only-rows-requires

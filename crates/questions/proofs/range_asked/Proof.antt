@@ -8,39 +8,49 @@ use lib.Dec.{leb}
 use Rattle.questions.proofs.QuestionLaws.{range-no, range-yes}
 use Rattle.table.proofs.WellFormedLaws.{sized, long}
 use Rattle.protocol.proofs.QuestionLaws.{passed-first}
-use Rattle.protocol.specs.Calls.{inFile}
+use Rattle.protocol.specs.Calls.{byCoordinator, inFile}
+use Rattle.asking.specs.Asking.{firstNo}
 use Rattle.questions.proofs.range_asked.Statement.{statement}
 use Rattle.questions.proofs.range_asked.Tie as tie
+
+-- questions 1 to 3 are passed
+passed : (c : tie.Else1) → let a = c .before .before .before .before .args in firstNo (byCoordinator (a .t .now) (a .c) (a .answering .bits) []) ≡ 0
+passed c = sym (c .before .coordinator-asked .ensures .0) ∙ (let none : c .before .coordinator-asked .result ≡ 0 = omega arith in none)
+
+-- question 4, as it was asked
+fits : (c : tie.After-in-range) → let a = c .before .before .before .before .before .before .args in c .in-range .result ≡ inFile (a .t .now) (a .offset) (a .count)
+unfolding inFile
+fits c =
+    let a = c .before .before .before .before .before .before .args in
+    c .in-range .ensures ∙ ap (λ (n : ℕ). leb 1 (a .count) && leb (a .offset + a .count) n) (c .before .file-length .ensures)
 
 coordinator-asked-requires : tie.Need-coordinator-asked-requires
 coordinator-asked-requires c κs = search needs
 
 returns : tie.Need-returns
-returns c = let a = c .before .before .before .args in range-no _ _ _ (a .offset) (a .count) _ (c .before .coordinator-asked .ensures) (omega arith)
+returns c =
+    let a = c .before .before .before .before .args in
+    (range-no _ _ _ (a .offset) (a .count) _ (c .before .coordinator-asked .ensures .0) (omega arith), λ e. absurd (omega arith))
 
 file-length-requires : tie.Need-file-length-requires
-file-length-requires c κs =
-    let none : c .before .coordinator-asked .result ≡ 0 = omega arith in
-    long (sized (passed-first _ _ _ [] (sym (c .before .coordinator-asked .ensures) ∙ none) .0 .formed))
+file-length-requires c κs = long (sized (passed-first _ _ _ [] (passed c) .0 .formed))
 
 in-range-requires : tie.Need-in-range-requires
 in-range-requires c κs = search needs
 
 returns-2 : tie.Need-returns-2
-unfolding inFile
 returns-2 c =
-    let a = c .before .before .before .before .before .before .args in
-    let none : c .before .before .before .before .coordinator-asked .result ≡ 0 = omega arith in
-    range-yes _ _ _ (a .offset) (a .count) true (sym (c .before .before .before .before .coordinator-asked .ensures) ∙ none)
-    (sym (c .if2 .taken) ∙ c .before .in-range .ensures ∙ ap (λ (n : ℕ). leb 1 (a .count) && leb (a .offset + a .count) n) (c .before .before .file-length .ensures))
+    let e = c .before .before .before in
+    let a = e .before .before .before .before .args in (
+      range-yes _ _ _ (a .offset) (a .count) true (passed e) (sym (c .if2 .taken) ∙ fits (c .before)),
+      λ _. e .before .coordinator-asked .ensures .1 (omega arith),
+    )
 
 returns-3 : tie.Need-returns-3
-unfolding inFile
 returns-3 c =
-    let a = c .before .before .before .before .before .before .args in
-    let none : c .before .before .before .before .coordinator-asked .result ≡ 0 = omega arith in
-    range-yes _ _ _ (a .offset) (a .count) false (sym (c .before .before .before .before .coordinator-asked .ensures) ∙ none)
-    (sym (c .if2 .left) ∙ c .before .in-range .ensures ∙ ap (λ (n : ℕ). leb 1 (a .count) && leb (a .offset + a .count) n) (c .before .before .file-length .ensures))
+    let e = c .before .before .before in
+    let a = e .before .before .before .before .args in
+    (range-yes _ _ _ (a .offset) (a .count) false (passed e) (sym (c .if2 .left) ∙ fits (c .before)), λ e. absurd (omega arith))
 
 pub range-asked-spec : {M : Type 1} → statement M
 range-asked-spec =

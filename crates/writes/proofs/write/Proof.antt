@@ -21,12 +21,12 @@ abbrev writing : tie.Start → Writing
 writing s = record { c = s .args .c; r = s .args .r; offset = s .args .offset; patch = s .args .patch .now }
 
 -- questions 1 to 4 are passed
-passed : (c : tie.Else1) → let start = c .before .before .before .before .before in firstNo (toRange (start .args .t .now) (start .args .c) (start .args .r) (start .args .offset) (length (start .args .patch .now))) ≡ 0
-passed c = sym (c .before .range-asked .ensures) ∙ (let none : c .before .range-asked .result ≡ 0 = omega arith in none)
+passed : (c : tie.Else1) → let start = c .before .before .before .before .before .before in firstNo (toRange (start .args .t .now) (start .args .c) (start .args .r) (start .args .offset) (length (start .args .patch .now))) ≡ 0
+passed c = sym (c .before .range-asked .ensures .0) ∙ (let none : c .before .range-asked .result ≡ 0 = omega arith in none)
 
 -- and 1 to 3 among them
-asked : (c : tie.Else1) → let start = c .before .before .before .before .before in ByCoordinator (start .args .t .now) (start .args .c) (start .args .r)
-asked c = let start = c .before .before .before .before .before in range-passed (start .args .t .now) (start .args .c) (start .args .r) (start .args .offset) (length (start .args .patch .now)) (passed c) .0
+asked : (c : tie.Else1) → let start = c .before .before .before .before .before .before in ByCoordinator (start .args .t .now) (start .args .c) (start .args .r)
+asked c = let start = c .before .before .before .before .before .before in range-passed (start .args .t .now) (start .args .c) (start .args .r) (start .args .offset) (length (start .args .patch .now)) (passed c) .0
 
 -- 6 and 7 are passed
 settled-here : (c : tie.Else2) → c .before .before .settle .result .refusal ≡ 0
@@ -47,12 +47,15 @@ same-length c = search needs
 
 returns : tie.Need-returns
 returns c =
-    let start = c .before .before .before .before .before .before in
-    let no = write-early (start .args .t .now) (writing start) _ (c .before .before .range-asked .ensures) (omega arith) in
+    let start = c .before .before .before .before .before .before .before in
+    let no = write-early (start .args .t .now) (writing start) _ (c .before .before .range-asked .ensures .0) (omega arith) in
     (c .result .ensures ∙ no .result, no .table)
 
 settle-requires : tie.Need-settle-requires
-settle-requires c κs = let y = asked (c .before) in (y .formed, y .rows, y .answered)
+settle-requires c κs =
+    let e = c .before .before in
+    let y = asked e in
+    (y .formed, e .before .range-asked .ensures .1 (omega arith), y .rows, y .answered)
 
 result-requires-2 : tie.Need-result-requires-2
 result-requires-2 c κs = search needs
@@ -62,9 +65,9 @@ same-length-2 c = search needs
 
 returns-2 : tie.Need-returns-2
 returns-2 c =
-    let start = c .before .before .before .before .before .before .before .before .before .before in
+    let start = c .before .before .before .before .before .before .before .before .before .before .before .before in
     let s = c .before .before .before .settle in
-    let no = write-no (start .args .t .now) (writing start) (passed (c .before .before .before .before .before)) (s .result) (s .ensures) (omega arith) in
+    let no = write-no (start .args .t .now) (writing start) (passed (c .before .before .before .before .before .before)) (s .result) (s .ensures) (omega arith) in
     (c .result2 .ensures ∙ no .result, no .table)
 
 below-limit-requires : tie.Need-below-limit-requires
@@ -78,9 +81,9 @@ same-length-3 c = search needs
 
 returns-3 : tie.Need-returns-3
 returns-3 c =
-    let start = c .before .before .before .before .before .before .before .before .before .before .before .before in
+    let start = c .before .before .before .before .before .before .before .before .before .before .before .before .before .before in
     let s = c .before .before .before .before .before .settle in
-    let no = write-full (start .args .t .now) (writing start) (passed (c .before .before .before .before .before .before .before)) (s .result) (s .ensures) (settled-here (c .before .before .before))
+    let no = write-full (start .args .t .now) (writing start) (passed (c .before .before .before .before .before .before .before .before)) (s .result) (s .ensures) (settled-here (c .before .before .before))
     (sym (c .before .before .below-limit .ensures) ∙ not-true _ (c .before .if3 .taken)) in
     (c .result3 .ensures ∙ no .result, no .table)
 
@@ -90,11 +93,11 @@ add-version c = let v = c .before .before .before .before .before .settle .resul
 
 write-rows-requires : tie.Need-write-rows-requires
 write-rows-requires c κs =
-    let start = c .before .before .before .before .before .before .before .before .before .before .before .before .before in
+    let start = c .before .before .before .before .before .before .before .before .before .before .before .before .before .before .before in
     let s = c .before .before .before .before .before .before .settle in (
-      sized (asked (c .before .before .before .before .before .before .before .before) .formed),
-      works-used (start .args .t .now) (writing start) (passed (c .before .before .before .before .before .before .before .before)) (s .result) (s .ensures) (settled-here (c .before .before .before .before)) (room (c .before .before)),
-      patch-in (start .args .t .now) (writing start) (passed (c .before .before .before .before .before .before .before .before)) (s .result) (s .ensures) (settled-here (c .before .before .before .before)) (room (c .before .before)),
+      sized (asked (c .before .before .before .before .before .before .before .before .before) .formed),
+      works-used (start .args .t .now) (writing start) (passed (c .before .before .before .before .before .before .before .before .before)) (s .result) (s .ensures) (settled-here (c .before .before .before .before)) (room (c .before .before)),
+      patch-in (start .args .t .now) (writing start) (passed (c .before .before .before .before .before .before .before .before .before)) (s .result) (s .ensures) (settled-here (c .before .before .before .before)) (room (c .before .before)),
     )
 
 result-requires-4 : tie.Need-result-requires-4
@@ -105,9 +108,9 @@ same-length-4 c = search needs
 
 returns-4 : tie.Need-returns-4
 returns-4 c =
-    let start = c .before .before .before .before .before .before .before .before .before .before .before .before .before .before .before .before .before in
+    let start = c .before .before .before .before .before .before .before .before .before .before .before .before .before .before .before .before .before .before .before in
     let s = c .before .before .before .before .before .before .before .before .before .before .settle in
-    let yes = write-done (start .args .t .now) (writing start) (passed (c .before .before .before .before .before .before .before .before .before .before .before .before)) (s .result) (s .ensures) (settled-here (c .before .before .before .before .before .before .before .before)) (room (c .before .before .before .before .before .before)) in
+    let yes = write-done (start .args .t .now) (writing start) (passed (c .before .before .before .before .before .before .before .before .before .before .before .before .before)) (s .result) (s .ensures) (settled-here (c .before .before .before .before .before .before .before .before)) (room (c .before .before .before .before .before .before)) in
     (c .result4 .ensures ∙ yes .0, c .before .before .before .write-rows .ensures ∙ yes .1)
 
 pub write-spec : {M : Type 1} → statement M
