@@ -76,13 +76,19 @@ module _ (offset : ℕ) (p xs : List ℕ) (h : 32 + offset + length p ≤ length
       let n : 32 + offset - 32 ≡ offset = omega arith in
       drop-put-before xs (32 + offset) p h 32 (omega arith) ∙ ap (λ (n : ℕ). put n p (drop 32 xs)) n
 
--- ---- a row whose fields say what a list says has that list
+-- ---- lists
 laid : ℕ → Laid
 laid m = record { members = m }
 
+-- lists that say the same are the same
+pub laid-same : (a b : Laid) → a .members ≡ b .members → a ≡ b
+unfolding laid
+laid-same a b e = ap laid e
+
+-- a row whose fields say what a list says has that list
 pub list-is : (row : List ℕ) (l : Laid) → get members row ≡ l .members → list row ≡ l
-unfolding list laid
-list-is row l e = ap laid e
+unfolding list
+list-is row l e = laid-same (list row) l e
 
 -- there is no row 0
 pub no-row-no-list : (t : List ℕ) → listOf t 0 ≡ noList

@@ -1,6 +1,6 @@
 -- How many pass: a test that gains one more, and a test that nothing passes above m.
 use mathlib.Core.Path.{_≡_, sym, _∙_, ap}
-use mathlib.Core.Bool.{Bool, false, cond, _&&_, _||_, and-true, and-false, or-false}
+use mathlib.Core.Bool.{Bool, true, false, cond, _&&_, _||_, and-true, and-false, or-false}
 use mathlib.Core.Logic.{⊎-elim}
 use Prim.Native.Nat.{ℕ, zero, suc, _+_, _≤_, _<_}
 use native.Mathlib.Decide.{decLe}
@@ -32,3 +32,12 @@ count-gain (suc n) p x b w off = ⊎-elim
     let apart : eqb (suc n) x ≡ false = ne-eqb (suc n) x (λ z. omega arith) in
     rw (apart, and-false b, or-false (p (suc n))) (omega (arith, count-gain n p x b v off)))
     (last n x w)
+
+-- one that passes counts
+pub count-one : (n : ℕ) (p : ℕ → Bool) (i : ℕ) → Within n i → p i ≡ true → 1 ≤ count n p
+unfolding count
+count-one zero p i w h = absurd (omega arith)
+count-one (suc n) p i w h = ⊎-elim
+    (λ (e : i ≡ suc n). let here : p (suc n) ≡ true = rw e at h in rw here (omega arith))
+    (λ (v : Within n i). omega (arith, count-one n p i v h))
+    (last n i w)

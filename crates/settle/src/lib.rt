@@ -1,17 +1,22 @@
 // The set that a call works on: P or R.
+use bools::both;
+use fields::Laid;
 use quorums::Kind;
 use rows::RowSet;
-use verdicts::Tally;
+use verdicts::Verdict;
 use verdicts::asked;
-use verdicts::list_of;
-use verdicts::tally_of;
+use verdicts::judged;
+use verdicts::quorum_held;
 ghost use mathlib.Core.Path.{_≡_};
-ghost use mathlib.Core.Bool.{true};
+ghost use mathlib.Core.Bool.{true, _&&_};
 ghost use Prim.Native.Nat.{_^_, _<_};
+ghost use lib.ListN.{take};
+ghost use Rattle.sets.specs.Upto.{some};
 ghost use Rattle.sets.specs.Sets.{has};
 ghost use Rattle.fields.specs.Layout.{usedOf};
 ghost use Rattle.table.specs.WellFormed.{wellFormed};
-ghost use Rattle.table.specs.Contracts.{Ordered};
+ghost use Rattle.table.specs.Contracts.{Listed, Ordered};
+ghost use Rattle.protocol.specs.Lists.{listQuorum};
 ghost use Rattle.settle.specs.Works.{Works};
 
 // The set that a call works on: the first no among questions 6 and 7 (0: none), its good rows and their version.
@@ -22,7 +27,7 @@ pub struct Settled {
     pub version: u32,
 }
 
-fn settled_on(rows: RowSet, refusal: u32, found: Tally) -> Settled
+fn settled_on(rows: RowSet, refusal: u32, found: Verdict) -> Settled
     ensures { λ r. ⌜ r ≡ record { rows = rows; refusal = refusal; good = found .good; version = found .version } ⌝ }
 {
     let good = found.good;
@@ -34,42 +39,64 @@ fn settled_on(rows: RowSet, refusal: u32, found: Tally) -> Settled
     }
 }
 
-// The set that a read or a write works on, found by one poll: P, the coordinator's own choice cut down to the rows that answered,
-// if questions 6 and 7 are yes for it; otherwise all of them. `order` starts with the used rows in chain order.
+// Questions 6 and 7 of a set that is current or not: are both yes? A quorum is counted only where it is not sure.
+fn passes(
+    kind: Kind,
+    order: &[u8; 64],
+    count: usize,
+    list: Laid,
+    s: RowSet,
+    current: bool,
+    sure: bool,
+) -> bool
+    requires { ⌜ Listed 64 (now order) count × (current ≡ true → sure ≡ true → (some 64 (has (s .bits)) && listQuorum kind (take count (now order)) list (has (s .bits))) ≡ true) ⌝ }
+    ensures { λ r. ⌜ r ≡ (current && (some 64 (has (s .bits)) && listQuorum kind (take count (now (order .entry))) list (has (s .bits)))) ⌝ }
+{
+    if !current {
+        return false;
+    }
+    if sure {
+        return true;
+    }
+    quorum_held(kind, order, count, list, s)
+}
+
+// The set that a read or a write works on: P, the coordinator's own choice cut down to the rows that answered, if questions 6 and 7
+// are yes for it; otherwise all of them. `order` starts with the used rows in chain order.
 pub fn settle(kind: Kind, t: &[u8], order: &[u8; 64], c: usize, answering: RowSet) -> Settled
     requires { ⌜ (wellFormed (now t) ≡ true) × Ordered (now t) (now order) × (answering .bits < 2 ^ usedOf (now t)) × (has (answering .bits) c ≡ true) ⌝ }
     ensures { λ r. ⌜ Works kind (now (t .entry)) c (answering .bits) r ⌝ }
 {
-    let poll = polls::gather(t, answering);
     let count = header::used(t);
     let row = table::row_of(t, c);
-    let own = RowSet {
-        bits: fields::members(row),
-    };
-    let tried = lists::choice(kind, order, count, own, fields::name(row)).cut(answering);
-    // read here, and not where the poll is gathered: so the compiler need not copy the poll
-    let stale = poll.stale;
-    let part = tally_of(stale, &poll.versions, &poll.desired, &poll.epochs, tried);
-    let leaders = part.leaders;
-    let no = asked(kind, order, count, list_of(t, leaders), tried, part.current);
-    if no == 0 {
-        return settled_on(tried, no, part);
-    }
-    let whole = tally_of(
-        stale,
-        &poll.versions,
-        &poll.desired,
-        &poll.epochs,
-        answering,
+    let own = fields::list(row);
+    let chosen = lists::choice(kind, order, count, own, fields::name(row));
+    let tried = chosen.cut(answering);
+    let part = judged(t, tried);
+    // a choice of which every row answered holds a quorum of the list that it was made over
+    let sure = both(
+        tried.bits == chosen.bits,
+        part.list.members == own.members,
     );
-    let latest = whole.leaders;
-    let all_no = asked(
+    if passes(
         kind,
         order,
         count,
-        list_of(t, latest),
+        part.list,
+        tried,
+        part.current,
+        sure,
+    ) {
+        return settled_on(tried, 0, part);
+    }
+    let whole = judged(t, answering);
+    let no = asked(
+        kind,
+        order,
+        count,
+        whole.list,
         answering,
         whole.current,
     );
-    settled_on(answering, all_no, whole)
+    settled_on(answering, no, whole)
 }

@@ -1,153 +1,169 @@
-use mathlib.Core.Bool.{true}
-use mathlib.Core.Path.{_≡_, refl, _∙_, ap}
-use Prim.Native.Nat.{ℕ, _≤_}
+use mathlib.Core.Bool.{Bool, true, false, cond, _&&_}
+use mathlib.Core.Path.{_≡_, refl, sym, _∙_, ap, ap₂}
+use mathlib.Core.List.{List}
+use Prim.Native.Nat.{ℕ, _^_, _<_}
 use native.Mathlib.Omega.{arith}
 use borrow.Author.Needs.{needs}
-use Rattle.settle.proofs.SettleLaws.{try-is, works-on-try, works-on-all}
-use Rattle.verdicts.proofs.ForceLaws.{gathered, leader-used, verdict-is}
-use Rattle.verdicts.specs.Tallied.{Gathered, Tallied}
-use Rattle.protocol.proofs.PollLaws.{cut-in}
+use borrow.Author.Tests.{eqb-true}
+use lib.Dec.{eqb}
+use lib.ListN.{take}
+use Rattle.settle.proofs.SettleLaws.{sure-held, try-in, works-on-try, works-on-all}
+use Rattle.verdicts.proofs.ForceLaws.{six-is, verdict-is}
 use Rattle.protocol.specs.Calls.{answers}
-use Rattle.protocol.specs.Polls.{ownTry}
-use Rattle.table.proofs.WellFormedLaws.{sized, long}
+use Rattle.protocol.specs.Polls.{polled, current, quorumHeld, ownTry}
+use Rattle.protocol.specs.Lists.{listChoice}
+use Rattle.table.proofs.WellFormedLaws.{sized, long, few-rows}
+use Rattle.table.proofs.ChainLaws.{listed-in}
+use Rattle.table.proofs.FormLaws.{formed}
+use Rattle.table.specs.Contracts.{Listed}
 use Rattle.table.specs.Chain.{orderOf}
-use Rattle.fields.specs.Layout.{get, name, members, usedOf, membersOf, nameOf}
-use Rattle.sets.proofs.SetLaws.{has-within}
-use Rattle.sets.specs.Sets.{has}
+use Rattle.fields.specs.declared.Laid.{Laid}
+use Rattle.fields.specs.Layout.{get, name, list, noList, usedOf, nameOf, listOf}
+use Rattle.fields.proofs.FieldLaws.{laid-same}
+use Rattle.bools.proofs.BoolLaws.{and-l, and-r}
+use Rattle.sets.proofs.SetLaws.{has-within, within-lt}
+use Rattle.sets.specs.Sets.{has, cutTo}
+use Rattle.sets.specs.Upto.{Within}
 use Rattle.settle.proofs.settle.Statement.{statement}
 use Rattle.settle.proofs.settle.Tie as tie
 
--- the chain order and the poll
-polled-here : (c : tie.After-used) → let a = c .before .before .before .args in
-    Gathered (a .t .now) (a .order .now) (c .used .result) (c .before .gather .result) (a .answering .bits)
-polled-here c =
-    let s = c .before .before .before in
-    let o = s .pre .1 in
-    gathered (s .pre .0) (s .pre .2) (rw (c .used .ensures) (o .listed)) (rw (c .used .ensures) (o .order)) (c .before .gather .ensures)
+-- the coordinator's row is a used one
+own-used : (c : tie.After-used) → let s = c .before .before in Within (usedOf (s .args .t .now)) (s .args .c)
+own-used c = let s = c .before .before in has-within (usedOf (s .args .t .now)) (s .args .answering .bits) (s .args .c) (s .pre .2) (s .pre .3)
+
+-- the chain order
+listed : (c : tie.After-used) → Listed 64 (c .before .before .args .order .now) (c .used .result)
+listed c = let s = c .before .before in listed-in (few-rows (sized (s .pre .0))) (rw (c .used .ensures) (s .pre .1 .listed))
+
+order-is : (c : tie.After-used) → take (c .used .result) (c .before .before .args .order .now) ≡ orderOf (c .before .before .args .t .now)
+order-is c = rw (c .used .ensures) (c .before .before .pre .1 .order)
+
+-- the coordinator's own list, and its choice
+own-is : (c : tie.After-list) → c .list .result ≡ listOf (c .before .before .before .before .args .t .now) (c .before .before .before .before .args .c)
+unfolding listOf
+own-is c = c .list .ensures ∙ ap list (c .before .row-of .ensures .0)
+
+chosen-is : (c : tie.After-choice) → let a = c .before .before .before .before .before .before .args in
+    has (c .choice .result .bits) ≡ listChoice (a .kind) (orderOf (a .t .now)) (listOf (a .t .now) (a .c)) (nameOf (a .t .now) (a .c))
+unfolding nameOf
+chosen-is c =
+    let a = c .before .before .before .before .before .before .args in
+    c .choice .ensures
+    ∙ ap₂ (λ (o : List ℕ) (l : Laid). listChoice (a .kind) o l (c .before .name .result)) (order-is (c .before .before .before .before)) (own-is (c .before .before))
+    ∙ ap (listChoice (a .kind) (orderOf (a .t .now)) (listOf (a .t .now) (a .c))) (c .before .name .ensures ∙ ap (get name) (c .before .before .before .row-of .ensures .0))
 
 -- P is tried first
-tried : (c : tie.After-cut) → let a = c .before .before .before .before .before .before .before .before .args in
+tried : (c : tie.After-cut) → let a = c .before .before .before .before .before .before .before .args in
     has (c .cut .result .bits) ≡ ownTry (a .kind) (orderOf (a .t .now)) (answers (a .t .now) (a .answering .bits)) (a .c) (nameOf (a .t .now) (a .c)) (has (a .answering .bits))
-unfolding membersOf nameOf
+unfolding ownTry answers polled
 tried c =
-    let r = c .before .before .before .before in
-    let s = r .before .before .before .before in
-    try-is (s .args .kind) _ _ _ _ (s .args .answering .bits) (s .args .c) (polled-here (r .before)) (s .pre .3) _ _ _ _
-    (c .before .before .before .members .ensures ∙ ap (get members) (r .row-of .ensures .0))
-    (c .before .before .name .ensures ∙ ap (get name) (r .row-of .ensures .0))
-    (c .before .choice .ensures)
-    (c .cut .ensures)
+    let s = c .before .before .before .before .before .before .before in
+    c .cut .ensures ∙ ap (λ (f : ℕ → Bool). cutTo f (has (s .args .answering .bits))) (chosen-is (c .before)
+    ∙ ap (λ (b : Bool). listChoice (s .args .kind) (orderOf (s .args .t .now)) (cond b (listOf (s .args .t .now) (s .args .c)) noList) (nameOf (s .args .t .now) (s .args .c))) (sym (s .pre .3)))
 
--- its rows answered
-answered : (c : tie.After-cut) (i : ℕ) → has (c .cut .result .bits) i ≡ true → has (c .before .before .before .before .before .before .before .before .args .answering .bits) i ≡ true
-answered c i h = cut-in (has (c .before .choice .result .bits)) (has (c .before .before .before .before .before .before .before .before .args .answering .bits)) i (rw (← c .cut .ensures) h)
-
--- what the poll says of it, and of all that answered
-found : (c : tie.After-tally-of) → let a = c .before .before .before .before .before .before .before .before .before .before .before .before .before .before .args in
-    Tallied (answers (a .t .now) (a .answering .bits)) (has (c .before .before .before .before .before .before .cut .result .bits)) (c .tally-of .result)
-found c = c .tally-of .ensures _ (polled-here (c .before .before .before .before .before .before .before .before .before .before .before) .poll)
-
-found-all : (c : tie.After-tally-of2) → let a = c .before .before .before .before .before .before .before .before .before .before .before .before .before .before .before .before .before .before .before .before .before .before .before .args in
-    Tallied (answers (a .t .now) (a .answering .bits)) (has (a .answering .bits)) (c .tally-of2 .result)
-found-all c = c .tally-of2 .ensures _ (polled-here (c .before .before .before .before .before .before .before .before .before .before .before .before .before .before .before .before .before .before .before .before) .poll)
-
-gather-requires : tie.Need-gather-requires
-gather-requires c κs = let s = c .before in (sized (s .pre .0), s .pre .2)
+-- its rows are used ones
+tried-used : (c : tie.After-cut) → c .cut .result .bits < 2 ^ usedOf (c .before .before .before .before .before .before .before .args .t .now)
+tried-used c =
+    let s = c .before .before .before .before .before .before .before in
+    within-lt (usedOf (s .args .t .now)) (c .cut .result .bits) (few-rows (sized (s .pre .0))) (omega arith)
+    (λ i m. has-within _ (s .args .answering .bits) i (s .pre .2) (try-in (s .args .kind) (s .args .t .now) (s .args .c) (s .args .answering .bits) (c .cut .result .bits) (tried c) i m))
 
 used-requires : tie.Need-used-requires
-used-requires c κs = long (sized (c .before .before .pre .0))
+used-requires c κs = long (sized (c .before .pre .0))
 
 row-of-requires : tie.Need-row-of-requires
-row-of-requires c κs =
-    let s = c .before .before .before in
-    (sized (s .pre .0), has-within (usedOf (s .args .t .now)) (s .args .answering .bits) (s .args .c) (s .pre .2) (s .pre .3))
+row-of-requires c κs = (sized (c .before .before .pre .0), own-used c)
 
-members-requires : tie.Need-members-requires
-members-requires c κs = search needs
+list-requires : tie.Need-list-requires
+list-requires c κs = search needs
 
 name-requires : tie.Need-name-requires
 name-requires c κs = search needs
 
 choice-requires : tie.Need-choice-requires
-choice-requires c κs = polled-here (c .before .before .before) .listed
+choice-requires c κs = listed (c .before .before .before)
 
 cut-requires : tie.Need-cut-requires
 cut-requires c κs = search needs
 
-tally-of-requires : tie.Need-tally-of-requires
-tally-of-requires c κs = search needs
+judged-requires : tie.Need-judged-requires
+judged-requires c κs = (sized (c .before .before .before .before .before .before .before .pre .0), tried-used c)
 
-list-of-requires : tie.Need-list-of-requires
-list-of-requires c κs =
-    let t = c .before in
-    let g = polled-here (t .before .before .before .before .before .before .before .before .before .before .before) in
-    (g .sized, leader-used g (answered (t .before .before .before .before .before .before)) (found t))
+both-requires : tie.Need-both-requires
+both-requires c κs = search needs
 
-asked-requires : tie.Need-asked-requires
-asked-requires c κs = polled-here (c .before .before .before .before .before .before .before .before .before .before .before .before .before) .listed
+-- where it is sure, P is the choice and the list in force is the coordinator's own
+passes-requires : tie.Need-passes-requires
+unfolding listOf list
+passes-requires c κs =
+    let j = c .before .before .before .before .before in
+    let s = c .before .before .before .before .before .before .before .before .before .before .before .before .before in
+    let t = s .args .t .now in
+    let p = j .before .cut .result .bits in (
+      listed (c .before .before .before .before .before .before .before .before .before .before .before),
+      λ k sure.
+          let b = sym (c .both .ensures) ∙ sure in
+          let whole : has p ≡ has (j .before .before .choice .result .bits) = ap has (eqb-true _ _ (and-l _ _ b)) in
+          let force : j .judged .result .list ≡ listOf t (s .args .c) = laid-same _ _ (eqb-true _ _ (and-r (eqb p (j .before .before .choice .result .bits)) _ b)) ∙ own-is (j .before .before .before .before) in
+          rw (order-is (c .before .before .before .before .before .before .before .before .before .before .before), force) (sure-held (s .args .kind) t p _ (listOf t (s .args .c)) (s .pre .0) (formed t (s .pre .0) .rows _ (own-used (c .before .before .before .before .before .before .before .before .before .before .before)) .only) (whole ∙ chosen-is (j .before .before)) (sym (j .judged .ensures .current) ∙ k)),
+    )
 
 settled-on-requires : tie.Need-settled-on-requires
 settled-on-requires c κs = search needs
 
+-- what was asked of P
+asked-is : (c : tie.After-passes) → let a = c .before .before .before .before .before .before .before .before .before .before .before .before .before .before .args in
+    let p = c .before .before .before .before .before .before .before .cut .result .bits in
+    c .passes .result ≡ (current (answers (a .t .now) p) (has p) && quorumHeld (a .kind) (orderOf (a .t .now)) (answers (a .t .now) p) (has p))
+asked-is c =
+    let j = c .before .before .before .before .before .before in
+    c .passes .ensures ∙ ap₂ _&&_ (j .judged .ensures .current) (six-is (c .before .before .before .before .before .before .before .before .before .before .before .before .before .before .args .t .now) (j .before .cut .result .bits) (c .before .before .before .before .before .before .before .before .before .before .before .before .before .before .args .kind) _ _ (order-is (c .before .before .before .before .before .before .before .before .before .before .before .before)) (j .judged .ensures))
+
 returns : tie.Need-returns
 returns c =
-    let a = c .before .before in
-    let t = a .before .before .before in
-    let s = t .before .before .before .before .before .before .before .before .before .before .before .before .before .before in
-    let g = polled-here (t .before .before .before .before .before .before .before .before .before .before .before) in
-    let no = verdict-is g (answered (t .before .before .before .before .before .before)) (found t) (s .args .kind) _ _ (a .before .list-of .ensures) (a .asked .ensures) in
-    let z : a .asked .result ≡ 0 = omega arith in
-    works-on-try (s .args .kind) _ _ _ _ (s .args .answering .bits) (s .args .c) g _ (tried (t .before .before .before .before .before .before)) _ no z _ _ (c .settled-on .ensures) (found t)
+    let q = c .before .before in
+    let j = q .before .before .before .before .before .before in
+    let s = q .before .before .before .before .before .before .before .before .before .before .before .before .before .before in
+    let yes = sym (asked-is q) ∙ c .before .if1 .taken in
+    works-on-try (s .args .kind) (s .args .t .now) (s .args .c) (s .args .answering .bits) (j .before .cut .result .bits) (tried (j .before)) _ (j .before .cut .result) _ refl (c .settled-on .ensures) (j .judged .ensures)
+    (and-r (current (answers (s .args .t .now) (j .before .cut .result .bits)) (has (j .before .cut .result .bits))) _ yes) (j .judged .ensures .current ∙ and-l _ _ yes)
 
-tally-of-requires-2 : tie.Need-tally-of-requires-2
-tally-of-requires-2 c κs = search needs
+judged-requires-2 : tie.Need-judged-requires-2
+judged-requires-2 c κs = let s = c .before .before .before .before .before .before .before .before .before .before .before .before .before .before .before in (sized (s .pre .0), s .pre .2)
 
-list-of-requires-2 : tie.Need-list-of-requires-2
-list-of-requires-2 c κs =
-    let t = c .before in
-    let g = polled-here (t .before .before .before .before .before .before .before .before .before .before .before .before .before .before .before .before .before .before .before .before) in
-    (g .sized, leader-used g (λ i h. h) (found-all t))
-
-asked-requires-2 : tie.Need-asked-requires-2
-asked-requires-2 c κs = polled-here (c .before .before .before .before .before .before .before .before .before .before .before .before .before .before .before .before .before .before .before .before .before .before) .listed
+asked-requires : tie.Need-asked-requires
+asked-requires c κs = listed (c .before .before .before .before .before .before .before .before .before .before .before .before .before .before)
 
 settled-on-requires-2 : tie.Need-settled-on-requires-2
 settled-on-requires-2 c κs = search needs
 
--- P is refused
-refused : (c : tie.Else1) → 1 ≤ c .before .asked .result
-refused c = omega arith
-
 returns-2 : tie.Need-returns-2
 returns-2 c =
-    let b = c .before in
-    let u = b .before .before .before in
-    let a = u .before .before .before .before .before .before in
-    let t = a .before .before .before in
-    let s = t .before .before .before .before .before .before .before .before .before .before .before .before .before .before in
-    let g = polled-here (t .before .before .before .before .before .before .before .before .before .before .before) in
-    let no = verdict-is g (answered (t .before .before .before .before .before .before)) (found t) (s .args .kind) _ _ (a .before .list-of .ensures) (a .asked .ensures) in
-    let all-no = verdict-is g (λ i h. h) (found-all u) (s .args .kind) _ _ (b .before .list-of2 .ensures) (b .asked2 .ensures) in
-    works-on-all (s .args .kind) _ _ _ _ (s .args .answering .bits) (s .args .c) g _ (tried (t .before .before .before .before .before .before)) _ no (refused (u .before .before .before .before .before)) _ _ _ _ refl (c .settled-on2 .ensures) (found-all u) all-no
+    let j = c .before .before in
+    let q = j .before .before in
+    let s = q .before .before .before .before .before .before .before .before .before .before .before .before .before .before in
+    let p = q .before .before .before .before .before .before .before in
+    let t = s .args .t .now in
+    let r = s .args .answering .bits in
+    works-on-all (s .args .kind) t (s .args .c) r (p .cut .result .bits) (tried p) (sym (asked-is q) ∙ j .before .if1 .left) _ _ (s .args .answering) _ refl (c .settled-on2 .ensures) (j .judged2 .ensures)
+    (verdict-is t r (s .args .kind) _ _ (order-is (q .before .before .before .before .before .before .before .before .before .before .before .before)) (j .judged2 .ensures) _ (c .before .asked .ensures))
 
 pub settle-spec : {M : Type 1} → statement M
 settle-spec =
     tie.close
     (tie.spec
-    gather-requires
     used-requires
     row-of-requires
-    members-requires
+    list-requires
     name-requires
     choice-requires
     cut-requires
-    tally-of-requires
-    list-of-requires
-    asked-requires
+    judged-requires
+    both-requires
+    passes-requires
     settled-on-requires
     returns
-    tally-of-requires-2
-    list-of-requires-2
-    asked-requires-2
+    judged-requires-2
+    asked-requires
     settled-on-requires-2
     returns-2)
