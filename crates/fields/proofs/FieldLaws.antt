@@ -1,12 +1,13 @@
--- Fields: what was stored is read back; other fields, the reserved bytes and the contents stay; the length stays.
+-- Fields: what was stored is read back; other fields, the reserved bytes and the contents stay; the length stays. And a row's length.
 use mathlib.Core.Path.{_≡_, sym, _∙_, ap}
 use mathlib.Core.Logic.{_⊎_, inl, inr}
 use mathlib.Core.List.{List}
-use Prim.Native.Nat.{ℕ, _+_, _-_, _^_, _≤_, _<_}
+use Prim.Native.Nat.{ℕ, _+_, _-_, _*_, _^_, _≤_, _<_}
+use native.Mathlib.Nat.{mul-le-mul}
 use native.Mathlib.Omega.{arith}
 use lib.ListN.{length, drop}
 use Rattle.bytes.specs.Bytes.{number, bytesOf, part, put}
-use Rattle.fields.specs.Layout.{Field, get, store, reserved, contents, storeContents}
+use Rattle.fields.specs.Layout.{Field, get, store, reserved, contents, storeContents, bodyLength, stride, fileLengthOf, rowLength}
 use Rattle.bytes.proofs.ByteLaws.{length-bytes, number-bytes, length-put, part-put, part-apart, drop-put-after, drop-put-before}
 
 -- the bytes of f end by place n
@@ -73,3 +74,21 @@ module _ (offset : ℕ) (p xs : List ℕ) (h : 32 + offset + length p ≤ length
   contents-contents =
       let n : 32 + offset - 32 ≡ offset = omega arith in
       drop-put-before xs (32 + offset) p h 32 (omega arith) ∙ ap (λ (n : ℕ). put n p (drop 32 xs)) n
+
+-- ---- a row's length: no call's proof opens it
+-- the longest row
+abbrev pub widest : ℕ
+widest = 4_128
+
+pub stride-most : {file : ℕ} → file ≤ 4_096 → stride file ≤ widest
+unfolding stride bodyLength
+stride-most h = omega arith
+
+-- no product of the code is large
+pub rows-small : {k file : ℕ} → k ≤ 64 → file ≤ 4_096 → k * stride file ≤ 64 * widest
+rows-small few h = mul-le-mul few (stride-most h)
+
+-- a row has room for its 32 bytes and the contents
+pub contents-room : (t : List ℕ) → 32 + fileLengthOf t ≤ rowLength t
+unfolding rowLength stride bodyLength
+contents-room t = omega arith

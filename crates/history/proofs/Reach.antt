@@ -15,7 +15,7 @@ use Rattle.sets.proofs.UptoLaws.{every-at, every-of, some-at, some-of}
 use Rattle.sets.proofs.SetLaws.{has-within}
 use Rattle.quorums.specs.declared.Kind.the-variants.{Write}
 use Rattle.bytes.proofs.ByteLaws.{length-put}
-use Rattle.fields.specs.Layout.{usedOf, fileLengthOf}
+use Rattle.fields.specs.Layout.{bodyLength, stride, usedOf, fileLengthOf}
 use Rattle.table.specs.Chain.{orderOf}
 use Rattle.table.specs.WellFormed.{between, limit, onlyRows}
 use Rattle.table.proofs.FormLaws.{well-formed-of}
@@ -109,9 +109,12 @@ module _ (b : Book) (L : Lone b) where
 unfoldable alone : Founding
 alone = record { capacity = 1; fileLength = 1; names = 10 ∷ 0 ∷ [] }
 
-founds : outcome (zeros 49) (founding alone) .refusal ≡ 0
-unfolding alone zeros questions firstNo namesIn namesRising between
-founds = refusal-is (zeros 49) (founding alone)
+blank : List ℕ
+blank = zeros (16 + stride 1)
+
+founds : outcome blank (founding alone) .refusal ≡ 0
+unfolding alone blank stride bodyLength zeros questions firstNo namesIn namesRising between
+founds = refusal-is blank (founding alone)
 
 first : Lone (opened alone)
 unfolding alone opened namesIn zeros hasAll every
@@ -134,11 +137,11 @@ many (suc m) t b e S L h =
 pub limit-reached : LimitReached
 unfolding LimitReached again opened
 limit-reached n h =
-    let r = many n (outcome (zeros 49) (founding alone) .table) (opened alone) 0 (opens (zeros 49) alone founds) first (omega arith) in
+    let r = many n (outcome blank (founding alone) .table) (opened alone) 0 (opens blank alone founds) first (omega arith) in
     record {
       table = _;
       book = _;
-      reached = after (zeros 49) alone (replicate n (write again)) founds;
+      reached = after blank alone (replicate n (write again)) founds;
       writes = r .0 ∙ omega arith;
       call = write again;
       rows = 1;

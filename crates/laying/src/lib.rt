@@ -6,7 +6,7 @@ ghost use Prim.Native.Nat.{_+_, _*_, _≤_};
 ghost use lib.Dec.{eqb};
 ghost use lib.ListN.{length};
 ghost use Rattle.sets.specs.Upto.{Within};
-ghost use Rattle.fields.specs.Layout.{store, name, link, members};
+ghost use Rattle.fields.specs.Layout.{store, name, link, members, stride};
 ghost use Rattle.protocol.specs.Calls.{namesIn, founded};
 
 // The row behind row i in the chain of the rows 1 to n: 0 behind the last.
@@ -29,7 +29,7 @@ fn found_row(row: &mut [u8], x: u16, next: u8, list: u64)
 
 // A table of so many rows for a file of so many bytes, with the named rows in it.
 pub fn lay_table(t: &mut [u8], capacity: usize, file: usize, names: &[u8])
-    requires { ⌜ (length (now t) ≡ 16 + capacity * (32 + file)) × Within 4_096 file × (capacity ≤ 64) × (length (now names) ≡ 2 * length (namesIn (now names))) × Within capacity (length (namesIn (now names))) ⌝ }
+    requires { ⌜ (length (now t) ≡ 16 + capacity * stride file) × Within 4_096 file × (capacity ≤ 64) × (length (now names) ≡ 2 * length (namesIn (now names))) × Within capacity (length (namesIn (now names))) ⌝ }
     ensures { λ r. ⌜ now (t .exit) ≡ founded capacity file (namesIn (now (names .entry))) ⌝ }
 {
     let n = names.len() / 2;

@@ -12,11 +12,11 @@ use lib.Seq.{drop-drop, take-all, getD-drop, paste, paste-zero, paste-suc}
 use Rattle.sets.specs.Upto.{Within}
 use Rattle.bytes.specs.Bytes.{part, put}
 use Rattle.blocks.specs.Blocks.{withBlock}
-use Rattle.fields.specs.Layout.{get, store, mark, version, desired, contents, storeContents, usedOf, fileLengthOf, rowLength, rowsEnd, rowBytes}
+use Rattle.fields.specs.Layout.{get, store, mark, version, desired, contents, storeContents, bodyLength, stride, usedOf, fileLengthOf, rowLength, rowsEnd, rowBytes}
 use Rattle.table.specs.Contracts.{Sized}
 use Rattle.bytes.proofs.ByteLaws.{length-part, part-part, length-put, put-before, put-after, part-apart, put-put}
 use Rattle.bytes.proofs.CodeLaws.{part-back, part-is, part-length}
-use Rattle.table.proofs.WellFormedLaws.{row-length, row-in, row-part, length-row}
+use Rattle.table.proofs.WellFormedLaws.{row-in, row-part, length-row}
 use Rattle.protocol.specs.Rows.{refreshedRow, withRow}
 use Rattle.protocol.proofs.TableLaws.{end-le}
 
@@ -45,12 +45,17 @@ module _ (d : List ℕ) (from to n : ℕ) (hf : from + n ≤ length d) (ht : to 
       side (inr q) = put-after d to (part from j d) (omega (arith, long)) (from + j) 0 (omega (arith, long))
 
 -- ---- a refresh: the fields of row `to` stored, then the contents of row `from` copied
+-- the contents are all that stands behind a row's 32 bytes
+contents-last : (t : List ℕ) → rowLength t ≡ 32 + fileLengthOf t
+unfolding rowLength stride bodyLength
+contents-last t = refl
+
 module _ {t : List ℕ} (s : Sized t) where
   row-ends : (i : ℕ) → Within (usedOf t) i → rowsEnd t i ≡ rowsEnd t (i - 1) + (32 + fileLengthOf t)
   unfolding rowsEnd
   row-ends i w =
       let e : suc (i - 1) ≡ i = omega arith in
-      omega (arith, row-length t, suc-mul (i - 1) (rowLength t), ap (λ (m : ℕ). m * rowLength t) e)
+      omega (arith, contents-last t, suc-mul (i - 1) (rowLength t), ap (λ (m : ℕ). m * rowLength t) e)
 
   pub file-below : (i : ℕ) → Within (usedOf t) i → fileLengthOf t ≤ rowsEnd t i
   file-below i w = omega (arith, row-ends i w)
@@ -77,7 +82,7 @@ module _ {t : List ℕ} {from to at size file source target : ℕ} (p : Places t
   target-fits = omega (arith, p .e-at, p .e-size, row-in (p .table) to (p .target-row))
 
   pub target-long : 32 ≤ length (take ((at + size) - at) (drop at t))
-  target-long = omega (arith, part-length at size t target-fits, p .e-size, row-length t)
+  target-long = omega (arith, part-length at size t target-fits, p .e-size, contents-last t)
 
   module _ (new : List ℕ) (kept : length new ≡ length (take ((at + size) - at) (drop at t))) where
     u : List ℕ
@@ -104,29 +109,29 @@ module _ {t : List ℕ} {from to at size file source target : ℕ} (p : Places t
       where
         go : Dec (from < to) → (source + file ≤ at) ⊎ (at + size ≤ source)
         go (yes q) = inl (omega (arith, row-ends (p .table) from (p .source-row), end-le t from (to - 1) (omega arith)))
-        go (no q) = inr (omega (arith, source-at, row-ends (p .table) to (p .target-row), row-length t, end-le t to (from - 1) (omega arith)))
+        go (no q) = inr (omega (arith, source-at, row-ends (p .table) to (p .target-row), contents-last t, end-le t to (from - 1) (omega arith)))
 
     pub copy-fits : (source + file ≤ length (take at t ++ (new ++ drop ((at + size) - at) (drop at t)))) × (target + file ≤ length (take at t ++ (new ++ drop ((at + size) - at) (drop at t))))
         × ((source + file ≤ target) ⊎ (target + file ≤ source))
     unfolding u
     copy-fits =
         let long : length (take at t ++ (new ++ drop ((at + size) - at) (drop at t))) ≡ length t = ap length stored ∙ length-put t at new room in
-        (omega (arith, long, source-at, row-in (p .table) from (p .source-row), row-length t), omega (arith, long, target-at, target-fits, row-length t), side apart)
+        (omega (arith, long, source-at, row-in (p .table) from (p .source-row), contents-last t), omega (arith, long, target-at, target-fits, contents-last t), side apart)
       where
         side : (source + file ≤ at) ⊎ (at + size ≤ source) → (source + file ≤ target) ⊎ (target + file ≤ source)
         side (inl q) = inl (omega (arith, target-at))
-        side (inr q) = inr (omega (arith, target-at, row-length t))
+        side (inr q) = inr (omega (arith, target-at, contents-last t))
 
     whole : part 32 file (rowBytes t from) ≡ drop 32 (rowBytes t from)
     unfolding part
-    whole = take-all file (drop 32 (rowBytes t from)) (omega (arith, length-drop 32 (rowBytes t from), length-row (p .table) from (p .source-row), row-length t))
+    whole = take-all file (drop 32 (rowBytes t from)) (omega (arith, length-drop 32 (rowBytes t from), length-row (p .table) from (p .source-row), contents-last t))
 
     bytes : part source file (put at new t) ≡ contents (rowBytes t from)
     unfolding contents
     bytes =
         part-apart t at new room source file (side apart)
         ∙ ap (λ (a : ℕ). part a file t) source-at
-        ∙ sym (part-part (rowsEnd t (from - 1)) (rowLength t) 32 file t (omega (arith, row-length t)))
+        ∙ sym (part-part (rowsEnd t (from - 1)) (rowLength t) 32 file t (omega (arith, contents-last t)))
         ∙ ap (part 32 file) (sym (row-part (p .table) from (p .source-row))) ∙ whole
       where
         side : (source + file ≤ at) ⊎ (at + size ≤ source) → (source + file ≤ at) ⊎ (at + length new ≤ source)
@@ -135,7 +140,7 @@ module _ {t : List ℕ} {from to at size file source target : ℕ} (p : Places t
 
     contents-long : length (contents (rowBytes t from)) ≡ fileLengthOf t
     unfolding contents
-    contents-long = length-drop 32 (rowBytes t from) ∙ omega (arith, length-row (p .table) from (p .source-row), row-length t)
+    contents-long = length-drop 32 (rowBytes t from) ∙ omega (arith, length-row (p .table) from (p .source-row), contents-last t)
 
     pub refreshed : (v : ℕ) → v ≡ get version (rowBytes t from) → new ≡ store desired 0 (store version v (store mark 0 (take ((at + size) - at) (drop at t))))
         → (last : List ℕ) → last ≡ put target (part source file (take at t ++ (new ++ drop ((at + size) - at) (drop at t)))) (take at t ++ (new ++ drop ((at + size) - at) (drop at t)))
@@ -144,7 +149,7 @@ module _ {t : List ℕ} {from to at size file source target : ℕ} (p : Places t
     refreshed v e-v made last copied =
         copied ∙ ap (λ (w : List ℕ). put target (part source file w) w) stored
         ∙ ap₂ (λ (n : ℕ) (x : List ℕ). put n x (put at new t)) target-at bytes
-        ∙ put-put at 32 (contents (rowBytes t from)) new t (omega (arith, contents-long, width, p .e-size, row-length t)) room
+        ∙ put-put at 32 (contents (rowBytes t from)) new t (omega (arith, contents-long, width, p .e-size, contents-last t)) room
         ∙ ap₂ (λ (a : ℕ) (r : List ℕ). put a (put 32 (contents (rowBytes t from)) r) t) (p .e-at) fields
         ∙ sym (with-row (p .table) to (p .target-row) (refreshedRow (rowBytes t from)))
       where

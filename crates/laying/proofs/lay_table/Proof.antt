@@ -3,6 +3,7 @@ use Prim.Native.Nat.{ℕ, _+_, _-_, _*_, _/_, _^_, _≤_}
 use native.Mathlib.Omega.{arith}
 use borrow.Author.Needs.{needs}
 use lib.ListN.{length}
+use Rattle.fields.specs.Layout.{bodyLength, stride}
 use Rattle.laying.proofs.LaidLaws.{Laid, none-laid, all-laid, Turn, laid-fits, lent-zeros, laid-long, laid-turn, all-rows}
 use Rattle.laying.proofs.NameLaws.{name-at}
 use Rattle.protocol.proofs.FoundedLaws.{length-zeros}
@@ -11,7 +12,7 @@ use Rattle.laying.proofs.lay_table.Statement.{statement}
 use Rattle.laying.proofs.lay_table.Tie as tie
 
 abbrev Inv-loop : tie.InvT-loop
-Inv-loop t₀ capacity file names n list size at₀ i₀ t at i = (i ≤ n) × (length t ≡ length t₀) × Laid capacity n file (namesIn names) i at t
+Inv-loop t₀ capacity file names n list size at₀ i₀ t at i = (i ≤ n) × (length t ≡ length t₀) × Laid capacity n file (bodyLength file) (namesIn names) i at t
 
 abbrev μ-loop : tie.MeasureT-loop
 μ-loop t₀ capacity file names n list size at₀ i₀ t at i = n - i
@@ -27,7 +28,8 @@ list-is c =
     all-rows (length (s .args .names .now) / 2) (c .first .result .bits) (omega (arith, s .pre .2, s .pre .3, s .pre .4)) (omega arith) (c .first .ensures)
 
 turn : (l : tie.In-loop Inv-loop μ-loop) → let a = l .before .before .before .before .before .before .before .before .before .before .before .before .before .before .args in
-    Turn (a .capacity) (length (a .names .now) / 2) (a .file) (namesIn (a .names .now)) (l .before .loop .i) (l .before .loop .at) (l .before .before .before .before .before .before .before .before .before .before .row-size .result) (l .before .loop .t)
+    Turn (a .capacity) (length (a .names .now) / 2) (a .file) (bodyLength (a .file)) (namesIn (a .names .now)) (l .before .loop .i) (l .before .loop .at) (l .before .before .before .before .before .before .before .before .before .before .row-size .result) (l .before .loop .t)
+unfolding stride
 turn l =
     let p = l .before .before .before .before .before .before .before .before .before .before .before .before .before .before .pre in
     record { room = p .4 .1; below = omega (arith, l .loop-test .taken, p .3); wide = l .before .before .before .before .before .before .before .before .before .before .row-size .ensures; laid = l .before .loop .inv .2 }
@@ -60,11 +62,12 @@ set-header-requires : tie.Need-set-header-requires Inv-loop μ-loop
 set-header-requires c κs = omega (arith, c .before .before .before .fill .kept .0, c .before .before .before .before .before .before .before .before .before .pre .0)
 
 loop-holds : tie.Need-loop-holds Inv-loop μ-loop
+unfolding stride
 loop-holds c =
     let s = c .before .before .before .before .before .before .before .before .before .before .before .before in (
       omega arith,
       refl,
-      none-laid _ _ _ _ _ (s .args .t .now) _ _ (omega (arith, rows-long (c .before .before .before .before .before .before .before .before))) (s .pre .0) (s .pre .2) (omega (arith, s .pre .2, s .pre .3, s .pre .4)) (c .before .before .before .before .before .before .fill .ensures) (c .before .before .set-header .ensures),
+      none-laid _ _ _ _ _ _ (s .args .t .now) _ _ (omega (arith, rows-long (c .before .before .before .before .before .before .before .before))) (s .pre .0) (s .pre .2) (omega (arith, s .pre .2, s .pre .3, s .pre .4)) (c .before .before .before .before .before .before .fill .ensures) (c .before .before .set-header .ensures),
     )
 
 mul-u16-at : tie.Need-mul-u16-at Inv-loop μ-loop
@@ -94,7 +97,7 @@ next-row-requires c κs = let s = c .before .before .before .before .before .bef
 found-row-requires : tie.Need-found-row-requires Inv-loop μ-loop
 found-row-requires c κs =
     let l = c .before .before .before in
-    omega (arith, ap length (lent-zeros (turn l)), length-zeros (32 + l .before .before .before .before .before .before .before .before .before .before .before .before .before .before .args .file))
+    omega (arith, ap length (lent-zeros (turn l)), length-zeros (32 + bodyLength (l .before .before .before .before .before .before .before .before .before .before .before .before .before .before .args .file)))
 
 add-at : tie.Need-add-at Inv-loop μ-loop
 add-at c = omega (arith, laid-fits (turn (c .before .before .before .before .before .before)))
