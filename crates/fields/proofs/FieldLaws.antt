@@ -5,7 +5,8 @@ use mathlib.Core.List.{List}
 use Prim.Native.Nat.{ℕ, _+_, _-_, _*_, _^_, _≤_, _<_}
 use native.Mathlib.Nat.{mul-le-mul}
 use native.Mathlib.Omega.{arith}
-use lib.ListN.{length, drop}
+use lib.ListN.{length, drop, length-drop}
+use lib.Seq.{take-all}
 use Rattle.bytes.specs.Bytes.{number, bytesOf, part, put}
 use Rattle.fields.specs.Layout.{Field, get, store, reserved, contents, storeContents, bodyLength, stride, fileLengthOf, rowLength}
 use Rattle.bytes.proofs.ByteLaws.{length-bytes, number-bytes, length-put, part-put, part-apart, drop-put-after, drop-put-before}
@@ -75,7 +76,7 @@ module _ (offset : ℕ) (p xs : List ℕ) (h : 32 + offset + length p ≤ length
       let n : 32 + offset - 32 ≡ offset = omega arith in
       drop-put-before xs (32 + offset) p h 32 (omega arith) ∙ ap (λ (n : ℕ). put n p (drop 32 xs)) n
 
--- ---- a row's length: no call's proof opens it
+-- ---- a row's length and what it has room for: no other law opens a row's body
 -- the longest row
 abbrev pub widest : ℕ
 widest = 4_128
@@ -88,7 +89,15 @@ stride-most h = omega arith
 pub rows-small : {k file : ℕ} → k ≤ 64 → file ≤ 4_096 → k * stride file ≤ 64 * widest
 rows-small few h = mul-le-mul few (stride-most h)
 
--- a row has room for its 32 bytes and the contents
+pub body-room : (file : ℕ) → file ≤ bodyLength file
+unfolding bodyLength
+body-room file = omega arith
+
 pub contents-room : (t : List ℕ) → 32 + fileLengthOf t ≤ rowLength t
-unfolding rowLength stride bodyLength
-contents-room t = omega arith
+unfolding rowLength stride
+contents-room t = omega (arith, body-room (fileLengthOf t))
+
+-- the contents are as long as the file
+pub contents-part : (row : List ℕ) (file : ℕ) → length row ≡ stride file → contents row ≡ part 32 file row
+unfolding contents part stride bodyLength
+contents-part row file e = sym (take-all file (drop 32 row) (omega (arith, length-drop 32 row)))

@@ -22,6 +22,7 @@ use Rattle.fields.specs.Layout.{get, form, formValue, capacity, used, first, fi
 use Rattle.table.specs.Chain.{chain, orderOf, among, risesFrom}
 use Rattle.table.specs.WellFormed.{between, limit, headerValues, lengthRight, visitsEach, namesRise, unusedZero}
 use Rattle.bytes.proofs.ByteLaws.{length-bytes, number-bytes}
+use Rattle.fields.proofs.FieldLaws.{body-room, contents-part}
 use Rattle.table.proofs.FormLaws.{between-is, is-between, RowFacts, Formed}
 use Rattle.protocol.specs.Calls
 use Rattle.asking.specs.Asking.{firstNo}
@@ -60,6 +61,12 @@ pub zeros-zero : (n : ℕ) → allZero (Calls.zeros n) ≡ true
 unfolding allZero Calls.zeros
 zeros-zero zero = refl
 zeros-zero (suc n) = zeros-zero n
+
+first-zeros : (m n : ℕ) → m ≤ n → take m (Calls.zeros n) ≡ Calls.zeros m
+unfolding Calls.zeros
+first-zeros zero n h = refl
+first-zeros (suc m) zero h = absurd (not-suc-le-zero h)
+first-zeros (suc m) (suc n) h = ap (λ (l : List ℕ). 0 ∷ l) (first-zeros m n (le-of-suc-le-suc h))
 
 pub length-header : (c n file : ℕ) → length (Calls.foundedHeader c n file) ≡ 16
 unfolding Calls.foundedHeader Calls.zeros bytesOf
@@ -227,8 +234,8 @@ module _ (a : Calls.Founding) (f : Founds a) where
     spare-zero = refl
 
     pub row-contents : contents (Calls.foundedRow (length names) body i x) ≡ Calls.zeros file
-    unfolding Calls.foundedRow contents Calls.zeros bytesOf bodyLength
-    row-contents = refl
+    unfolding Calls.foundedRow part Calls.zeros bytesOf stride
+    row-contents = contents-part (Calls.foundedRow (length names) body i x) file (length-row (length names) body i x) ∙ first-zeros file body (body-room file)
 
     row-facts : RowFacts (length names) i (Calls.foundedRow (length names) body i x)
     unfolding limit
