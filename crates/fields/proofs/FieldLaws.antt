@@ -81,7 +81,7 @@ module _ (offset : ℕ) (p xs : List ℕ) (h : 32 + offset + length p ≤ length
 abbrev pub widest : ℕ
 widest = 4_128
 
-pub stride-most : {file : ℕ} → file ≤ 4_096 → stride file ≤ widest
+stride-most : {file : ℕ} → file ≤ 4_096 → stride file ≤ widest
 unfolding stride bodyLength
 stride-most h = omega arith
 

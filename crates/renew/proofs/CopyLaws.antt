@@ -46,7 +46,7 @@ module _ (d : List ℕ) (from to n : ℕ) (hf : from + n ≤ length d) (ht : to 
       side (inr q) = put-after d to (part from j d) (omega (arith, long)) (from + j) 0 (omega (arith, long))
 
 -- ---- a refresh: the fields of row `to` stored, then the contents of row `from` copied
-module _ {t : List ℕ} (s : Sized t) where
+module _ (t : List ℕ) where
   row-ends : (i : ℕ) → Within (usedOf t) i → rowsEnd t i ≡ rowsEnd t (i - 1) + rowLength t
   unfolding rowsEnd
   row-ends i w =
@@ -97,8 +97,8 @@ module _ {t : List ℕ} {from to at size file source : ℕ} (p : Places t from t
     apart = go (decLt from to)
       where
         go : Dec (from < to) → (source + file ≤ at) ⊎ (at + size ≤ source)
-        go (yes q) = inl (omega (arith, contents-fit, row-ends (p .table) from (p .source-row), end-le t from (to - 1) (omega arith)))
-        go (no q) = inr (omega (arith, row-ends (p .table) to (p .target-row), end-le t to (from - 1) (omega arith)))
+        go (yes q) = inl (omega (arith, contents-fit, row-ends t from (p .source-row), end-le t from (to - 1) (omega arith)))
+        go (no q) = inr (omega (arith, row-ends t to (p .target-row), end-le t to (from - 1) (omega arith)))
 
     pub copy-fits : (source + file ≤ length (take at t ++ (new ++ drop ((at + size) - at) (drop at t)))) × (at + 32 + file ≤ length (take at t ++ (new ++ drop ((at + size) - at) (drop at t))))
         × ((source + file ≤ at + 32) ⊎ (at + 32 + file ≤ source))
@@ -138,7 +138,7 @@ module _ {t : List ℕ} {from to at size file source : ℕ} (p : Places t from t
         ∙ ap (λ (x : List ℕ). put (at + 32) x (put at new t)) bytes
         ∙ put-put at 32 (contents (rowBytes t from)) new t (omega (arith, contents-long, width, contents-fit)) room
         ∙ ap₂ (λ (a : ℕ) (r : List ℕ). put a (put 32 (contents (rowBytes t from)) r) t) (p .e-at) fields
-        ∙ sym (with-row (p .table) to (p .target-row) (refreshedRow (rowBytes t from)))
+        ∙ sym (with-row t to (p .target-row) (refreshedRow (rowBytes t from)))
       where
         fields : new ≡ store desired 0 (store version (get version (rowBytes t from)) (store mark 0 (rowBytes t to)))
         fields =
