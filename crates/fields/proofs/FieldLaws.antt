@@ -1,14 +1,16 @@
--- Fields: what was stored is read back; other fields, the reserved bytes and the contents stay; the length stays.
+-- Fields: what was stored is read back; other fields, the reserved bytes and the contents stay; the length stays. And a row's length.
 use mathlib.Core.Path.{_≡_, refl, sym, _∙_, ap}
 use mathlib.Core.Logic.{_⊎_, inl, inr}
 use mathlib.Core.List.{List}
-use Prim.Native.Nat.{ℕ, _+_, _-_, _^_, _≤_, _<_}
+use Prim.Native.Nat.{ℕ, _+_, _-_, _*_, _^_, _≤_, _<_}
+use native.Mathlib.Nat.{mul-le-mul}
 use native.Mathlib.Omega.{arith}
-use lib.ListN.{length, drop}
+use lib.ListN.{length, drop, length-drop}
+use lib.Seq.{take-all}
 use Rattle.bytes.specs.Bytes.{number, bytesOf, part, put}
 use Rattle.fields.specs.declared.Laid.{Laid}
 use Rattle.blocks.specs.Blocks.{block}
-use Rattle.fields.specs.Layout.{Field, get, store, members, list, noList, rowBytes, listOf, reserved, contents, storeContents}
+use Rattle.fields.specs.Layout.{Field, get, store, members, list, noList, rowBytes, listOf, reserved, contents, storeContents, bodyLength, stride, fileLengthOf, rowLength}
 use Rattle.bytes.proofs.ByteLaws.{length-bytes, number-bytes, length-put, part-put, part-apart, drop-put-after, drop-put-before}
 
 -- the bytes of f end by place n
@@ -75,6 +77,32 @@ module _ (offset : ℕ) (p xs : List ℕ) (h : 32 + offset + length p ≤ length
   contents-contents =
       let n : 32 + offset - 32 ≡ offset = omega arith in
       drop-put-before xs (32 + offset) p h 32 (omega arith) ∙ ap (λ (n : ℕ). put n p (drop 32 xs)) n
+
+-- ---- a row's length and what it has room for: no other law opens a row's body
+-- the longest row
+abbrev pub widest : ℕ
+widest = 4_128
+
+stride-most : {file : ℕ} → file ≤ 4_096 → stride file ≤ widest
+unfolding stride bodyLength
+stride-most h = omega arith
+
+-- no product of the code is large
+pub rows-small : {k file : ℕ} → k ≤ 64 → file ≤ 4_096 → k * stride file ≤ 64 * widest
+rows-small few h = mul-le-mul few (stride-most h)
+
+pub body-room : (file : ℕ) → file ≤ bodyLength file
+unfolding bodyLength
+body-room file = omega arith
+
+pub contents-room : (t : List ℕ) → 32 + fileLengthOf t ≤ rowLength t
+unfolding rowLength stride
+contents-room t = omega (arith, body-room (fileLengthOf t))
+
+-- the contents are as long as the file
+pub contents-part : (row : List ℕ) (file : ℕ) → length row ≡ stride file → contents row ≡ part 32 file row
+unfolding contents part stride bodyLength
+contents-part row file e = sym (take-all file (drop 32 row) (omega (arith, length-drop 32 row)))
 
 -- ---- lists
 laid : ℕ → Laid

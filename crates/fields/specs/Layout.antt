@@ -23,6 +23,10 @@ store f v xs = put (f .place) (bytesOf (f .width) v) xs
 unfoldable pub form : Field
 form = record { place = 0; width = 1 }
 
+-- "byte 0 form, always 1"
+unfoldable pub formValue : ℕ
+formValue = 1
+
 unfoldable pub capacity : Field
 capacity = record { place = 1; width = 1 }
 
@@ -78,19 +82,15 @@ contents row = drop 32 row
 unfoldable pub storeContents : ℕ → List ℕ → List ℕ → List ℕ
 storeContents offset p row = put (32 + offset) p row
 
--- "Then each row takes 32 + L bytes", row 1 first
-unfoldable pub rowLength : List ℕ → ℕ
-rowLength t = 32 + get fileLength t
+-- a row's body, all that stands behind its 32 bytes: the contents
+unfoldable pub bodyLength : ℕ → ℕ
+bodyLength fileLength = fileLength
 
--- where the rows behind row k start
-unfoldable pub rowsEnd : List ℕ → ℕ → ℕ
-rowsEnd t k = 16 + k * rowLength t
+-- "Then each row takes 32 + L bytes": a row's length from the file's
+unfoldable pub stride : ℕ → ℕ
+stride fileLength = 32 + bodyLength fileLength
 
--- "Rows have indexes 1 upward": row i's bytes; there is no row 0
-unfoldable pub rowBytes : List ℕ → ℕ → List ℕ
-rowBytes t i = block 16 (rowLength t) i t
-
--- ---- what a table says: its header, and its row i
+-- ---- what a table says: its header
 unfoldable pub capacityOf : List ℕ → ℕ
 capacityOf t = get capacity t
 
@@ -103,6 +103,19 @@ firstOf t = get first t
 unfoldable pub fileLengthOf : List ℕ → ℕ
 fileLengthOf t = get fileLength t
 
+-- ---- where its rows stand, row 1 first
+unfoldable pub rowLength : List ℕ → ℕ
+rowLength t = stride (fileLengthOf t)
+
+-- where the rows behind row k start
+unfoldable pub rowsEnd : List ℕ → ℕ → ℕ
+rowsEnd t k = 16 + k * rowLength t
+
+-- "Rows have indexes 1 upward": row i's bytes; there is no row 0
+unfoldable pub rowBytes : List ℕ → ℕ → List ℕ
+rowBytes t i = block 16 (rowLength t) i t
+
+-- ---- what a table says: its row i
 unfoldable pub nameOf : List ℕ → ℕ → ℕ
 nameOf t i = get name (rowBytes t i)
 

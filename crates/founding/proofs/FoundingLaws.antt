@@ -10,6 +10,7 @@ use lib.Seq.{drop-cons, drop-length}
 use borrow.Author.Tests.{le-leb, eqb-true}
 use Rattle.sets.specs.Upto.{Within}
 use Rattle.bools.proofs.BoolLaws.{and-l, and-r, and-assoc}
+use Rattle.fields.specs.Layout.{stride}
 use Rattle.table.specs.WellFormed.{between}
 use Rattle.asking.specs.Asking.{firstNo}
 use Rattle.protocol.specs.Calls.{Founding, Outcome, founding, questions, namesIn, namesRising, founded, done, outcome, resultOf}
@@ -42,7 +43,7 @@ module _ (t : List ℕ) (a : Founding) where
   NamesRight = eqb (length (a .names) % 2) 0 && between 1 (length (namesIn (a .names))) 64 && namesRising 0 (namesIn (a .names))
 
   abbrev pub SizesRight : Bool
-  SizesRight = between 1 (a .capacity) 64 && leb (length (namesIn (a .names))) (a .capacity) && between 1 (a .fileLength) 4_096 && eqb (length t) (16 + a .capacity * (32 + a .fileLength))
+  SizesRight = between 1 (a .capacity) 64 && leb (length (namesIn (a .names))) (a .capacity) && between 1 (a .fileLength) 4_096 && eqb (length t) (16 + a .capacity * stride (a .fileLength))
 
   pub found-answers : (x y : Bool) → NamesRight ≡ x → SizesRight ≡ y → cond x (cond y 0 12) 11 ≡ firstNo (questions t (founding a))
   unfolding questions firstNo
@@ -56,10 +57,10 @@ module _ (t : List ℕ) (a : Founding) where
     all-yes : firstNo (questions t (founding a)) ≡ 0
     all-yes = sym (found-answers true true eleven twelve)
 
-    pub found-fits : (length t ≡ 16 + a .capacity * (32 + a .fileLength)) × Within 4_096 (a .fileLength) × (a .capacity ≤ 64) × (length (a .names) ≡ 2 * length (namesIn (a .names))) × Within (a .capacity) (length (namesIn (a .names)))
+    pub found-fits : (length t ≡ 16 + a .capacity * stride (a .fileLength)) × Within 4_096 (a .fileLength) × (a .capacity ≤ 64) × (length (a .names) ≡ 2 * length (namesIn (a .names))) × Within (a .capacity) (length (namesIn (a .names)))
     found-fits =
         let f = founds-of t a all-yes in (
-          eqb-true (length t) (16 + a .capacity * (32 + a .fileLength)) (and-r (between 1 (a .capacity) 64 && leb (length (namesIn (a .names))) (a .capacity) && between 1 (a .fileLength) 4_096) _ twelve),
+          eqb-true (length t) (16 + a .capacity * stride (a .fileLength)) (and-r (between 1 (a .capacity) 64 && leb (length (namesIn (a .names))) (a .capacity) && between 1 (a .fileLength) 4_096) _ twelve),
           f .bytes,
           f .most,
           two-each eleven,

@@ -7,6 +7,7 @@ ghost use mathlib.Core.Bool.{_&&_};
 ghost use Prim.Native.Nat.{_+_, _*_, _%_};
 ghost use lib.Dec.{eqb, leb};
 ghost use lib.ListN.{length};
+ghost use Rattle.fields.specs.Layout.{stride};
 ghost use Rattle.table.specs.WellFormed.{between};
 ghost use Rattle.protocol.specs.Calls.{founding, namesIn, namesRising, resultOf, outcome};
 
@@ -43,7 +44,7 @@ fn names_right(names: &[u8]) -> bool
 
 // Question 12: is there a row for each of n names, and is the table as long as it must be?
 fn sizes_right(bytes: usize, capacity: usize, file: usize, n: usize) -> bool
-    ensures { λ r. ⌜ r ≡ (between 1 capacity 64 && leb n capacity && between 1 file 4_096 && eqb bytes (16 + capacity * (32 + file))) ⌝ }
+    ensures { λ r. ⌜ r ≡ (between 1 capacity 64 && leb n capacity && between 1 file 4_096 && eqb bytes (16 + capacity * stride file)) ⌝ }
 {
     let seated = both(between(1, capacity, 64), n <= capacity);
     if !both(seated, between(1, file, 4_096)) {

@@ -2,9 +2,12 @@
 ghost use mathlib.Core.Path.{_≡_};
 ghost use Prim.Native.Nat.{_≤_};
 ghost use lib.ListN.{length};
-ghost use Rattle.fields.specs.Layout.{get, store, form, capacity, used, first, fileLength, capacityOf, usedOf, firstOf, fileLengthOf};
+ghost use Rattle.fields.specs.Layout.{get, store, form, formValue, capacity, used, first, fileLength, capacityOf, usedOf, firstOf, fileLengthOf};
 
 pub const HEADER: usize = 16;
+
+// the form of every table
+pub const FORM: u8 = 1;
 
 const FORM_AT: usize = 0;
 
@@ -57,9 +60,9 @@ pub fn file_length(t: &[u8]) -> usize
 // The header of a table whose chain starts at row 1.
 pub fn set_header(t: &mut [u8], rows: u8, n: u8, file: u16)
     requires { ⌜ 16 ≤ length (now t) ⌝ }
-    ensures { λ r. ⌜ now (t .exit) ≡ store fileLength file (store first 1 (store used n (store capacity rows (store form 1 (now (t .entry)))))) ⌝ }
+    ensures { λ r. ⌜ now (t .exit) ≡ store fileLength file (store first 1 (store used n (store capacity rows (store form formValue (now (t .entry)))))) ⌝ }
 {
-    bytes::store_at(t, FORM_AT, 1, 1);
+    bytes::store_at(t, FORM_AT, 1, FORM as u64);
     bytes::store_at(t, CAPACITY_AT, 1, rows as u64);
     bytes::store_at(t, USED_AT, 1, n as u64);
     bytes::store_at(t, FIRST_AT, 1, 1);

@@ -2,7 +2,7 @@
 use mathlib.Core.Path.{_≡_, refl, sym, _∙_, ap, subst}
 use mathlib.Core.Bool.{Bool, true, false, cond, _&&_, _||_}
 use mathlib.Core.List.{List, [], _∷_}
-use Prim.Native.Nat.{ℕ, zero, suc, _+_, _-_, _<_, _≤_}
+use Prim.Native.Nat.{ℕ, zero, suc, _+_, _-_, _*_, _<_, _≤_}
 use native.Mathlib.Decide.{ℕ-discrete}
 use native.Mathlib.Omega.{arith}
 use lib.Dec.{eqb}
@@ -15,7 +15,7 @@ use Rattle.sets.proofs.UptoLaws.{every-at, every-of, some-at, some-of}
 use Rattle.sets.proofs.SetLaws.{has-within}
 use Rattle.quorums.specs.declared.Kind.the-variants.{Write}
 use Rattle.bytes.proofs.ByteLaws.{length-put}
-use Rattle.fields.specs.Layout.{usedOf, fileLengthOf}
+use Rattle.fields.specs.Layout.{stride, usedOf, fileLengthOf}
 use Rattle.table.specs.Chain.{orderOf}
 use Rattle.table.specs.WellFormed.{between, limit, onlyRows}
 use Rattle.table.proofs.FormLaws.{well-formed-of}
@@ -25,6 +25,7 @@ use Rattle.asking.specs.Asking.{firstNo, before}
 use Rattle.protocol.specs.Calls.{Founding, Writing, founding, write, isUsed, inFile, byCoordinator, questions, outcome, answers, workSet, namesIn, namesRising, zeros}
 use Rattle.protocol.proofs.ListLaws.{one-holds}
 use Rattle.protocol.proofs.PollLaws.{cut-in}
+use Rattle.protocol.proofs.FoundedLaws.{length-zeros}
 use Rattle.protocol.proofs.QuestionLaws.{refusal-is, ByCoordinator}
 use Rattle.history.specs.Book.{Book, opened, order, nameIn, hasAll, holdsQuorum, someHasAll, writeSet, written, entered}
 use Rattle.history.specs.Claims.{tableAfter, bookAfter, after, aWrite, LimitReached}
@@ -109,9 +110,12 @@ module _ (b : Book) (L : Lone b) where
 unfoldable alone : Founding
 alone = record { capacity = 1; fileLength = 1; names = 10 ∷ 0 ∷ [] }
 
-founds : outcome (zeros 49) (founding alone) .refusal ≡ 0
-unfolding alone zeros questions firstNo namesIn namesRising between
-founds = refusal-is (zeros 49) (founding alone)
+blank : List ℕ
+blank = zeros (16 + stride 1)
+
+founds : outcome blank (founding alone) .refusal ≡ 0
+unfolding alone blank questions firstNo namesIn namesRising between
+founds = refusal-is blank (founding alone) ∙ rw (eq-eqb (length (zeros (16 + stride 1))) (16 + 1 * stride 1) (length-zeros (16 + stride 1) ∙ omega arith))
 
 first : Lone (opened alone)
 unfolding alone opened namesIn zeros hasAll every
@@ -134,11 +138,11 @@ many (suc m) t b e S L h =
 pub limit-reached : LimitReached
 unfolding LimitReached again opened
 limit-reached n h =
-    let r = many n (outcome (zeros 49) (founding alone) .table) (opened alone) 0 (opens (zeros 49) alone founds) first (omega arith) in
+    let r = many n (outcome blank (founding alone) .table) (opened alone) 0 (opens blank alone founds) first (omega arith) in
     record {
       table = _;
       book = _;
-      reached = after (zeros 49) alone (replicate n (write again)) founds;
+      reached = after blank alone (replicate n (write again)) founds;
       writes = r .0 ∙ omega arith;
       call = write again;
       rows = 1;

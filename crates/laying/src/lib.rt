@@ -1,4 +1,5 @@
 // A new table laid out.
+use fields::Laid;
 use rows::RowSet;
 ghost use mathlib.Core.Path.{_≡_};
 ghost use mathlib.Core.Bool.{cond};
@@ -6,7 +7,7 @@ ghost use Prim.Native.Nat.{_+_, _*_, _≤_};
 ghost use lib.Dec.{eqb};
 ghost use lib.ListN.{length};
 ghost use Rattle.sets.specs.Upto.{Within};
-ghost use Rattle.fields.specs.Layout.{store, name, link, members};
+ghost use Rattle.fields.specs.Layout.{store, storeList, name, link, stride};
 ghost use Rattle.protocol.specs.Calls.{namesIn, founded};
 
 // The row behind row i in the chain of the rows 1 to n: 0 behind the last.
@@ -18,22 +19,22 @@ fn next_row(i: usize, n: usize) -> u8
 }
 
 // A row gets its name, the next row and the list.
-fn found_row(row: &mut [u8], x: u16, next: u8, list: u64)
+fn found_row(row: &mut [u8], x: u16, next: u8, list: Laid)
     requires { ⌜ 32 ≤ length (now row) ⌝ }
-    ensures { λ r. ⌜ now (row .exit) ≡ store members list (store link next (store name x (now (row .entry)))) ⌝ }
+    ensures { λ r. ⌜ now (row .exit) ≡ storeList list (store link next (store name x (now (row .entry)))) ⌝ }
 {
     fields::set_name(row, x);
     fields::set_link(row, next);
-    fields::set_members(row, list);
+    fields::set_list(row, list);
 }
 
 // A table of so many rows for a file of so many bytes, with the named rows in it.
 pub fn lay_table(t: &mut [u8], capacity: usize, file: usize, names: &[u8])
-    requires { ⌜ (length (now t) ≡ 16 + capacity * (32 + file)) × Within 4_096 file × (capacity ≤ 64) × (length (now names) ≡ 2 * length (namesIn (now names))) × Within capacity (length (namesIn (now names))) ⌝ }
+    requires { ⌜ (length (now t) ≡ 16 + capacity * stride file) × Within 4_096 file × (capacity ≤ 64) × (length (now names) ≡ 2 * length (namesIn (now names))) × Within capacity (length (namesIn (now names))) ⌝ }
     ensures { λ r. ⌜ now (t .exit) ≡ founded capacity file (namesIn (now (names .entry))) ⌝ }
 {
     let n = names.len() / 2;
-    let list = RowSet::first(n);
+    let list = lists::laid_now(RowSet::first(n));
     let size = table::row_size(file);
     // the rows stand behind the header, up to the end
     let mut at = t.len() - capacity * size;
@@ -43,7 +44,7 @@ pub fn lay_table(t: &mut [u8], capacity: usize, file: usize, names: &[u8])
     while i < n {
         let x = bytes::u16_at(names, 2 * i);
         i += 1;
-        found_row(&mut t[at..at + size], x, next_row(i, n), list.bits);
+        found_row(&mut t[at..at + size], x, next_row(i, n), list);
         at += size;
     }
 }

@@ -13,9 +13,10 @@ use Rattle.sets.specs.Upto.{Within}
 use Rattle.sets.specs.Sets.{has}
 use Rattle.quorums.specs.declared.Kind.the-variants.{Write}
 use Rattle.bytes.specs.Bytes.{put}
-use Rattle.fields.specs.Layout.{get, name, link, contents, rowLength, rowBytes, usedOf, fileLengthOf, nameOf, epochOf, versionOf, contentsOf}
+use Rattle.fields.specs.Layout.{get, name, link, contents, rowLength, rowBytes, usedOf, nameOf, epochOf, versionOf, contentsOf}
 use Rattle.table.specs.Chain.{orderOf}
 use Rattle.table.specs.WellFormed.{limit}
+use Rattle.fields.proofs.FieldLaws.{contents-room}
 use Rattle.table.proofs.FormLaws.{RowFacts, Formed, formed, header-facts, rows-room}
 use Rattle.protocol.specs.Polls.{Poll, polled, highestEpoch, goodVersion, good}
 use Rattle.protocol.specs.Lists.{laidNow}
@@ -29,12 +30,11 @@ use Rattle.protocol.proofs.QuestionLaws.{ByCoordinator, answered-used, 
 
 -- rows of a well-formed table are long enough for their head
 module _ (t : List ℕ) (w : Formed t) where
-  pub row-length : (i : ℕ) → Within (usedOf t) i → length (rowBytes t i) ≡ 32 + fileLengthOf t
-  unfolding rowLength fileLengthOf
+  pub row-length : (i : ℕ) → Within (usedOf t) i → length (rowBytes t i) ≡ rowLength t
   row-length i u = row-long t (usedOf t) (rows-room t w) i u
 
   long-row : (i : ℕ) → Within (usedOf t) i → 32 ≤ length (rowBytes t i)
-  long-row i u = omega (arith, row-length i u)
+  long-row i u = omega (arith, row-length i u, contents-room t)
 
 -- what a poll of R says of a set within R is within the limit
 module _ (t : List ℕ) (c r : ℕ) (B : ByCoordinator t c r) (s : ℕ → Bool) (sub : (i : ℕ) → s i ≡ true → has r i ≡ true) where
@@ -107,11 +107,11 @@ module _ (t : List ℕ) (a : Writing) (y : WriteYes t a) where
       (cond b (changed (fieldsOf (rowBytes t i)) 4 v) (changed (changed (fieldsOf (rowBytes t i)) 3 1) 5 v))
       (cond b (put (a .offset) (a .patch) (contents (rowBytes t i))) (contents (rowBytes t i)))
   unfolding wroteRow
-  wrote i u true e = rw e (patched-row (rowBytes t i) (long-row t w i u) v (a .offset) (a .patch) v-fits (omega (arith, row-length t w i u, y .range)))
+  wrote i u true e = rw e (patched-row (rowBytes t i) (long-row t w i u) v (a .offset) (a .patch) v-fits (omega (arith, row-length t w i u, contents-room t, y .range)))
   wrote i u false e = rw e (marked-row (rowBytes t i) (long-row t w i u) v v-fits)
 
   write-changed : Changed t writeTable (usedOf t) s (wroteRow (good p s) v (a .offset) (a .patch))
-  unfolding writeTable s p v rowLength fileLengthOf
+  unfolding writeTable s p v
   write-changed = many-rows t s (wroteRow (good p s) v (a .offset) (a .patch)) (usedOf t) (rows-room t w) (λ i u m. wrote i u (good p s i) refl .long ∙ row-length t w i u)
 
   pub write-rows : Changed t writeTable (usedOf t) (workSet Write t (a .c) (a .r))
@@ -153,10 +153,10 @@ module _ (t : List ℕ) (a : Sending) (y : SendYes t a) where
       (row-length t sw (a .f) (y .from-used) ∙ sym (row-length t sw (a .t) (y .to-used)))
 
   pub send-changed : Changed t sendTable (usedOf t) (eqb (a .t)) (λ i. refreshedRow (rowBytes t (a .f)))
-  unfolding sendTable rowLength fileLengthOf
+  unfolding sendTable
   send-changed = go (a .t) (y .to-used) (refreshed .long ∙ row-length t sw (a .t) (y .to-used))
     where
-      go : (i : ℕ) → Within (usedOf t) i → length (refreshedRow (rowBytes t (a .f)) (rowBytes t i)) ≡ 32 + fileLengthOf t
+      go : (i : ℕ) → Within (usedOf t) i → length (refreshedRow (rowBytes t (a .f)) (rowBytes t i)) ≡ rowLength t
           → Changed t (withRow t i (refreshedRow (rowBytes t (a .f)))) (usedOf t) (eqb i) (λ i. refreshedRow (rowBytes t (a .f)))
       go zero u l = absurd (omega arith)
       go (suc k) u l = one-row t (usedOf t) k (rows-room t sw) (omega arith) (refreshedRow (rowBytes t (a .f))) l
@@ -208,7 +208,7 @@ module _ (t : List ℕ) (a : Checking) (y : CheckYes t a) (room : highestEpoch (
   enrolled i u false e = rw e (then-enrolled (rowBytes t i) (long-row t cw i u) ce (laidNow (a .r)) (omega arith) list-fits (marked-row (rowBytes t i) (long-row t cw i u) cv (omega (arith, check-version))))
 
   check-changed : Changed t checkTable (usedOf t) (has (a .r)) (checkedRow cg cv ce (laidNow (a .r)))
-  unfolding checkTable cg cv ce rowLength fileLengthOf
+  unfolding checkTable cg cv ce
   check-changed = many-rows t (has (a .r)) (checkedRow cg cv ce (laidNow (a .r))) (usedOf t) (rows-room t cw) (λ i u m. enrolled i u (cg i) refl .long ∙ row-length t cw i u)
 
   pub check-rows : Changed t checkTable (usedOf t) (has (a .r))

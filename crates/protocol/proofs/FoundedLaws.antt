@@ -18,11 +18,11 @@ use Rattle.sets.proofs.UptoLaws.{every-of}
 use Rattle.sets.proofs.SetLaws.{has-all}
 use Rattle.bytes.specs.Bytes.{number, bytesOf, part, allZero}
 use Rattle.blocks.specs.Blocks.{block}
-use Rattle.fields.specs.Layout.{get, form, capacity, used, first, fileLength, name, link, mark, version, desired, epoch, members, list, reserved, contents, rowLength, rowsEnd, rowBytes, capacityOf, usedOf, firstOf, fileLengthOf, nameOf, linkOf}
+use Rattle.fields.specs.Layout.{get, form, formValue, capacity, used, first, fileLength, name, link, mark, version, desired, epoch, members, list, reserved, contents, bodyLength, stride, rowLength, rowsEnd, rowBytes, capacityOf, usedOf, firstOf, fileLengthOf, nameOf, linkOf}
 use Rattle.table.specs.Chain.{chain, orderOf, among, risesFrom}
 use Rattle.table.specs.WellFormed.{between, limit, headerValues, lengthRight, visitsEach, namesRise, unusedZero}
 use Rattle.bytes.proofs.ByteLaws.{length-bytes, number-bytes}
-use Rattle.fields.proofs.FieldLaws.{list-is}
+use Rattle.fields.proofs.FieldLaws.{body-room, contents-part, list-is}
 use Rattle.table.proofs.FormLaws.{between-is, is-between, RowFacts, Formed}
 use Rattle.protocol.specs.Lists.{laidNow}
 use Rattle.protocol.specs.Calls
@@ -41,7 +41,7 @@ pub founds-of : (t : List ℕ) (a : Calls.Founding) → firstNo (Calls.questions
 unfolding Calls.questions
 founds-of t a h =
     let x = yes-first 10 (eqb (length (a .names) % 2) 0 && between 1 (length (Calls.namesIn (a .names))) 64 && Calls.namesRising 0 (Calls.namesIn (a .names))) _ h in
-    let b = yes-first 11 (between 1 (a .capacity) 64 && leb (length (Calls.namesIn (a .names))) (a .capacity) && between 1 (a .fileLength) 4_096 && eqb (length t) (16 + a .capacity * (32 + a .fileLength))) _ (x .1) in
+    let b = yes-first 11 (between 1 (a .capacity) 64 && leb (length (Calls.namesIn (a .names))) (a .capacity) && between 1 (a .fileLength) 4_096 && eqb (length t) (16 + a .capacity * stride (a .fileLength))) _ (x .1) in
     let a1 = and-l (eqb (length (a .names) % 2) 0 && between 1 (length (Calls.namesIn (a .names))) 64) _ (x .0) in
     let b1 = and-l (between 1 (a .capacity) 64 && leb (length (Calls.namesIn (a .names))) (a .capacity) && between 1 (a .fileLength) 4_096) _ (b .0) in
     let b2 = and-l (between 1 (a .capacity) 64 && leb (length (Calls.namesIn (a .names))) (a .capacity)) _ b1 in
@@ -63,39 +63,45 @@ unfolding allZero Calls.zeros
 zeros-zero zero = refl
 zeros-zero (suc n) = zeros-zero n
 
+first-zeros : (m n : ℕ) → m ≤ n → take m (Calls.zeros n) ≡ Calls.zeros m
+unfolding Calls.zeros
+first-zeros zero n h = refl
+first-zeros (suc m) zero h = absurd (not-suc-le-zero h)
+first-zeros (suc m) (suc n) h = ap (λ (l : List ℕ). 0 ∷ l) (first-zeros m n (le-of-suc-le-suc h))
+
 pub length-header : (c n file : ℕ) → length (Calls.foundedHeader c n file) ≡ 16
 unfolding Calls.foundedHeader Calls.zeros bytesOf
 length-header c n file = refl
 
-length-row : (n file i x : ℕ) → length (Calls.foundedRow n file i x) ≡ 32 + file
+length-row : (n body i x : ℕ) → length (Calls.foundedRow n body i x) ≡ 32 + body
 unfolding Calls.foundedRow
-length-row n file i x = simp (length-append, length-bytes, length-zeros) (omega arith)
+length-row n body i x = simp (length-append, length-bytes, length-zeros) (omega arith)
 
-pub length-rows : (n file i : ℕ) (l : List ℕ) → length (Calls.foundedRows n file i l) ≡ length l * (32 + file)
+pub length-rows : (n body i : ℕ) (l : List ℕ) → length (Calls.foundedRows n body i l) ≡ length l * (32 + body)
 unfolding Calls.foundedRows
-length-rows n file i [] = sym (zero-mul (32 + file))
-length-rows n file i (x ∷ l) =
-    length-append (Calls.foundedRow n file i x) _ ∙ ap₂ (λ (a b : ℕ). a + b) (length-row n file i x) (length-rows n file (suc i) l) ∙ omega (arith, suc-mul (length l) (32 + file))
+length-rows n body i [] = sym (zero-mul (32 + body))
+length-rows n body i (x ∷ l) =
+    length-append (Calls.foundedRow n body i x) _ ∙ ap₂ (λ (a b : ℕ). a + b) (length-row n body i x) (length-rows n body (suc i) l) ∙ omega (arith, suc-mul (length l) (32 + body))
 
 -- the rows one after another: row i + k
-rows-at : (n file : ℕ) (l : List ℕ) (i k : ℕ) (tail : List ℕ) → k < length l
-    → part (k * (32 + file)) (32 + file) (Calls.foundedRows n file i l ++ tail) ≡ Calls.foundedRow n file (i + k) (getD l k 0)
+rows-at : (n body : ℕ) (l : List ℕ) (i k : ℕ) (tail : List ℕ) → k < length l
+    → part (k * (32 + body)) (32 + body) (Calls.foundedRows n body i l ++ tail) ≡ Calls.foundedRow n body (i + k) (getD l k 0)
 unfolding Calls.foundedRows part
-rows-at n file [] i k tail h = absurd (not-suc-le-zero h)
-rows-at n file (x ∷ l) i zero tail h =
-    let z : 0 * (32 + file) ≡ 0 = zero-mul (32 + file) in
+rows-at n body [] i k tail h = absurd (not-suc-le-zero h)
+rows-at n body (x ∷ l) i zero tail h =
+    let z : 0 * (32 + body) ≡ 0 = zero-mul (32 + body) in
     let q : i + 0 ≡ i = omega arith in
-    rw (z, q, append-assoc (Calls.foundedRow n file i x) (Calls.foundedRows n file (suc i) l) tail) (take-at (Calls.foundedRow n file i x) _ (32 + file) (length-row n file i x))
-rows-at n file (x ∷ l) i (suc k) tail h =
-    let z : suc k * (32 + file) ≡ (32 + file) + k * (32 + file) = omega (arith, suc-mul k (32 + file)) in
+    rw (z, q, append-assoc (Calls.foundedRow n body i x) (Calls.foundedRows n body (suc i) l) tail) (take-at (Calls.foundedRow n body i x) _ (32 + body) (length-row n body i x))
+rows-at n body (x ∷ l) i (suc k) tail h =
+    let z : suc k * (32 + body) ≡ (32 + body) + k * (32 + body) = omega (arith, suc-mul k (32 + body)) in
     let q : suc i + k ≡ i + suc k = omega arith in
     rw (
       z,
-      ← (drop-drop (k * (32 + file)) (32 + file) ((Calls.foundedRow n file i x ++ Calls.foundedRows n file (suc i) l) ++ tail)),
-      append-assoc (Calls.foundedRow n file i x) (Calls.foundedRows n file (suc i) l) tail,
-      drop-at (Calls.foundedRow n file i x) (Calls.foundedRows n file (suc i) l ++ tail) (32 + file) (length-row n file i x),
+      ← (drop-drop (k * (32 + body)) (32 + body) ((Calls.foundedRow n body i x ++ Calls.foundedRows n body (suc i) l) ++ tail)),
+      append-assoc (Calls.foundedRow n body i x) (Calls.foundedRows n body (suc i) l) tail,
+      drop-at (Calls.foundedRow n body i x) (Calls.foundedRows n body (suc i) l ++ tail) (32 + body) (length-row n body i x),
     )
-    (rows-at n file l (suc i) k tail (le-of-suc-le-suc h) ∙ ap (λ (j : ℕ). Calls.foundedRow n file j (getD l k 0)) q)
+    (rows-at n body l (suc i) k tail (le-of-suc-le-suc h) ∙ ap (λ (j : ℕ). Calls.foundedRow n body j (getD l k 0)) q)
 
 module _ (a : Calls.Founding) (f : Founds a) where
   abbrev c : ℕ
@@ -103,6 +109,9 @@ module _ (a : Calls.Founding) (f : Founds a) where
 
   abbrev file : ℕ
   file = a .fileLength
+
+  abbrev body : ℕ
+  body = bodyLength (a .fileLength)
 
   abbrev names : List ℕ
   names = Calls.namesIn (a .names)
@@ -114,10 +123,10 @@ module _ (a : Calls.Founding) (f : Founds a) where
   t = Calls.founded c file names
 
   tail : List ℕ
-  tail = Calls.zeros ((c - length names) * (32 + file))
+  tail = Calls.zeros ((c - length names) * stride file)
 
   rows : List ℕ
-  rows = Calls.foundedRows (length names) file 1 names
+  rows = Calls.foundedRows (length names) body 1 names
 
   after-header : drop 16 t ≡ rows ++ tail
   unfolding t rows tail Calls.founded n
@@ -140,37 +149,37 @@ module _ (a : Calls.Founding) (f : Founds a) where
   unfolding Calls.founded Calls.foundedHeader fileLengthOf get fileLength part Calls.zeros bytesOf
   founded-file = number-bytes 2 file (omega (arith, f .bytes))
 
-  header-form : get form (Calls.founded c file names) ≡ 1
-  unfolding Calls.founded Calls.foundedHeader get form part number bytesOf Calls.zeros
+  header-form : get form (Calls.founded c file names) ≡ formValue
+  unfolding Calls.founded Calls.foundedHeader get form formValue part number bytesOf Calls.zeros
   header-form = refl
 
   header-rest : allZero (part 6 10 (Calls.founded c file names)) ≡ true
   unfolding Calls.founded Calls.foundedHeader part allZero bytesOf Calls.zeros
   header-rest = refl
 
-  founded-bytes : length (Calls.founded c file names) ≡ 16 + c * (32 + file)
-  unfolding Calls.founded
+  founded-bytes : length (Calls.founded c file names) ≡ 16 + c * stride file
+  unfolding Calls.founded stride
   founded-bytes = simp (length-append, length-header, length-rows, length-zeros) (omega (arith, f .room, split))
     where
-      split : length names * (32 + file) + (c - length names) * (32 + file) ≡ c * (32 + file)
-      split = sym (add-mul (length names) (c - length names) (32 + file)) ∙ ap (λ (x : ℕ). x * (32 + file)) (omega (arith, f .room))
+      split : length names * stride file + (c - length names) * stride file ≡ c * stride file
+      split = sym (add-mul (length names) (c - length names) (stride file)) ∙ ap (λ (x : ℕ). x * stride file) (omega (arith, f .room))
 
-  founded-length : rowLength (Calls.founded c file names) ≡ 32 + file
-  unfolding rowLength fileLengthOf
-  founded-length = ap (λ (x : ℕ). 32 + x) founded-file
+  founded-length : rowLength (Calls.founded c file names) ≡ stride file
+  unfolding rowLength
+  founded-length = ap stride founded-file
 
-  founded-end : (k : ℕ) → rowsEnd (Calls.founded c file names) k ≡ 16 + k * (32 + file)
+  founded-end : (k : ℕ) → rowsEnd (Calls.founded c file names) k ≡ 16 + k * stride file
   unfolding rowsEnd
   founded-end k = ap (λ (w : ℕ). 16 + k * w) founded-length
 
   -- ---- the rows
-  pub founded-row : (k : ℕ) → k < length names → rowBytes (Calls.founded c file names) (suc k) ≡ Calls.foundedRow (length names) file (suc k) (getD names k 0)
-  unfolding rowBytes block part t rows tail
+  pub founded-row : (k : ℕ) → k < length names → rowBytes (Calls.founded c file names) (suc k) ≡ Calls.foundedRow (length names) body (suc k) (getD names k 0)
+  unfolding rowBytes block part t rows tail stride
   founded-row k h =
       ap (λ (m : ℕ). take m (drop (16 + k * m) (Calls.founded c file names))) founded-length
-      ∙ ap (take (32 + file)) (sym (drop-drop (k * (32 + file)) 16 (Calls.founded c file names)) ∙ ap (drop (k * (32 + file))) after-header)
-      ∙ rows-at (length names) file names 1 k (Calls.zeros ((c - length names) * (32 + file))) h
-      ∙ ap (λ (j : ℕ). Calls.foundedRow (length names) file j (getD names k 0)) (one-add k)
+      ∙ ap (take (stride file)) (sym (drop-drop (k * stride file) 16 (Calls.founded c file names)) ∙ ap (drop (k * stride file)) after-header)
+      ∙ rows-at (length names) body names 1 k (Calls.zeros ((c - length names) * stride file)) h
+      ∙ ap (λ (j : ℕ). Calls.foundedRow (length names) body j (getD names k 0)) (one-add k)
 
   -- each name is one of 1 to 65,535
   named : (a : ℕ) (l : List ℕ) → Calls.namesRising a l ≡ true → (k : ℕ) → k < length l → Within 65_535 (getD l k 0)
@@ -191,49 +200,49 @@ module _ (a : Calls.Founding) (f : Founds a) where
   -- ---- one row's fields
   module _ (i x : ℕ) (w : Within (length names) i) (h : Within 65_535 x) where
     row : List ℕ
-    row = Calls.foundedRow (length names) file i x
+    row = Calls.foundedRow (length names) body i x
 
-    row-name : get name (Calls.foundedRow (length names) file i x) ≡ x
+    row-name : get name (Calls.foundedRow (length names) body i x) ≡ x
     unfolding Calls.foundedRow get name part Calls.zeros bytesOf
     row-name = number-bytes 2 x (omega arith)
 
-    row-link : get link (Calls.foundedRow (length names) file i x) ≡ cond (eqb i (length names)) 0 (i + 1)
+    row-link : get link (Calls.foundedRow (length names) body i x) ≡ cond (eqb i (length names)) 0 (i + 1)
     unfolding Calls.foundedRow get link part number Calls.zeros bytesOf
     row-link = omega arith
 
-    row-members : get members (Calls.foundedRow (length names) file i x) ≡ 2 ^ length names - 1
+    row-members : get members (Calls.foundedRow (length names) body i x) ≡ 2 ^ length names - 1
     unfolding Calls.foundedRow laidNow get members part Calls.zeros bytesOf
     row-members = number-bytes 8 (2 ^ length names - 1) list-fits
 
-    pub row-list : list (Calls.foundedRow (length names) file i x) ≡ laidNow (2 ^ length names - 1)
+    pub row-list : list (Calls.foundedRow (length names) body i x) ≡ laidNow (2 ^ length names - 1)
     unfolding laidNow
     row-list = list-is _ _ row-members
 
-    pub zero-mark : get mark (Calls.foundedRow (length names) file i x) ≡ 0
+    pub zero-mark : get mark (Calls.foundedRow (length names) body i x) ≡ 0
     unfolding Calls.foundedRow get mark part number Calls.zeros bytesOf
     zero-mark = refl
 
-    pub zero-version : get version (Calls.foundedRow (length names) file i x) ≡ 0
+    pub zero-version : get version (Calls.foundedRow (length names) body i x) ≡ 0
     unfolding Calls.foundedRow get version part number Calls.zeros bytesOf
     zero-version = refl
 
-    pub zero-desired : get desired (Calls.foundedRow (length names) file i x) ≡ 0
+    pub zero-desired : get desired (Calls.foundedRow (length names) body i x) ≡ 0
     unfolding Calls.foundedRow get desired part number Calls.zeros bytesOf
     zero-desired = refl
 
-    pub zero-epoch : get epoch (Calls.foundedRow (length names) file i x) ≡ 0
+    pub zero-epoch : get epoch (Calls.foundedRow (length names) body i x) ≡ 0
     unfolding Calls.foundedRow get epoch part number Calls.zeros bytesOf
     zero-epoch = refl
 
-    spare-zero : allZero (reserved (Calls.foundedRow (length names) file i x)) ≡ true
+    spare-zero : allZero (reserved (Calls.foundedRow (length names) body i x)) ≡ true
     unfolding Calls.foundedRow reserved part allZero Calls.zeros bytesOf
     spare-zero = refl
 
-    pub row-contents : contents (Calls.foundedRow (length names) file i x) ≡ Calls.zeros file
-    unfolding Calls.foundedRow contents Calls.zeros bytesOf
-    row-contents = refl
+    pub row-contents : contents (Calls.foundedRow (length names) body i x) ≡ Calls.zeros file
+    unfolding Calls.foundedRow part Calls.zeros bytesOf stride
+    row-contents = contents-part (Calls.foundedRow (length names) body i x) file (length-row (length names) body i x) ∙ first-zeros file body (body-room file)
 
-    row-facts : RowFacts (length names) i (Calls.foundedRow (length names) file i x)
+    row-facts : RowFacts (length names) i (Calls.foundedRow (length names) body i x)
     unfolding limit
     row-facts = record {
       named = rw row-name h;
@@ -254,7 +263,7 @@ module _ (a : Calls.Founding) (f : Founds a) where
         go (no d) = rw (ne-eqb i (length names) d) (omega arith)
 
   -- ---- what row i says
-  pub at-row : (P : ℕ → List ℕ → Type 0) → ((i x : ℕ) → Within (length names) i → Within 65_535 x → P i (Calls.foundedRow (length names) file i x))
+  pub at-row : (P : ℕ → List ℕ → Type 0) → ((i x : ℕ) → Within (length names) i → Within 65_535 x → P i (Calls.foundedRow (length names) body i x))
       → (i : ℕ) → Within (length names) i → P i (rowBytes (Calls.founded c file names) i)
   at-row P g zero w = absurd (omega arith)
   at-row P g (suc k) w = subst (P (suc k)) (sym (founded-row k (omega arith))) (g (suc k) (getD names k 0) w (named 0 names (f .rising) k (omega arith)))
@@ -341,7 +350,7 @@ module _ (a : Calls.Founding) (f : Founds a) where
 
   -- ---- the rest of question 1
   founded-header : headerValues (Calls.founded c file names) ≡ true
-  unfolding headerValues
+  unfolding headerValues formValue
   founded-header = rw (
     founded-capacity,
     founded-used,
@@ -355,22 +364,22 @@ module _ (a : Calls.Founding) (f : Founds a) where
   )
       (and-i _ true (is-between 1 file 4_096 (f .bytes .0) (f .bytes .1)) refl)
     where
-      founded-form : get form (Calls.founded c file names) ≡ 1
+      founded-form : get form (Calls.founded c file names) ≡ formValue
       founded-form = header-form
 
       founded-rest : allZero (part 6 10 (Calls.founded c file names)) ≡ true
       founded-rest = header-rest
 
-  founded-tail : drop (rowsEnd (Calls.founded c file names) (length names)) (Calls.founded c file names) ≡ Calls.zeros ((c - length names) * (32 + file))
-  unfolding t rows tail
+  founded-tail : drop (rowsEnd (Calls.founded c file names) (length names)) (Calls.founded c file names) ≡ Calls.zeros ((c - length names) * stride file)
+  unfolding t rows tail stride
   founded-tail =
       ap (λ (a : ℕ). drop a (Calls.founded c file names)) (founded-end (length names))
-      ∙ sym (drop-drop (length names * (32 + file)) 16 (Calls.founded c file names)) ∙ ap (drop (length names * (32 + file))) after-header
-      ∙ drop-at rows tail (length names * (32 + file)) (length-rows (length names) file 1 names)
+      ∙ sym (drop-drop (length names * stride file) 16 (Calls.founded c file names)) ∙ ap (drop (length names * stride file)) after-header
+      ∙ drop-at rows tail (length names * stride file) (length-rows (length names) body 1 names)
 
   founded-zero : unusedZero (Calls.founded c file names) ≡ true
   unfolding unusedZero
-  founded-zero = ap allZero (ap (λ (k : ℕ). drop (rowsEnd (Calls.founded c file names) k) (Calls.founded c file names)) founded-used ∙ founded-tail) ∙ zeros-zero ((c - length names) * (32 + file))
+  founded-zero = ap allZero (ap (λ (k : ℕ). drop (rowsEnd (Calls.founded c file names) k) (Calls.founded c file names)) founded-used ∙ founded-tail) ∙ zeros-zero ((c - length names) * stride file)
 
   founded-long : lengthRight (Calls.founded c file names) ≡ true
   unfolding lengthRight

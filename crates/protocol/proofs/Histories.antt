@@ -4,7 +4,7 @@ use mathlib.Core.List.{List, [], _∷_}
 use Prim.Native.Nat.{ℕ, _+_, _*_}
 use lib.Dec.{eqb}
 use lib.ListN.{take, replicate}
-use Rattle.fields.specs.Layout.{rowBytes, contentsOf}
+use Rattle.fields.specs.Layout.{stride, rowBytes, contentsOf}
 use Rattle.protocol.specs.Calls.{Call, founding, read, write, send, check, outcome}
 
 -- ---- calls by their arguments, in the order of their fields
@@ -54,7 +54,7 @@ stepsHold t (Contents i bytes ∷ ss) = same (contentsOf t i) bytes && stepsHold
 -- the founding is made on a table of ones, which leave no trace
 unfoldable pub replays : History → Bool
 replays h =
-    let o = outcome (replicate (16 + h .capacity * (32 + h .fileLength)) 1) (fo (h .capacity) (h .fileLength) (h .names)) in
+    let o = outcome (replicate (16 + h .capacity * stride (h .fileLength)) 1) (fo (h .capacity) (h .fileLength) (h .names)) in
     eqb (o .refusal) 0 && stepsHold (o .table) (h .steps)
 
 unfoldable pub allReplay : List History → Bool

@@ -9,7 +9,7 @@ use lib.Dec.{eqb}
 use lib.ListN.{length, take, drop}
 use Rattle.sets.specs.Upto.{Within}
 use Rattle.bytes.specs.Bytes.{number, part}
-use Rattle.fields.specs.Layout.{Field, get, fileLength, rowLength, rowsEnd, rowBytes}
+use Rattle.fields.specs.Layout.{Field, get, fileLength, stride, fileLengthOf, rowLength, rowsEnd, rowBytes}
 use Rattle.blocks.specs.Blocks.{block}
 use Rattle.blocks.proofs.BlockLaws.{length-block, Altered, blocks-changed, one-changed}
 use Rattle.protocol.specs.Rows.{withRow, withRows}
@@ -25,8 +25,8 @@ module _ {t u : List ℕ} (l : Like t u) where
   like-get f h = ap number (l .header (f .place) (f .width) h)
 
   pub like-length : rowLength u ≡ rowLength t
-  unfolding rowLength fileLength
-  like-length = ap (λ (n : ℕ). 32 + n) (like-get fileLength (omega arith))
+  unfolding rowLength fileLengthOf fileLength
+  like-length = ap stride (like-get fileLength (omega arith))
 
   pub like-end : (k : ℕ) → rowsEnd u k ≡ rowsEnd t k
   unfolding rowsEnd

@@ -9,7 +9,7 @@ use Rattle.sets.specs.Sets.{has}
 use Rattle.quorums.specs.declared.Kind.{Kind}
 use Rattle.quorums.specs.declared.Kind.the-variants.{Read, Write}
 use Rattle.bytes.specs.Bytes.{bytesOf, part}
-use Rattle.fields.specs.Layout.{usedOf, fileLengthOf, nameOf, staleOf, versionOf, desiredOf, contentsOf, rowBytes}
+use Rattle.fields.specs.Layout.{formValue, bodyLength, stride, usedOf, fileLengthOf, nameOf, staleOf, versionOf, desiredOf, contentsOf, rowBytes}
 use Rattle.table.specs.Chain.{orderOf}
 use Rattle.table.specs.WellFormed.{between, limit, onlyRows, wellFormed}
 use Rattle.asking.specs.Asking.{Question, firstNo}
@@ -115,22 +115,22 @@ zeros n = replicate n 0
 
 -- "16 bytes: form, capacity, rows used, first row, file length; the rest 0"
 unfoldable pub foundedHeader : ℕ → ℕ → ℕ → List ℕ
-foundedHeader capacity n fileLength = 1 ∷ capacity ∷ n ∷ 1 ∷ (bytesOf 2 fileLength ++ zeros 10)
+foundedHeader capacity n fileLength = formValue ∷ capacity ∷ n ∷ 1 ∷ (bytesOf 2 fileLength ++ zeros 10)
 
--- row i of n: its name, the next row (0 after the last), the list of all used rows, and all else 0
+-- row i of n: its name, the next row (0 after the last), the list of all used rows, and all else 0, with a body of so many bytes
 unfoldable pub foundedRow : ℕ → ℕ → ℕ → ℕ → List ℕ
-foundedRow n fileLength i x = bytesOf 2 x ++ (cond (eqb i n) 0 (i + 1) ∷ (zeros 13 ++ (bytesOf 8 (laidNow (2 ^ n - 1) .members) ++ (zeros 8 ++ zeros fileLength))))
+foundedRow n body i x = bytesOf 2 x ++ (cond (eqb i n) 0 (i + 1) ∷ (zeros 13 ++ (bytesOf 8 (laidNow (2 ^ n - 1) .members) ++ (zeros 8 ++ zeros body))))
 
 -- "It puts them in rows 1 upward": the rows from row i on
 unfoldable pub foundedRows : ℕ → ℕ → ℕ → List ℕ → List ℕ
-foundedRows n fileLength i [] = []
-foundedRows n fileLength i (x ∷ l) = foundedRow n fileLength i x ++ foundedRows n fileLength (suc i) l
+foundedRows n body i [] = []
+foundedRows n body i (x ∷ l) = foundedRow n body i x ++ foundedRows n body (suc i) l
 
 -- the table after a founding: "every unused row" becomes 0 too
 unfoldable pub founded : ℕ → ℕ → List ℕ → List ℕ
 founded capacity fileLength names =
     let n = length names in
-    foundedHeader capacity n fileLength ++ (foundedRows n fileLength 1 names ++ zeros ((capacity - n) * (32 + fileLength)))
+    foundedHeader capacity n fileLength ++ (foundedRows n (bodyLength fileLength) 1 names ++ zeros ((capacity - n) * stride fileLength))
 
 -- ---- "Questions put to each call": in this order, each to the calls it names
 -- 1 to 3 of a call by coordinator c, then those after
@@ -145,7 +145,7 @@ unfoldable pub questions : List ℕ → Call → List Question
 questions t (founding a) =
     let n = length (namesIn (a .names)) in
     record { ask = 11; yes = eqb (length (a .names) % 2) 0 && between 1 n 64 && namesRising 0 (namesIn (a .names)) }
-    ∷ record { ask = 12; yes = between 1 (a .capacity) 64 && leb n (a .capacity) && between 1 (a .fileLength) 4_096 && eqb (length t) (16 + a .capacity * (32 + a .fileLength)) }
+    ∷ record { ask = 12; yes = between 1 (a .capacity) 64 && leb n (a .capacity) && between 1 (a .fileLength) 4_096 && eqb (length t) (16 + a .capacity * stride (a .fileLength)) }
     ∷ []
 questions t (read a) =
     let p = answers t (a .r) in

@@ -13,8 +13,9 @@ use Rattle.sets.proofs.SetLaws.{has-within}
 use Rattle.quorums.specs.declared.Kind.the-variants.{Read}
 use Rattle.bytes.specs.Bytes.{part}
 use Rattle.fields.specs.Layout.{usedOf, nameOf, rowBytes, contents, contentsOf}
+use Rattle.fields.proofs.FieldLaws.{contents-room}
 use Rattle.table.specs.Chain.{orderOf}
-use Rattle.table.proofs.WellFormedLaws.{sized, row-length, length-row}
+use Rattle.table.proofs.WellFormedLaws.{sized, length-row}
 use Rattle.protocol.specs.Polls.{goodVersion, good, current, quorumHeld}
 use Rattle.asking.specs.Asking.{firstNo}
 use Rattle.protocol.specs.Calls.{Reading, Outcome, read, questions, answers, workSet, done, outcome, resultOf}
@@ -71,7 +72,7 @@ module _ (t : List ℕ) (a : Reading) where
         pub range-in : 32 + a .offset + length (a .buffer) ≤ length (rowBytes t (lowest 64 (has (v .good .bits))))
         range-in =
             let y = read-yes t a (after-poll ∙ z) in
-            omega (arith, length-row (sized (y .first .formed)) (lowest 64 (has (v .good .bits))) source-used, row-length t, y .range, l)
+            omega (arith, length-row (sized (y .first .formed)) (lowest 64 (has (v .good .bits))) source-used, contents-room t, y .range, l)
 
         pub read-done : (0 * 2 ^ 32 + v .version ≡ resultOf (outcome t (read a))) × (t ≡ outcome t (read a) .table)
             × (part (a .offset) (length (a .buffer)) (contents (rowBytes t (lowest 64 (has (v .good .bits))))) ≡ outcome t (read a) .buffer)

@@ -8,7 +8,7 @@ use native.Mathlib.Numerals.{add-one}
 use native.Mathlib.Decide.{decLt}
 use native.Mathlib.Omega.{arith}
 use lib.ListN.{length, getD, take, drop, set, length-drop}
-use lib.Seq.{drop-drop, take-all, getD-drop, paste, paste-zero, paste-suc}
+use lib.Seq.{getD-drop, paste, paste-zero, paste-suc}
 use Rattle.sets.specs.Upto.{Within}
 use Rattle.bytes.specs.Bytes.{part, put}
 use Rattle.blocks.specs.Blocks.{withBlock}
@@ -16,7 +16,8 @@ use Rattle.fields.specs.Layout.{get, store, mark, version, desired, contents, s
 use Rattle.table.specs.Contracts.{Sized}
 use Rattle.bytes.proofs.ByteLaws.{length-part, part-part, length-put, put-before, put-after, part-apart, put-put}
 use Rattle.bytes.proofs.CodeLaws.{part-back, part-is, part-length}
-use Rattle.table.proofs.WellFormedLaws.{row-length, row-in, row-part, length-row}
+use Rattle.fields.proofs.FieldLaws.{contents-room, contents-part}
+use Rattle.table.proofs.WellFormedLaws.{row-in, row-part, length-row}
 use Rattle.protocol.specs.Rows.{refreshedRow, withRow}
 use Rattle.protocol.proofs.TableLaws.{end-le}
 
@@ -45,23 +46,20 @@ module _ (d : List ℕ) (from to n : ℕ) (hf : from + n ≤ length d) (ht : to 
       side (inr q) = put-after d to (part from j d) (omega (arith, long)) (from + j) 0 (omega (arith, long))
 
 -- ---- a refresh: the fields of row `to` stored, then the contents of row `from` copied
-module _ {t : List ℕ} (s : Sized t) where
-  row-ends : (i : ℕ) → Within (usedOf t) i → rowsEnd t i ≡ rowsEnd t (i - 1) + (32 + fileLengthOf t)
+module _ (t : List ℕ) where
+  row-ends : (i : ℕ) → Within (usedOf t) i → rowsEnd t i ≡ rowsEnd t (i - 1) + rowLength t
   unfolding rowsEnd
   row-ends i w =
       let e : suc (i - 1) ≡ i = omega arith in
-      omega (arith, row-length t, suc-mul (i - 1) (rowLength t), ap (λ (m : ℕ). m * rowLength t) e)
-
-  pub file-below : (i : ℕ) → Within (usedOf t) i → fileLengthOf t ≤ rowsEnd t i
-  file-below i w = omega (arith, row-ends i w)
+      omega (arith, suc-mul (i - 1) (rowLength t), ap (λ (m : ℕ). m * rowLength t) e)
 
   with-row : (i : ℕ) → Within (usedOf t) i → (f : List ℕ → List ℕ) → withRow t i f ≡ put (rowsEnd t (i - 1)) (f (rowBytes t i)) t
   unfolding withRow withBlock rowsEnd rowBytes
   with-row zero w f = absurd (omega arith)
   with-row (suc k) w f = let z : suc k - 1 ≡ k = omega arith in rw z
 
--- what the code has found of the rows `from` and `to`: where row `to` and the contents of each start
-pub record Places (t : List ℕ) (from to at size file source target : ℕ) : Type 0 where
+-- what the code has found of the rows `from` and `to`: where row `to` and the contents of row `from` start
+pub record Places (t : List ℕ) (from to at size file source : ℕ) : Type 0 where
   pub table : Sized t
   pub source-row : Within (usedOf t) from
   pub target-row : Within (usedOf t) to
@@ -69,15 +67,17 @@ pub record Places (t : List ℕ) (from to at size file source target : ℕ) : Ty
   pub e-at : at ≡ rowsEnd t (to - 1)
   pub e-size : size ≡ rowLength t
   pub e-file : file ≡ fileLengthOf t
-  pub e-source : source ≡ rowsEnd t from - file
-  pub e-target : target ≡ rowsEnd t to - file
+  pub e-source : source ≡ rowsEnd t (from - 1) + 32
 
-module _ {t : List ℕ} {from to at size file source target : ℕ} (p : Places t from to at size file source target) where
+module _ {t : List ℕ} {from to at size file source : ℕ} (p : Places t from to at size file source) where
   pub target-fits : at + size ≤ length t
   target-fits = omega (arith, p .e-at, p .e-size, row-in (p .table) to (p .target-row))
 
+  pub contents-fit : 32 + file ≤ size
+  contents-fit = omega (arith, p .e-size, p .e-file, contents-room t)
+
   pub target-long : 32 ≤ length (take ((at + size) - at) (drop at t))
-  target-long = omega (arith, part-length at size t target-fits, p .e-size, row-length t)
+  target-long = omega (arith, part-length at size t target-fits, contents-fit)
 
   module _ (new : List ℕ) (kept : length new ≡ length (take ((at + size) - at) (drop at t))) where
     u : List ℕ
@@ -93,60 +93,52 @@ module _ {t : List ℕ} {from to at size file source target : ℕ} (p : Places t
     room : at + length new ≤ length t
     room = omega (arith, width, target-fits)
 
-    source-at : source ≡ rowsEnd t (from - 1) + 32
-    source-at = omega (arith, row-ends (p .table) from (p .source-row))
-
-    target-at : target ≡ at + 32
-    target-at = omega (arith, row-ends (p .table) to (p .target-row))
-
     apart : (source + file ≤ at) ⊎ (at + size ≤ source)
     apart = go (decLt from to)
       where
         go : Dec (from < to) → (source + file ≤ at) ⊎ (at + size ≤ source)
-        go (yes q) = inl (omega (arith, row-ends (p .table) from (p .source-row), end-le t from (to - 1) (omega arith)))
-        go (no q) = inr (omega (arith, source-at, row-ends (p .table) to (p .target-row), row-length t, end-le t to (from - 1) (omega arith)))
+        go (yes q) = inl (omega (arith, contents-fit, row-ends t from (p .source-row), end-le t from (to - 1) (omega arith)))
+        go (no q) = inr (omega (arith, row-ends t to (p .target-row), end-le t to (from - 1) (omega arith)))
 
-    pub copy-fits : (source + file ≤ length (take at t ++ (new ++ drop ((at + size) - at) (drop at t)))) × (target + file ≤ length (take at t ++ (new ++ drop ((at + size) - at) (drop at t))))
-        × ((source + file ≤ target) ⊎ (target + file ≤ source))
+    pub copy-fits : (source + file ≤ length (take at t ++ (new ++ drop ((at + size) - at) (drop at t)))) × (at + 32 + file ≤ length (take at t ++ (new ++ drop ((at + size) - at) (drop at t))))
+        × ((source + file ≤ at + 32) ⊎ (at + 32 + file ≤ source))
     unfolding u
     copy-fits =
         let long : length (take at t ++ (new ++ drop ((at + size) - at) (drop at t))) ≡ length t = ap length stored ∙ length-put t at new room in
-        (omega (arith, long, source-at, row-in (p .table) from (p .source-row), row-length t), omega (arith, long, target-at, target-fits, row-length t), side apart)
+        (omega (arith, long, contents-fit, row-in (p .table) from (p .source-row)), omega (arith, long, contents-fit, target-fits), side apart)
       where
-        side : (source + file ≤ at) ⊎ (at + size ≤ source) → (source + file ≤ target) ⊎ (target + file ≤ source)
-        side (inl q) = inl (omega (arith, target-at))
-        side (inr q) = inr (omega (arith, target-at, row-length t))
+        side : (source + file ≤ at) ⊎ (at + size ≤ source) → (source + file ≤ at + 32) ⊎ (at + 32 + file ≤ source)
+        side (inl q) = inl (omega arith)
+        side (inr q) = inr (omega (arith, contents-fit))
 
-    whole : part 32 file (rowBytes t from) ≡ drop 32 (rowBytes t from)
-    unfolding part
-    whole = take-all file (drop 32 (rowBytes t from)) (omega (arith, length-drop 32 (rowBytes t from), length-row (p .table) from (p .source-row), row-length t))
+    contents-are : part 32 file (rowBytes t from) ≡ contents (rowBytes t from)
+    unfolding rowLength
+    contents-are = ap (λ (n : ℕ). part 32 n (rowBytes t from)) (p .e-file) ∙ sym (contents-part (rowBytes t from) (fileLengthOf t) (length-row (p .table) from (p .source-row)))
 
     bytes : part source file (put at new t) ≡ contents (rowBytes t from)
-    unfolding contents
     bytes =
         part-apart t at new room source file (side apart)
-        ∙ ap (λ (a : ℕ). part a file t) source-at
-        ∙ sym (part-part (rowsEnd t (from - 1)) (rowLength t) 32 file t (omega (arith, row-length t)))
-        ∙ ap (part 32 file) (sym (row-part (p .table) from (p .source-row))) ∙ whole
+        ∙ ap (λ (a : ℕ). part a file t) (p .e-source)
+        ∙ sym (part-part (rowsEnd t (from - 1)) (rowLength t) 32 file t (omega (arith, contents-fit, p .e-size)))
+        ∙ ap (part 32 file) (sym (row-part (p .table) from (p .source-row))) ∙ contents-are
       where
         side : (source + file ≤ at) ⊎ (at + size ≤ source) → (source + file ≤ at) ⊎ (at + length new ≤ source)
         side (inl q) = inl q
         side (inr q) = inr (omega (arith, width))
 
-    contents-long : length (contents (rowBytes t from)) ≡ fileLengthOf t
-    unfolding contents
-    contents-long = length-drop 32 (rowBytes t from) ∙ omega (arith, length-row (p .table) from (p .source-row), row-length t)
+    contents-long : length (contents (rowBytes t from)) ≡ file
+    contents-long = ap length (sym contents-are) ∙ length-part 32 file (rowBytes t from) (omega (arith, contents-fit, p .e-size, length-row (p .table) from (p .source-row)))
 
     pub refreshed : (v : ℕ) → v ≡ get version (rowBytes t from) → new ≡ store desired 0 (store version v (store mark 0 (take ((at + size) - at) (drop at t))))
-        → (last : List ℕ) → last ≡ put target (part source file (take at t ++ (new ++ drop ((at + size) - at) (drop at t)))) (take at t ++ (new ++ drop ((at + size) - at) (drop at t)))
+        → (last : List ℕ) → last ≡ put (at + 32) (part source file (take at t ++ (new ++ drop ((at + size) - at) (drop at t)))) (take at t ++ (new ++ drop ((at + size) - at) (drop at t)))
         → last ≡ withRow t to (refreshedRow (rowBytes t from))
-    unfolding u refreshedRow storeContents contents
+    unfolding u refreshedRow storeContents
     refreshed v e-v made last copied =
-        copied ∙ ap (λ (w : List ℕ). put target (part source file w) w) stored
-        ∙ ap₂ (λ (n : ℕ) (x : List ℕ). put n x (put at new t)) target-at bytes
-        ∙ put-put at 32 (contents (rowBytes t from)) new t (omega (arith, contents-long, width, p .e-size, row-length t)) room
+        copied ∙ ap (λ (w : List ℕ). put (at + 32) (part source file w) w) stored
+        ∙ ap (λ (x : List ℕ). put (at + 32) x (put at new t)) bytes
+        ∙ put-put at 32 (contents (rowBytes t from)) new t (omega (arith, contents-long, width, contents-fit)) room
         ∙ ap₂ (λ (a : ℕ) (r : List ℕ). put a (put 32 (contents (rowBytes t from)) r) t) (p .e-at) fields
-        ∙ sym (with-row (p .table) to (p .target-row) (refreshedRow (rowBytes t from)))
+        ∙ sym (with-row t to (p .target-row) (refreshedRow (rowBytes t from)))
       where
         fields : new ≡ store desired 0 (store version (get version (rowBytes t from)) (store mark 0 (rowBytes t to)))
         fields =

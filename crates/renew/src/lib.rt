@@ -31,17 +31,17 @@ fn copy_apart(t: &mut [u8], from: usize, to: usize, n: usize)
     }
 }
 
-// Row `to` takes the contents and the version of row `from`. The contents are a row's last bytes.
+// Row `to` takes the contents and the version of row `from`.
 pub fn refresh(t: &mut [u8], from: usize, to: usize)
     requires { ⌜ Sized (now t) × Within (usedOf (now t)) from × Within (usedOf (now t)) to × (from ≢ to) ⌝ }
     ensures { λ r. ⌜ now (t .exit) ≡ withRow (now (t .entry)) to (refreshedRow (rowBytes (now (t .entry)) from)) ⌝ }
 {
     let version = fields::version(table::row_of(t, from));
     let file = header::file_length(t);
-    let source = table::rows_end(t, from) - file;
-    let target = table::rows_end(t, to) - file;
+    let source = table::rows_end(t, from - 1) + fields::HEAD;
     let size = table::row_length(t);
     let at = table::rows_end(t, to - 1);
+    let target = at + fields::HEAD;
     renew_row(&mut t[at..at + size], version);
     copy_apart(t, source, target, file);
 }

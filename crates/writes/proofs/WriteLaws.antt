@@ -11,9 +11,9 @@ use Rattle.sets.specs.Sets.{has}
 use Rattle.sets.proofs.SetLaws.{has-within}
 use Rattle.quorums.specs.declared.Kind.the-variants.{Write}
 use Rattle.fields.specs.Layout.{usedOf, nameOf, rowLength}
+use Rattle.fields.proofs.FieldLaws.{contents-room}
 use Rattle.table.specs.Chain.{orderOf}
 use Rattle.table.specs.WellFormed.{limit}
-use Rattle.table.proofs.WellFormedLaws.{row-length}
 use Rattle.protocol.specs.Polls.{goodVersion, good, current, quorumHeld}
 use Rattle.protocol.specs.Rows.{withRows, wroteRow}
 use Rattle.asking.specs.Asking.{firstNo}
@@ -56,7 +56,7 @@ module _ (t : List ℕ) (a : Writing) where
         all-yes = after-seven ∙ ap (λ (b : Bool). cond b 0 8) l
 
         pub patch-in : 32 + a .offset + length (a .patch) ≤ rowLength t
-        patch-in = omega (arith, row-length t, write-yes t a all-yes .range)
+        patch-in = omega (arith, contents-room t, write-yes t a all-yes .range)
 
         -- the rows worked on answered, and are used
         pub works-used : (i : ℕ) → has (v .rows .bits) i ≡ true → Within (usedOf t) i

@@ -7,7 +7,8 @@ use borrow.Author.Needs.{needs}
 use borrow.Author.Tests.{not-true, not-false}
 use Rattle.store.proofs.RowsLaws.{Done, none-done, turn-fits, turn-long, turn-done, done-long, done-all}
 use Rattle.protocol.specs.Rows.{checkedRow}
-use Rattle.table.proofs.WellFormedLaws.{long, row-length}
+use Rattle.table.proofs.WellFormedLaws.{long}
+use Rattle.fields.proofs.FieldLaws.{contents-room}
 use Rattle.fields.specs.Layout.{usedOf}
 use Rattle.sets.proofs.MemberLaws.{only, Taken, none-taken, all-taken, in-set, not-yet, fewer-left, one-taken}
 use Rattle.sets.specs.Sets.{has, noRow, joining}
@@ -75,7 +76,7 @@ check-row-requires : tie.Need-check-row-requires Inv-loop μ-loop
 check-row-requires c κs =
     let w = c .before .before in
     let z = w .before .before .before .before .before .before .before in
-    omega (arith, turn-long (w .before .before .before .loop .inv .2) (used w) (new w), row-length (z .args .t .now))
+    omega (arith, turn-long (w .before .before .before .loop .inv .2) (used w) (new w), contents-room (z .args .t .now))
 
 rest-requires : tie.Need-rest-requires Inv-loop μ-loop
 rest-requires c κs = search needs

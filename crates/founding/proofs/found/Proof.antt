@@ -6,6 +6,7 @@ use native.Mathlib.Omega.{arith}
 use borrow.Author.Tests.{not-true, not-false}
 use lib.Dec.{eqb, leb}
 use lib.ListN.{length}
+use Rattle.fields.specs.Layout.{stride}
 use Rattle.table.specs.WellFormed.{between}
 use Rattle.protocol.specs.Calls.{Founding, founding, namesIn}
 use Rattle.questions.proofs.QuestionLaws.{refused-is}
@@ -28,7 +29,7 @@ half c = let start = c .before .before .before .before in omega (arith, two-each
 sized : (c : tie.After-sizes-right) → let start = c .before .before .before .before .before in SizesRight (start .args .t .now) (asked start) ≡ c .sizes-right .result
 sized c =
     let start = c .before .before .before .before .before in
-    sym (c .sizes-right .ensures ∙ ap (λ (n : ℕ). between 1 (start .args .capacity) 64 && leb n (start .args .capacity) && between 1 (start .args .file) 4_096 && eqb (length (start .args .t .now)) (16 + start .args .capacity * (32 + start .args .file))) (half (c .before)))
+    sym (c .sizes-right .ensures ∙ ap (λ (n : ℕ). between 1 (start .args .capacity) 64 && leb n (start .args .capacity) && between 1 (start .args .file) 4_096 && eqb (length (start .args .t .now)) (16 + start .args .capacity * stride (start .args .file))) (half (c .before)))
 
 twelve : (c : tie.Else2) → let start = c .before .before .before .before .before .before in SizesRight (start .args .t .now) (asked start) ≡ true
 twelve c = sized (c .before) ∙ not-false _ (c .if2 .left)

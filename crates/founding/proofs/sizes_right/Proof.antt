@@ -2,11 +2,11 @@ use borrow.Author.Needs.{needs}
 use mathlib.Core.Path.{_≡_, sym, _∙_, ap₂}
 use mathlib.Core.Bool.{true, _&&_}
 use Prim.Native.Nat.{_*_, _≤_}
-use native.Mathlib.Nat.{mul-le-mul}
 use native.Mathlib.Omega.{arith}
 use borrow.Author.Tests.{not-true, not-false}
 use lib.Dec.{leb}
 use Rattle.bools.proofs.BoolLaws.{and-l, and-r}
+use Rattle.fields.proofs.FieldLaws.{widest, rows-small}
 use Rattle.table.specs.WellFormed.{between}
 use Rattle.table.proofs.FormLaws.{between-is}
 use Rattle.founding.proofs.sizes_right.Statement.{statement}
@@ -25,11 +25,8 @@ small c =
       between-is 1 (a .file) 4_096 (and-r (between 1 (a .capacity) 64 && leb (a .n) (a .capacity)) _ (right c)) .1,
     )
 
-product : (c : tie.After-row-size) → c .before .before .before .before .before .before .args .capacity * c .row-size .result ≤ 64 * 4_128
-product c =
-    let a = c .before .before .before .before .before .before .args in
-    let wide : c .row-size .result ≤ 4_128 = omega (arith, c .row-size .ensures, small (c .before) .1) in
-    mul-le-mul (small (c .before) .0) wide
+product : (c : tie.After-row-size) → c .before .before .before .before .before .before .args .capacity * c .row-size .result ≤ 64 * widest
+product c = rw (c .row-size .ensures) (rows-small (small (c .before) .0) (small (c .before) .1))
 
 between-requires : tie.Need-between-requires
 between-requires c κs = search needs

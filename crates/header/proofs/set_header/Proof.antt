@@ -1,7 +1,10 @@
 use borrow.Author.Needs.{needs}
-use Rattle.fields.specs.Layout.{store, form, capacity, used, first, fileLength}
+use Rattle.fields.specs.Layout.{store, form, formValue, capacity, used, first, fileLength}
 use Rattle.header.proofs.set_header.Statement.{statement}
 use Rattle.header.proofs.set_header.Tie as tie
+
+cast-store-at : tie.Need-cast-store-at
+cast-store-at c = search needs
 
 store-at-requires : tie.Need-store-at-requires
 store-at-requires c κs = search needs
@@ -22,7 +25,7 @@ same-length : tie.Need-same-length
 same-length c = search needs
 
 returns : tie.Need-returns
-unfolding store form capacity used first fileLength
+unfolding store form formValue capacity used first fileLength
 returns c =
     let four = c .before .before .before .before .before .before in
     let three = four .before .before .before .before in
@@ -34,6 +37,7 @@ pub set-header-spec : {M : Type 1} → statement M
 set-header-spec =
     tie.close
     (tie.spec
+    cast-store-at
     store-at-requires
     store-at-requires-2
     store-at-requires-3

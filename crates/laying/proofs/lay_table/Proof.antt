@@ -3,40 +3,46 @@ use Prim.Native.Nat.{ℕ, _+_, _-_, _*_, _/_, _^_, _≤_}
 use native.Mathlib.Omega.{arith}
 use borrow.Author.Needs.{needs}
 use lib.ListN.{length}
-use Rattle.laying.proofs.LaidLaws.{Laid, none-laid, all-laid, Turn, laid-fits, lent-zeros, laid-long, laid-turn, all-rows}
+use Rattle.fields.specs.Layout.{bodyLength, stride}
+use Rattle.laying.proofs.LaidLaws.{LaidOut, none-laid, all-laid, Turn, laid-fits, lent-zeros, laid-long, laid-turn, all-rows}
 use Rattle.laying.proofs.NameLaws.{name-at}
 use Rattle.protocol.proofs.FoundedLaws.{length-zeros}
+use Rattle.protocol.specs.Lists.{laidNow}
 use Rattle.protocol.specs.Calls.{namesIn}
 use Rattle.laying.proofs.lay_table.Statement.{statement}
 use Rattle.laying.proofs.lay_table.Tie as tie
 
 abbrev Inv-loop : tie.InvT-loop
-Inv-loop t₀ capacity file names n list size at₀ i₀ t at i = (i ≤ n) × (length t ≡ length t₀) × Laid capacity n file (namesIn names) i at t
+Inv-loop t₀ capacity file names n list size at₀ i₀ t at i = (i ≤ n) × (length t ≡ length t₀) × LaidOut capacity n file (bodyLength file) (namesIn names) i at t
 
 abbrev μ-loop : tie.MeasureT-loop
 μ-loop t₀ capacity file names n list size at₀ i₀ t at i = n - i
 
 -- the rows fill the table behind its header
-rows-long : (c : tie.After-row-size Inv-loop μ-loop) → let a = c .before .before .before .before .args in 16 + a .capacity * c .row-size .result ≡ length (a .t .now)
-rows-long c = let s = c .before .before .before .before in omega (arith, ap (λ (x : ℕ). s .args .capacity * x) (c .row-size .ensures), s .pre .0)
+rows-long : (c : tie.After-row-size Inv-loop μ-loop) → let a = c .before .before .before .before .before .args in 16 + a .capacity * c .row-size .result ≡ length (a .t .now)
+rows-long c = let s = c .before .before .before .before .before in omega (arith, ap (λ (x : ℕ). s .args .capacity * x) (c .row-size .ensures), s .pre .0)
 
 -- the list is that of all used rows
-list-is : (c : tie.After-first Inv-loop μ-loop) → c .first .result .bits ≡ 2 ^ (length (c .before .before .before .args .names .now) / 2) - 1
+list-is : (c : tie.After-laid-now Inv-loop μ-loop) → c .laid-now .result ≡ laidNow (2 ^ (length (c .before .before .before .before .args .names .now) / 2) - 1)
 list-is c =
-    let s = c .before .before .before in
-    all-rows (length (s .args .names .now) / 2) (c .first .result .bits) (omega (arith, s .pre .2, s .pre .3, s .pre .4)) (omega arith) (c .first .ensures)
+    let s = c .before .before .before .before in
+    c .laid-now .ensures ∙ ap laidNow (all-rows (length (s .args .names .now) / 2) (c .before .first .result .bits) (omega (arith, s .pre .2, s .pre .3, s .pre .4)) (omega arith) (c .before .first .ensures))
 
-turn : (l : tie.In-loop Inv-loop μ-loop) → let a = l .before .before .before .before .before .before .before .before .before .before .before .before .before .before .args in
-    Turn (a .capacity) (length (a .names .now) / 2) (a .file) (namesIn (a .names .now)) (l .before .loop .i) (l .before .loop .at) (l .before .before .before .before .before .before .before .before .before .before .row-size .result) (l .before .loop .t)
+turn : (l : tie.In-loop Inv-loop μ-loop) → let a = l .before .before .before .before .before .before .before .before .before .before .before .before .before .before .before .args in
+    Turn (a .capacity) (length (a .names .now) / 2) (a .file) (bodyLength (a .file)) (namesIn (a .names .now)) (l .before .loop .i) (l .before .loop .at) (l .before .before .before .before .before .before .before .before .before .before .row-size .result) (l .before .loop .t)
+unfolding stride
 turn l =
-    let p = l .before .before .before .before .before .before .before .before .before .before .before .before .before .before .pre in
+    let p = l .before .before .before .before .before .before .before .before .before .before .before .before .before .before .before .pre in
     record { room = p .4 .1; below = omega (arith, l .loop-test .taken, p .3); wide = l .before .before .before .before .before .before .before .before .before .before .row-size .ensures; laid = l .before .loop .inv .2 }
 
 first-requires : tie.Need-first-requires Inv-loop μ-loop
 first-requires c κs = search needs
 
+laid-now-requires : tie.Need-laid-now-requires Inv-loop μ-loop
+laid-now-requires c κs = search needs
+
 row-size-requires : tie.Need-row-size-requires Inv-loop μ-loop
-row-size-requires c κs = c .before .before .before .pre .1 .1
+row-size-requires c κs = c .before .before .before .before .pre .1 .1
 
 mul-at : tie.Need-mul-at Inv-loop μ-loop
 mul-at c = omega (arith, rows-long c)
@@ -57,14 +63,15 @@ cast-set-header-3 : tie.Need-cast-set-header-3 Inv-loop μ-loop
 cast-set-header-3 c = search needs
 
 set-header-requires : tie.Need-set-header-requires Inv-loop μ-loop
-set-header-requires c κs = omega (arith, c .before .before .before .fill .kept .0, c .before .before .before .before .before .before .before .before .before .pre .0)
+set-header-requires c κs = omega (arith, c .before .before .before .fill .kept .0, c .before .before .before .before .before .before .before .before .before .before .pre .0)
 
 loop-holds : tie.Need-loop-holds Inv-loop μ-loop
+unfolding stride
 loop-holds c =
-    let s = c .before .before .before .before .before .before .before .before .before .before .before .before in (
+    let s = c .before .before .before .before .before .before .before .before .before .before .before .before .before in (
       omega arith,
       refl,
-      none-laid _ _ _ _ _ (s .args .t .now) _ _ (omega (arith, rows-long (c .before .before .before .before .before .before .before .before))) (s .pre .0) (s .pre .2) (omega (arith, s .pre .2, s .pre .3, s .pre .4)) (c .before .before .before .before .before .before .fill .ensures) (c .before .before .set-header .ensures),
+      none-laid _ _ _ _ _ _ (s .args .t .now) _ _ (omega (arith, rows-long (c .before .before .before .before .before .before .before .before))) (s .pre .0) (s .pre .2) (omega (arith, s .pre .2, s .pre .3, s .pre .4)) (c .before .before .before .before .before .before .fill .ensures) (c .before .before .set-header .ensures),
     )
 
 mul-u16-at : tie.Need-mul-u16-at Inv-loop μ-loop
@@ -89,12 +96,12 @@ part-found-row-end : tie.Need-part-found-row-end Inv-loop μ-loop
 part-found-row-end c = omega (arith, laid-fits (turn (c .before)))
 
 next-row-requires : tie.Need-next-row-requires Inv-loop μ-loop
-next-row-requires c κs = let s = c .before .before .before .before .before .before .before .before .before .before .before .before .before .before .before .before in (omega (arith, c .before .before .loop-test .taken), omega (arith, s .pre .2, s .pre .3, s .pre .4))
+next-row-requires c κs = let s = c .before .before .before .before .before .before .before .before .before .before .before .before .before .before .before .before .before in (omega (arith, c .before .before .loop-test .taken), omega (arith, s .pre .2, s .pre .3, s .pre .4))
 
 found-row-requires : tie.Need-found-row-requires Inv-loop μ-loop
 found-row-requires c κs =
     let l = c .before .before .before in
-    omega (arith, ap length (lent-zeros (turn l)), length-zeros (32 + l .before .before .before .before .before .before .before .before .before .before .before .before .before .before .args .file))
+    omega (arith, ap length (lent-zeros (turn l)), length-zeros (32 + bodyLength (l .before .before .before .before .before .before .before .before .before .before .before .before .before .before .before .args .file)))
 
 add-at : tie.Need-add-at Inv-loop μ-loop
 add-at c = omega (arith, laid-fits (turn (c .before .before .before .before .before .before)))
@@ -118,7 +125,7 @@ same-length c = c .before .loop .inv .1 ∙ c .before .before .before .before .s
 returns : tie.Need-returns Inv-loop μ-loop
 returns c =
     let l = c .before .loop in
-    let s = c .before .before .before .before .before .before .before .before .before .before .before .before .before .before in
+    let s = c .before .before .before .before .before .before .before .before .before .before .before .before .before .before .before in
     all-laid _ _ _ _ _ _ _ (omega (arith, s .pre .3)) (omega (arith, s .pre .3)) (l .inv .2)
 
 pub lay-table-spec : {M : Type 1} → statement M
@@ -128,6 +135,7 @@ lay-table-spec =
     Inv-loop
     μ-loop
     first-requires
+    laid-now-requires
     row-size-requires
     mul-at
     sub-at

@@ -1,28 +1,27 @@
 use mathlib.Core.Path.{_∙_, ap}
-use Prim.Native.Nat.{ℕ, _-_}
+use Prim.Native.Nat.{ℕ, _+_}
 use native.Mathlib.Omega.{arith}
 use borrow.Author.Needs.{needs}
-use Rattle.renew.proofs.CopyLaws.{Places, file-below, target-fits, target-long, copy-fits, refreshed}
-use Rattle.table.proofs.WellFormedLaws.{header, long}
+use Rattle.renew.proofs.CopyLaws.{Places, target-fits, contents-fit, target-long, copy-fits, refreshed}
+use Rattle.table.proofs.WellFormedLaws.{header, long, row-in}
 use Rattle.fields.specs.Layout.{get, version}
+use Rattle.fields.proofs.FieldLaws.{contents-room}
 use Rattle.renew.proofs.refresh.Statement.{statement}
 use Rattle.renew.proofs.refresh.Tie as tie
 
-places : (c : tie.After-rows-end3) → let a = c .before .before .before .before .before .before .before .before .before .before .before .before .before .before .args in let file = c .before .before .before .before .before .before .before .before .file-length .result in
-    Places (a .t .now) (a .from) (a .to) (c .rows-end3 .result) (c .before .before .row-length .result) file (c .before .before .before .before .before .before .rows-end .result - file) (c .before .before .before .before .rows-end2 .result - file)
+places : (c : tie.After-rows-end2) → let a = c .before .before .before .before .before .before .before .before .before .before .before .before .args in
+    Places (a .t .now) (a .from) (a .to) (c .rows-end2 .result) (c .before .before .row-length .result) (c .before .before .before .before .before .before .file-length .result) (c .before .before .before .before .rows-end .result + 32)
 places c =
-    let s = c .before .before .before .before .before .before .before .before .before .before .before .before .before .before in
-    let file = c .before .before .before .before .before .before .before .before .file-length in
+    let s = c .before .before .before .before .before .before .before .before .before .before .before .before in
     record {
       table = s .pre .0;
       source-row = s .pre .1;
       target-row = s .pre .2;
       other = s .pre .3;
-      e-at = c .rows-end3 .ensures;
+      e-at = c .rows-end2 .ensures;
       e-size = c .before .before .row-length .ensures;
-      e-file = file .ensures;
-      e-source = ap (λ (x : ℕ). x - file .result) (c .before .before .before .before .before .before .rows-end .ensures);
-      e-target = ap (λ (x : ℕ). x - file .result) (c .before .before .before .before .rows-end2 .ensures);
+      e-file = c .before .before .before .before .before .before .file-length .ensures;
+      e-source = ap (λ (x : ℕ). x + 32) (c .before .before .before .before .rows-end .ensures);
     }
 
 row-of-requires : tie.Need-row-of-requires
@@ -34,26 +33,28 @@ version-requires c κs = search needs
 file-length-requires : tie.Need-file-length-requires
 file-length-requires c κs = long (c .before .before .before .before .before .pre .0)
 
-rows-end-requires : tie.Need-rows-end-requires
-rows-end-requires c κs = let p = c .before .before .before .before .before .before .before .pre in (long (p .0), p .0 .header, omega (arith, p .1, header (p .0 .header) .used))
-
-sub-source : tie.Need-sub-source
-sub-source c = let s = c .before .before .before .before .before .before .before .before in omega (arith, c .rows-end .ensures, c .before .before .file-length .ensures, file-below (s .pre .0) (s .args .from) (s .pre .1))
-
-rows-end-requires-2 : tie.Need-rows-end-requires-2
-rows-end-requires-2 c κs = let p = c .before .before .before .before .before .before .before .before .before .pre in (long (p .0), p .0 .header, omega (arith, p .2, header (p .0 .header) .used))
-
-sub-target : tie.Need-sub-target
-sub-target c = let s = c .before .before .before .before .before .before .before .before .before .before in omega (arith, c .rows-end2 .ensures, c .before .before .before .before .file-length .ensures, file-below (s .pre .0) (s .args .to) (s .pre .2))
-
-row-length-requires : tie.Need-row-length-requires
-row-length-requires c κs = let p = c .before .before .before .before .before .before .before .before .before .before .before .pre in (long (p .0), p .0 .header)
-
 sub-rows-end : tie.Need-sub-rows-end
 sub-rows-end c = search needs
 
-rows-end-requires-3 : tie.Need-rows-end-requires-3
-rows-end-requires-3 c κs = let p = c .before .before .before .before .before .before .before .before .before .before .before .before .before .pre in (long (p .0), p .0 .header, omega (arith, p .2, header (p .0 .header) .used))
+rows-end-requires : tie.Need-rows-end-requires
+rows-end-requires c κs = let p = c .before .before .before .before .before .before .before .pre in (long (p .0), p .0 .header, omega (arith, p .1, header (p .0 .header) .used))
+
+add-source : tie.Need-add-source
+add-source c =
+    let s = c .before .before .before .before .before .before .before .before in
+    omega (arith, c .rows-end .ensures, row-in (s .pre .0) (s .args .from) (s .pre .1), contents-room (s .args .t .now))
+
+row-length-requires : tie.Need-row-length-requires
+row-length-requires c κs = let p = c .before .before .before .before .before .before .before .before .before .pre in (long (p .0), p .0 .header)
+
+sub-rows-end-2 : tie.Need-sub-rows-end-2
+sub-rows-end-2 c = search needs
+
+rows-end-requires-2 : tie.Need-rows-end-requires-2
+rows-end-requires-2 c κs = let p = c .before .before .before .before .before .before .before .before .before .before .before .pre in (long (p .0), p .0 .header, omega (arith, p .2, header (p .0 .header) .used))
+
+add-target : tie.Need-add-target
+add-target c = omega (arith, target-fits (places c), contents-fit (places c))
 
 add-renew-row : tie.Need-add-renew-row
 add-renew-row c = omega (arith, target-fits (places c))
@@ -81,7 +82,7 @@ returns c =
     let s = c .before .before .before .before .before .before .before .before in
     let row = c .before .before .before .before .before .before .renew-row in
     refreshed (places s) _ (row .kept .0) _
-    (s .before .before .before .before .before .before .before .before .before .before .version .ensures ∙ ap (get version) (s .before .before .before .before .before .before .before .before .before .before .before .row-of .ensures .0))
+    (s .before .before .before .before .before .before .before .before .version .ensures ∙ ap (get version) (s .before .before .before .before .before .before .before .before .before .row-of .ensures .0))
     (row .ensures) _ (c .before .before .copy-apart .ensures)
 
 pub refresh-spec : {M : Type 1} → statement M
@@ -91,13 +92,13 @@ refresh-spec =
     row-of-requires
     version-requires
     file-length-requires
-    rows-end-requires
-    sub-source
-    rows-end-requires-2
-    sub-target
-    row-length-requires
     sub-rows-end
-    rows-end-requires-3
+    rows-end-requires
+    add-source
+    row-length-requires
+    sub-rows-end-2
+    rows-end-requires-2
+    add-target
     add-renew-row
     sub-renew-row
     part-renew-row-start
