@@ -1,6 +1,5 @@
 // A list of rows in chain order: the quorum that a set holds of it, and the choice that a name makes over it.
 // The chain order is the first `count` of an array of 64 rows.
-use bools::both;
 use fields::Laid;
 use quorums::Kind;
 use rows::RowSet;
@@ -30,40 +29,72 @@ fn place_at(order: &[u8; 64], j: usize) -> usize
     order[j] as usize - 1
 }
 
-// The positions of a list that a set of rows holds.
-pub fn held(order: &[u8; 64], count: usize, list: RowSet, set: RowSet) -> RowSet
+// The rows at the positions of a list, position 1 first: the first `count` of `rows`.
+struct Seats {
+    rows: [u8; 64],
+    count: usize,
+}
+
+// The members of a list in chain order.
+fn lay(order: &[u8; 64], count: usize, members: RowSet) -> Seats
     requires { ⌜ Listed 64 (now order) count ⌝ }
-    ensures { λ r. ⌜ has (r .bits) ≡ atSeat (seats (take count (now (order .entry))) (has (list .bits))) (has (set .bits)) ⌝ }
+    ensures { λ r. ⌜ Listed 64 (r .rows) (r .count) × (take (r .count) (r .rows) ≡ seats (take count (now (order .entry))) (has (members .bits))) ⌝ }
 {
-    let shared = list.cut(set);
-    let mut positions = RowSet::EMPTY;
-    let mut seats = 0;
+    let mut rows = [0u8; 64];
+    let mut n = 0;
     let mut j = 0;
     while j < count {
         let place = place_at(order, j);
-        positions = positions.add(seats, shared.at(place));
-        seats = step(seats, list.at(place));
+        rows[n] = place as u8 + 1;
+        n = step(n, members.at(place));
+        j += 1;
+    }
+    Seats {
+        rows: rows,
+        count: n,
+    }
+}
+
+// The same; a list of all rows has the order of the chain.
+fn seated(order: &[u8; 64], count: usize, members: RowSet) -> Seats
+    requires { ⌜ Listed count (now order) count ⌝ }
+    ensures { λ r. ⌜ Listed 64 (r .rows) (r .count) × (take (r .count) (r .rows) ≡ seats (take count (now (order .entry))) (has (members .bits))) ⌝ }
+{
+    if members.fills(count) {
+        return Seats {
+            rows: *order,
+            count: count,
+        };
+    }
+    lay(order, count, members)
+}
+
+// The positions at which a set of rows sits.
+fn held(rows: &[u8; 64], count: usize, set: RowSet) -> RowSet
+    requires { ⌜ Listed 64 (now rows) count ⌝ }
+    ensures { λ r. ⌜ has (r .bits) ≡ atSeat (take count (now (rows .entry))) (has (set .bits)) ⌝ }
+{
+    let mut positions = RowSet::EMPTY;
+    let mut j = 0;
+    while j < count {
+        positions = positions.add(j, set.at(place_at(rows, j)));
         j += 1;
     }
     positions
 }
 
-// The rows of a list that stand at some positions.
-pub fn standing(order: &[u8; 64], count: usize, list: RowSet, positions: RowSet) -> RowSet
-    requires { ⌜ Listed 64 (now order) count ⌝ }
-    ensures { λ r. ⌜ has (r .bits) ≡ (λ (i : ℕ). some 64 (λ k. has (positions .bits) k && atSeat (seats (take count (now (order .entry))) (has (list .bits))) (eqb i) k)) ⌝ }
+// The rows that sit at some positions.
+fn standing(rows: &[u8; 64], count: usize, positions: RowSet) -> RowSet
+    requires { ⌜ Listed 64 (now rows) count ⌝ }
+    ensures { λ r. ⌜ has (r .bits) ≡ (λ (i : ℕ). some 64 (λ k. has (positions .bits) k && atSeat (take count (now (rows .entry))) (eqb i) k)) ⌝ }
 {
-    let mut rows = RowSet::EMPTY;
-    let mut seats = 0;
-    let mut j = 0;
-    while j < count {
-        let place = place_at(order, j);
-        let member = list.at(place);
-        rows = rows.add(place, both(member, positions.at(seats)));
-        seats = step(seats, member);
-        j += 1;
+    let mut set = RowSet::EMPTY;
+    let mut left = positions.cut(RowSet::first(count));
+    while !left.is_empty() {
+        set = set.add(place_at(rows, left.lowest() - 1), true);
+        left = left.rest();
     }
-    rows
+    set
 }
 
 // The list that a founding or a check lays of these rows.
@@ -75,34 +106,32 @@ pub fn laid_now(set: RowSet) -> Laid
 
 // Does a set of rows hold a quorum of the list?
 pub fn quorum(kind: Kind, order: &[u8; 64], count: usize, list: Laid, set: RowSet) -> bool
-    requires { ⌜ Listed 64 (now order) count ⌝ }
+    requires { ⌜ Listed count (now order) count ⌝ }
     ensures { λ r. ⌜ r ≡ listQuorum kind (take count (now (order .entry))) list (has (set .bits)) ⌝ }
 {
     let members = RowSet {
         bits: list.members,
     };
     let length = members.size();
+    let seats = seated(order, count, members);
     coterie::holds(
         kind,
         grid::published(length),
         length,
-        held(order, count, members, set),
+        held(&seats.rows, seats.count, set),
     )
 }
 
 // The rows that a name chooses over the list.
 pub fn choice(kind: Kind, order: &[u8; 64], count: usize, list: Laid, name: u16) -> RowSet
-    requires { ⌜ Listed 64 (now order) count ⌝ }
+    requires { ⌜ Listed count (now order) count ⌝ }
     ensures { λ r. ⌜ has (r .bits) ≡ listChoice kind (take count (now (order .entry))) list name ⌝ }
 {
     let members = RowSet {
         bits: list.members,
     };
     let length = members.size();
-    standing(
-        order,
-        count,
-        members,
-        coterie::choose(kind, grid::published(length), length, name),
-    )
+    let chosen = coterie::choose(kind, grid::published(length), length, name);
+    let seats = seated(order, count, members);
+    standing(&seats.rows, seats.count, chosen)
 }

@@ -41,3 +41,9 @@ keep-length p (a ∷ xs) = go (p a) (keep-length p xs)
     go : (b : Bool) → length (keep p xs) ≤ length xs → length (cond b (a ∷ keep p xs) (keep p xs)) ≤ suc (length xs)
     go true h = omega arith
     go false h = omega arith
+
+-- where all pass, all are kept
+pub keep-all : (p : ℕ → Bool) (xs : List ℕ) → ((k : ℕ) → k < length xs → p (getD xs k 0) ≡ true) → keep p xs ≡ xs
+unfolding keep
+keep-all p [] each = refl
+keep-all p (x ∷ xs) each = rw (each 0 (omega arith), keep-all p xs (λ k h. each (suc k) (omega arith)))

@@ -49,7 +49,7 @@ fn passes(
     current: bool,
     sure: bool,
 ) -> bool
-    requires { ⌜ Listed 64 (now order) count × (current ≡ true → sure ≡ true → (some 64 (has (s .bits)) && listQuorum kind (take count (now order)) list (has (s .bits))) ≡ true) ⌝ }
+    requires { ⌜ Listed count (now order) count × (current ≡ true → sure ≡ true → (some 64 (has (s .bits)) && listQuorum kind (take count (now order)) list (has (s .bits))) ≡ true) ⌝ }
     ensures { λ r. ⌜ r ≡ (current && (some 64 (has (s .bits)) && listQuorum kind (take count (now (order .entry))) list (has (s .bits)))) ⌝ }
 {
     if !current {

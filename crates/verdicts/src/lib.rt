@@ -92,7 +92,7 @@ pub fn judged(t: &[u8], s: RowSet) -> Verdict
 
 // Question 6: does a set hold a quorum of a list? An empty one does not.
 pub fn quorum_held(kind: Kind, order: &[u8; 64], count: usize, list: Laid, s: RowSet) -> bool
-    requires { ⌜ Listed 64 (now order) count ⌝ }
+    requires { ⌜ Listed count (now order) count ⌝ }
     ensures { λ r. ⌜ r ≡ (some 64 (has (s .bits)) && listQuorum kind (take count (now (order .entry))) list (has (s .bits))) ⌝ }
 {
     if s.is_empty() {
@@ -110,7 +110,7 @@ pub fn asked(
     s: RowSet,
     current: bool,
 ) -> u32
-    requires { ⌜ Listed 64 (now order) count ⌝ }
+    requires { ⌜ Listed count (now order) count ⌝ }
     ensures { λ r. ⌜ r ≡ cond (some 64 (has (s .bits)) && listQuorum kind (take count (now (order .entry))) list (has (s .bits))) (cond current 0 7) 6 ⌝ }
 {
     if !quorum_held(kind, order, count, list, s) {

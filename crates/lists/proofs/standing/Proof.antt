@@ -1,92 +1,104 @@
-use mathlib.Core.Bool.{cond, _&&_}
-use mathlib.Core.Path.{_≡_, refl, ap, _∙_}
+use mathlib.Core.Bool.{Bool, true, cond, _&&_}
+use mathlib.Core.Path.{_≡_, refl, sym, ap, _∙_, fun-ext}
 use Prim.Native.Nat.{ℕ, _+_, _-_, _%_, _≤_, _<_}
 use native.Mathlib.Nat.{mod-eq-of-lt}
 use native.Mathlib.Omega.{arith}
 use borrow.Author.Needs.{needs}
-use lib.ListN.{length, getD, take}
+use borrow.Author.Tests.{not-true, not-false}
 use lib.Dec.{eqb}
-use Rattle.lists.proofs.SeatLaws.{seat-next, seat-few, standing-next, none-standing}
-use Rattle.protocol.specs.Lists.{seats, atSeat}
-use Rattle.sets.proofs.SetLaws.{has-empty}
-use Rattle.sets.specs.Sets.{has, gaining}
-use Rattle.sets.specs.Upto.{some, keep}
+use lib.ListN.{getD, take}
+use Rattle.lists.proofs.SeatLaws.{none-standing, standing-next, standing-all}
+use Rattle.protocol.specs.Lists.{atSeat}
+use Rattle.bools.proofs.BoolLaws.{and-r}
+use Rattle.sets.proofs.SetLaws.{has-empty, first-within}
+use Rattle.sets.proofs.MemberLaws.{only, Taken, none-taken, all-taken, in-set, fewer-left, one-taken}
+use Rattle.sets.specs.Sets.{has, noRow, gaining, joining, cutTo, firstRows}
+use Rattle.sets.specs.Upto.{Within, some}
 use Rattle.lists.proofs.standing.Statement.{statement}
 use Rattle.lists.proofs.standing.Tie as tie
 
+-- the rows at the positions taken so far
 abbrev Inv-loop : tie.InvT-loop
-Inv-loop order count list positions rows₀ seats₀ j₀ rows taken j = (j ≤ count) × (taken ≡ length (seats (take j order) (has (list .bits))))
-    × (has (rows .bits) ≡ (λ (i : ℕ). some 64 (λ k. has (positions .bits) k && atSeat (seats (take j order) (has (list .bits))) (eqb i) k)))
+Inv-loop rows count set₀ left₀ set left = (q : ℕ → Bool) × Taken (left₀ .bits) (left .bits) q × (has (set .bits) ≡ (λ (i : ℕ). some 64 (λ k. q k && atSeat (take count rows) (eqb i) k)))
 
 abbrev μ-loop : tie.MeasureT-loop
-μ-loop order count list positions rows₀ seats₀ j₀ rows taken j = count - j
+μ-loop rows count set₀ left₀ set left = left .bits
 
--- there are fewer seats than 64 in a turn
-few : (c : tie.In-loop Inv-loop μ-loop) → c .before .loop .seats < 64
-few c =
-    let l = c .before .loop in
-    let s = c .before .before in
-    omega (arith, seat-few (s .args .order .now) (has (s .args .list .bits)) (l .j) (s .pre .places) (omega (arith, s .pre .few)))
+-- in a turn some position is left
+some-left : (c : tie.Then1 Inv-loop μ-loop) → some 64 (has (c .before .before .loop .left .bits)) ≡ true
+some-left c = not-false _ (sym (c .before .is-empty .ensures) ∙ not-true _ (c .if1 .taken))
 
--- so the next seat is a position
-seat : (c : tie.In-loop Inv-loop μ-loop) → c .before .loop .seats % 64 + 1 ≡ c .before .loop .seats + 1
-seat c = ap (λ (x : ℕ). x + 1) (mod-eq-of-lt (few c))
+-- the lowest of them is one of the first
+position : (c : tie.After-lowest Inv-loop μ-loop) → Within (c .before .before .before .before .before .before .args .count) (c .lowest .result)
+unfolding cutTo
+position c =
+    let s = c .before .before .before .before .before .before in
+    let cut = c .before .before .before .before in
+    let m = in-set (c .before .before .before .loop .inv .1) (some-left (c .before)) (c .lowest .ensures) in
+    first-within (s .args .count) (c .lowest .result) (ap (λ (f : ℕ → Bool). f (c .lowest .result)) (sym (cut .before .first .ensures))
+    ∙ and-r (has (s .args .positions .bits) (c .lowest .result)) _ (ap (λ (f : ℕ → Bool). f (c .lowest .result)) (sym (cut .cut .ensures)) ∙ m))
 
--- and the row at hand has a place
-row-here : (c : tie.After-place-at Inv-loop μ-loop) → c .place-at .result % 64 + 1 ≡ getD (c .before .before .before .args .order .now) (c .before .before .loop .j) 0
-row-here c =
-    let s = c .before .before .before in
-    let inside : c .place-at .result < 64 = omega (arith, c .place-at .ensures, s .pre .each (c .before .before .loop .j) (omega arith)) in
-    ap (λ (x : ℕ). x + 1) (mod-eq-of-lt inside) ∙ c .place-at .ensures
+first-requires : tie.Need-first-requires Inv-loop μ-loop
+first-requires c κs = search needs
+
+cut-requires : tie.Need-cut-requires Inv-loop μ-loop
+cut-requires c κs = search needs
 
 loop-holds : tie.Need-loop-holds Inv-loop μ-loop
-unfolding seats keep
-loop-holds c = (omega arith, refl, has-empty ∙ none-standing (has (c .args .positions .bits)))
+loop-holds c = (noRow, none-taken _, has-empty ∙ none-standing _)
+
+is-empty-requires : tie.Need-is-empty-requires Inv-loop μ-loop
+is-empty-requires c κs = search needs
+
+lowest-requires : tie.Need-lowest-requires Inv-loop μ-loop
+lowest-requires c κs = search needs
+
+sub-place-at : tie.Need-sub-place-at Inv-loop μ-loop
+sub-place-at c = omega (arith, position c)
 
 place-at-requires : tie.Need-place-at-requires Inv-loop μ-loop
 place-at-requires c κs =
-    let s = c .before .before in (s .pre .places, omega (arith, s .pre .few), s .pre .each (c .before .loop .j) (omega arith))
-
-at-requires : tie.Need-at-requires Inv-loop μ-loop
-at-requires c κs = search needs
-
-at-requires-2 : tie.Need-at-requires-2 Inv-loop μ-loop
-at-requires-2 c κs = search needs
-
-both-requires : tie.Need-both-requires Inv-loop μ-loop
-both-requires c κs = search needs
+    let s = c .before .before .before .before .before .before in
+    let w = position c in
+    (s .pre .places, omega (arith, s .pre .few), s .pre .each _ (omega arith))
 
 add-requires : tie.Need-add-requires Inv-loop μ-loop
 add-requires c κs = search needs
 
-step-requires : tie.Need-step-requires Inv-loop μ-loop
-step-requires c κs = few (c .before .before .before .before .before)
-
-add-j : tie.Need-add-j Inv-loop μ-loop
-add-j c = search needs
+rest-requires : tie.Need-rest-requires Inv-loop μ-loop
+rest-requires c κs = search needs
 
 loop-less : tie.Need-loop-less Inv-loop μ-loop
-loop-less c = search needs
+loop-less c =
+    let w = c .before .before .before in
+    fewer-left (w .before .before .before .loop .inv .1) (some-left (w .before)) (w .lowest .ensures) (c .rest .ensures)
 
 loop-again : tie.Need-loop-again Inv-loop μ-loop
 loop-again c =
-    let p = c .before .before .before .before .before in
-    let l = p .before .before .loop in
-    let s = p .before .before .before in
-    let a = s .args in
-    let inside : l .j < 64 = omega (arith, s .pre .few) in
-    let set = has (l .rows .bits) in
-    let b = c .before .before .both in
-    let listed = c .before .before .before .before .at .ensures ∙ ap (has (a .list .bits)) (row-here p) in (
-      omega arith,
-      c .step .ensures ∙ seat-next (a .order .now) (has (a .list .bits)) (l .j) (s .pre .places) inside (l .inv .1) listed,
-      c .before .add .ensures ∙ ap (λ (i : ℕ). cond (b .result) (gaining set i) set) (row-here p)
-          ∙ standing-next (a .order .now) (has (a .list .bits)) (l .j) (s .pre .places) inside (l .inv .1) listed (has (a .positions .bits)) set _ (s .pre .each (l .j) (omega arith)) (l .inv .2)
-          (b .ensures ∙ ap (_&&_ (c .before .before .before .before .at .result)) (c .before .before .before .at2 .ensures ∙ ap (has (a .positions .bits)) (seat (p .before)))),
+    let p = c .before .before in
+    let w = p .before in
+    let l = w .before .before .before .loop in
+    let s = w .before .before .before .before .before .before in
+    let i = w .lowest .result in
+    let here = position w in
+    let f = has (l .set .bits) in
+    let r : Within 64 (getD (s .args .rows .now) (i - 1) 0) = s .pre .each (i - 1) (omega arith) in
+    let inside : p .place-at .result < 64 = omega (arith, p .place-at .ensures) in (
+      joining (l .inv .0) (only i),
+      one-taken (l .inv .1) (some-left (w .before)) (w .lowest .ensures) (c .rest .ensures),
+      c .before .add .ensures ∙ ap (gaining f) (ap (λ (x : ℕ). x + 1) (mod-eq-of-lt inside) ∙ p .place-at .ensures)
+          ∙ standing-next (s .args .rows .now) (s .args .count) (s .pre .places) (s .pre .few) i (l .inv .0) f here r (l .inv .2),
     )
 
 returns : tie.Need-returns Inv-loop μ-loop
-returns c = let l = c .before .loop in let e : l .j ≡ c .before .before .args .count = omega arith in rw e at (l .inv .2)
+returns c =
+    let l = c .before .before .loop in
+    let cut = c .before .before .before in
+    let s = cut .before .before in
+    let all = all-taken (l .inv .1) (omega arith) (sym (c .before .is-empty .ensures) ∙ not-false _ (c .if1 .left)) in
+    l .inv .2 ∙ fun-ext (λ i.
+        ap (λ (q : ℕ → Bool). some 64 (λ k. q k && atSeat (take (s .args .count) (s .args .rows .now)) (eqb i) k)) (sym all ∙ cut .cut .ensures ∙ ap (cutTo (has (s .args .positions .bits))) (cut .before .first .ensures))
+        ∙ standing-all (s .args .rows .now) (s .args .count) (s .pre .places) (s .pre .few) (has (s .args .positions .bits)) i)
 
 pub standing-spec : {M : Type 1} → statement M
 standing-spec =
@@ -94,14 +106,15 @@ standing-spec =
     (tie.spec
     Inv-loop
     μ-loop
+    first-requires
+    cut-requires
     loop-holds
+    is-empty-requires
+    lowest-requires
+    sub-place-at
     place-at-requires
-    at-requires
-    at-requires-2
-    both-requires
     add-requires
-    step-requires
-    add-j
+    rest-requires
     loop-less
     loop-again
     returns)

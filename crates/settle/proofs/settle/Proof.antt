@@ -13,7 +13,6 @@ use Rattle.protocol.specs.Calls.{answers}
 use Rattle.protocol.specs.Polls.{polled, current, quorumHeld, ownTry}
 use Rattle.protocol.specs.Lists.{listChoice}
 use Rattle.table.proofs.WellFormedLaws.{sized, long, few-rows}
-use Rattle.table.proofs.ChainLaws.{listed-in}
 use Rattle.table.proofs.FormLaws.{formed}
 use Rattle.table.specs.Contracts.{Listed}
 use Rattle.table.specs.Chain.{orderOf}
@@ -32,8 +31,8 @@ own-used : (c : tie.After-used) → let s = c .before .before in Within (usedOf 
 own-used c = let s = c .before .before in has-within (usedOf (s .args .t .now)) (s .args .answering .bits) (s .args .c) (s .pre .2) (s .pre .3)
 
 -- the chain order
-listed : (c : tie.After-used) → Listed 64 (c .before .before .args .order .now) (c .used .result)
-listed c = let s = c .before .before in listed-in (few-rows (sized (s .pre .0))) (rw (c .used .ensures) (s .pre .1 .listed))
+listed : (c : tie.After-used) → Listed (c .used .result) (c .before .before .args .order .now) (c .used .result)
+listed c = rw (c .used .ensures) (c .before .before .pre .1 .listed)
 
 order-is : (c : tie.After-used) → take (c .used .result) (c .before .before .args .order .now) ≡ orderOf (c .before .before .args .t .now)
 order-is c = rw (c .used .ensures) (c .before .before .pre .1 .order)
