@@ -5,7 +5,7 @@ use quorums::Kind;
 use rows::RowSet;
 ghost use mathlib.Core.Path.{_≡_};
 ghost use mathlib.Core.Bool.{_&&_, cond};
-ghost use Prim.Native.Nat.{ℕ, _+_, _<_};
+ghost use Prim.Native.Nat.{ℕ, _+_, _*_, _^_, _<_};
 ghost use lib.Dec.{eqb};
 ghost use lib.ListN.{length, getD, take};
 ghost use Rattle.sets.specs.Upto.{Within, some};
@@ -69,16 +69,27 @@ fn seated(order: &[u8; 64], count: usize, members: RowSet) -> Seats
     lay(order, count, members)
 }
 
-// The positions at which a set of rows sits.
+// A set of positions, each moved up by one; position 1 is in it where b holds.
+fn pushed(set: RowSet, b: bool) -> RowSet
+    requires { ⌜ set .bits < 2 ^ 63 ⌝ }
+    ensures { λ r. ⌜ r .bits ≡ 2 * set .bits + cond b 1 0 ⌝ }
+{
+    let moved = 2 * set.bits;
+    RowSet {
+        bits: if b { moved + 1 } else { moved },
+    }
+}
+
+// The positions at which a set of rows sits, the last looked at first.
 fn held(rows: &[u8; 64], count: usize, set: RowSet) -> RowSet
     requires { ⌜ Listed 64 (now rows) count ⌝ }
     ensures { λ r. ⌜ has (r .bits) ≡ atSeat (take count (now (rows .entry))) (has (set .bits)) ⌝ }
 {
     let mut positions = RowSet::EMPTY;
-    let mut j = 0;
-    while j < count {
-        positions = positions.add(j, set.at(place_at(rows, j)));
-        j += 1;
+    let mut j = count;
+    while 0 < j {
+        j -= 1;
+        positions = pushed(positions, set.at(place_at(rows, j)));
     }
     positions
 }

@@ -1,37 +1,60 @@
-use mathlib.Core.Bool.{Bool, cond}
-use mathlib.Core.Path.{_≡_, refl, ap, _∙_}
-use Prim.Native.Nat.{ℕ, _+_, _-_, _%_, _≤_, _<_}
-use native.Mathlib.Nat.{mod-eq-of-lt}
+use mathlib.Core.Bool.{Bool, true, false, cond}
+use mathlib.Core.Path.{_≡_, refl, sym, ap, _∙_}
+use mathlib.Core.List.{List, []}
+use Prim.Native.Nat.{ℕ, suc, _+_, _-_, _*_, _%_, _^_, _≤_, _<_}
+use native.Mathlib.Nat.{mod-eq-of-lt, pow-suc, lt-of-lt-of-le}
+use lib.Pow.{pow-mono}
 use native.Mathlib.Omega.{arith}
 use borrow.Author.Needs.{needs}
-use lib.ListN.{getD, take}
+use lib.ListN.{length, getD, take, drop}
+use lib.Seq.{length-take-le, getD-take, drop-length}
 use Rattle.lists.proofs.SeatLaws.{held-next, none-held}
 use Rattle.protocol.specs.Lists.{atSeat}
 use Rattle.sets.proofs.SetLaws.{has-empty}
-use Rattle.sets.specs.Sets.{has, gaining}
+use Rattle.sets.specs.Sets.{has}
 use Rattle.lists.proofs.held.Statement.{statement}
 use Rattle.lists.proofs.held.Tie as tie
 
+-- the positions behind j are looked at
 abbrev Inv-loop : tie.InvT-loop
-Inv-loop rows count set positions₀ j₀ positions j = (j ≤ count) × (has (positions .bits) ≡ atSeat (take j rows) (has (set .bits)))
+Inv-loop rows count set positions₀ j₀ positions j = (j ≤ count) × (positions .bits < 2 ^ (count - j)) × (has (positions .bits) ≡ atSeat (drop j (take count rows)) (has (set .bits)))
 
 abbrev μ-loop : tie.MeasureT-loop
-μ-loop rows count set positions₀ j₀ positions j = count - j
+μ-loop rows count set positions₀ j₀ positions j = j
+
+bit-le : (b : Bool) → cond b 1 0 ≤ 1
+bit-le true = omega arith
+bit-le false = omega arith
+
+-- there is room for one position more
+below : (c : tie.In-loop Inv-loop μ-loop) → c .before .loop .positions .bits < 2 ^ 63
+below c =
+    let l = c .before .loop in
+    let s = c .before .before in
+    let few : s .args .count - l .j ≤ 63 = omega (arith, s .pre .few, c .loop-test .taken) in
+    lt-of-lt-of-le (l .inv .1) (pow-mono few)
 
 loop-holds : tie.Need-loop-holds Inv-loop μ-loop
-loop-holds c = (omega arith, has-empty ∙ none-held _)
+loop-holds s =
+    let n = s .args .count in
+    let ys = take n (s .args .rows .now) in
+    let z : n - n ≡ 0 = omega arith in
+    let none : drop n ys ≡ [] = ap (λ (m : ℕ). drop m ys) (sym (length-take-le n (s .args .rows .now) (omega (arith, s .pre .places, s .pre .few)))) ∙ drop-length ys in
+    (omega arith, rw z (omega arith), has-empty ∙ none-held (has (s .args .set .bits)) ∙ ap (λ (xs : List ℕ). atSeat xs (has (s .args .set .bits))) (sym none))
+
+sub-j : tie.Need-sub-j Inv-loop μ-loop
+sub-j c = search needs
 
 place-at-requires : tie.Need-place-at-requires Inv-loop μ-loop
-place-at-requires c κs = let s = c .before .before in (s .pre .places, omega (arith, s .pre .few), s .pre .each (c .before .loop .j) (omega arith))
+place-at-requires c κs =
+    let s = c .before .before in
+    (s .pre .places, omega (arith, s .pre .few), s .pre .each _ (omega (arith, c .loop-test .taken)))
 
 at-requires : tie.Need-at-requires Inv-loop μ-loop
 at-requires c κs = search needs
 
-add-requires : tie.Need-add-requires Inv-loop μ-loop
-add-requires c κs = search needs
-
-add-j : tie.Need-add-j Inv-loop μ-loop
-add-j c = search needs
+pushed-requires : tie.Need-pushed-requires Inv-loop μ-loop
+pushed-requires c κs = below (c .before .before)
 
 loop-less : tie.Need-loop-less Inv-loop μ-loop
 loop-less c = search needs
@@ -41,20 +64,27 @@ loop-again c =
     let p = c .before .before in
     let l = p .before .before .loop in
     let s = p .before .before .before in
-    let f = has (l .positions .bits) in
-    let inside : l .j < 64 = omega (arith, s .pre .few) in
-    let row : p .place-at .result % 64 + 1 ≡ getD (s .args .rows .now) (l .j) 0 =
-    ap (λ (x : ℕ). x + 1) (mod-eq-of-lt (let below : p .place-at .result < 64 = omega (arith, p .place-at .ensures, s .pre .each (l .j) (omega arith)) in below)) ∙ p .place-at .ensures in (
+    let rows = s .args .rows .now in
+    let n = s .args .count in
+    let j = l .j - 1 in
+    let back : j + 1 ≡ l .j = omega (arith, p .before .loop-test .taken) in
+    let inside : j < n = omega (arith, p .before .loop-test .taken) in
+    let small : p .place-at .result < 64 = omega (arith, p .place-at .ensures, s .pre .each j inside) in
+    let row : p .place-at .result % 64 + 1 ≡ getD (take n rows) j 0 = ap (λ (x : ℕ). x + 1) (mod-eq-of-lt small) ∙ p .place-at .ensures ∙ sym (getD-take n rows j 0 inside) in
+    let more : n - j ≡ suc (n - l .j) = omega (arith, p .before .loop-test .taken) in (
       omega arith,
-      c .add .ensures ∙ ap (λ (k : ℕ). cond (c .before .at .result) (gaining f (k + 1)) f) (mod-eq-of-lt inside)
-          ∙ held-next (s .args .rows .now) (l .j) (s .pre .places) inside (has (s .args .set .bits)) f _ (l .inv .1) (c .before .at .ensures ∙ ap (has (s .args .set .bits)) row),
+      rw more (omega (arith, c .pushed .ensures, l .inv .1, pow-suc 2 (n - l .j), bit-le (c .before .at .result))),
+      ap has (c .pushed .ensures) ∙ held-next (take n rows) j (l .positions .bits) (has (s .args .set .bits)) _
+          (omega (arith, length-take-le n rows (omega (arith, s .pre .places, s .pre .few))))
+          (l .inv .2 ∙ ap (λ (m : ℕ). atSeat (drop m (take n rows)) (has (s .args .set .bits))) (sym back))
+          (c .before .at .ensures ∙ ap (has (s .args .set .bits)) row),
     )
 
 returns : tie.Need-returns Inv-loop μ-loop
 returns c =
     let l = c .before .loop in
-    let e : l .j ≡ c .before .before .args .count = omega arith in
-    rw e at (l .inv .1)
+    let e : l .j ≡ 0 = omega (arith, c .loop-test .left) in
+    rw e at (l .inv .2)
 
 pub held-spec : {M : Type 1} → statement M
 held-spec =
@@ -63,10 +93,10 @@ held-spec =
     Inv-loop
     μ-loop
     loop-holds
+    sub-j
     place-at-requires
     at-requires
-    add-requires
-    add-j
+    pushed-requires
     loop-less
     loop-again
     returns)
