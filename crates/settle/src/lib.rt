@@ -1,5 +1,4 @@
 // The set that a call works on: P or R.
-use bools::both;
 use fields::Laid;
 use quorums::Kind;
 use rows::RowSet;
@@ -7,8 +6,9 @@ use verdicts::Verdict;
 use verdicts::asked;
 use verdicts::judged;
 use verdicts::quorum_held;
+use verdicts::told;
 ghost use mathlib.Core.Path.{_≡_};
-ghost use mathlib.Core.Bool.{true, _&&_};
+ghost use mathlib.Core.Bool.{true, cond, _&&_};
 ghost use Prim.Native.Nat.{_^_, _<_};
 ghost use lib.ListN.{take};
 ghost use Rattle.sets.specs.Upto.{some};
@@ -61,6 +61,28 @@ fn passes(
     quorum_held(kind, order, count, list, s)
 }
 
+// All rows that answered are worked on, with what questions 6 and 7 say of them.
+fn on_all(
+    kind: Kind,
+    order: &[u8; 64],
+    count: usize,
+    answering: RowSet,
+    whole: Verdict,
+) -> Settled
+    requires { ⌜ Listed count (now order) count ⌝ }
+    ensures { λ r. ⌜ r ≡ record { rows = answering; refusal = cond (some 64 (has (answering .bits)) && listQuorum kind (take count (now (order .entry))) (whole .list) (has (answering .bits))) (cond (whole .current) 0 7) 6; good = whole .good; version = whole .version } ⌝ }
+{
+    let no = asked(
+        kind,
+        order,
+        count,
+        whole.list,
+        answering,
+        whole.current,
+    );
+    settled_on(answering, no, whole)
+}
+
 // The set that a read or a write works on: P, the coordinator's own choice cut down to the rows that answered, if questions 6 and 7
 // are yes for it; otherwise all of them. `order` starts with the used rows in chain order.
 pub fn settle(kind: Kind, t: &[u8], order: &[u8; 64], c: usize, answering: RowSet) -> Settled
@@ -72,11 +94,33 @@ pub fn settle(kind: Kind, t: &[u8], order: &[u8; 64], c: usize, answering: RowSe
     let own = fields::list(row);
     let chosen = lists::choice(kind, order, count, own, fields::name(row));
     let tried = chosen.cut(answering);
-    let part = judged(t, tried);
-    // a choice of which every row answered holds a quorum of the list that it was made over
-    let sure = both(
-        tried.bits == chosen.bits,
-        part.list.members == own.members,
+    if tried.bits == chosen.bits {
+        // the whole choice answered: it is polled alone, and holds a quorum of the list that it was made over
+        let part = judged(t, tried);
+        let sure = part.list.members == own.members;
+        if passes(
+            kind,
+            order,
+            count,
+            part.list,
+            tried,
+            part.current,
+            sure,
+        ) {
+            return settled_on(tried, 0, part);
+        }
+        return on_all(kind, order, count, answering, judged(t, answering));
+    }
+    // one poll for both sets
+    let poll = polls::gather(t, answering);
+    let stale = poll.stale;
+    let part = told(
+        t,
+        stale,
+        &poll.versions,
+        &poll.desired,
+        &poll.epochs,
+        tried,
     );
     if passes(
         kind,
@@ -85,18 +129,17 @@ pub fn settle(kind: Kind, t: &[u8], order: &[u8; 64], c: usize, answering: RowSe
         part.list,
         tried,
         part.current,
-        sure,
+        false,
     ) {
         return settled_on(tried, 0, part);
     }
-    let whole = judged(t, answering);
-    let no = asked(
-        kind,
-        order,
-        count,
-        whole.list,
+    let whole = told(
+        t,
+        stale,
+        &poll.versions,
+        &poll.desired,
+        &poll.epochs,
         answering,
-        whole.current,
     );
-    settled_on(answering, no, whole)
+    on_all(kind, order, count, answering, whole)
 }

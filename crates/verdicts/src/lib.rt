@@ -43,7 +43,7 @@ fn tally_of<'a>(
     epochs: &'a [u32; 64],
     s: RowSet,
 ) -> Tally
-    ensures { λ r. ⌜ ((p : Poll) → Shows (pollOf stale (now (versions .entry)) (now (desired .entry)) (now (epochs .entry))) p → Tallied p (has (s .bits)) r) ⌝ }
+    ensures { λ r. ⌜ ((i : ℕ) → has (r .leaders .bits) i ≡ true → has (s .bits) i ≡ true) × ((p : Poll) → Shows (pollOf stale (now (versions .entry)) (now (desired .entry)) (now (epochs .entry))) p → Tallied p (has (s .bits)) r) ⌝ }
 {
     let best = places::best(versions, s.outside(stale));
     let passed = places::above(desired, s.cut(stale), best.value);
@@ -72,13 +72,19 @@ fn list_of(t: &[u8], leaders: RowSet) -> Laid
     fields::list(table::row_of(t, leader))
 }
 
-// What a poll of a set of rows says of it.
-pub fn judged(t: &[u8], s: RowSet) -> Verdict
+// What a poll of some rows says of a set of them. The arrays are those of the poll.
+pub fn told<'a>(
+    t: &[u8],
+    stale: RowSet,
+    versions: &'a [u32; 64],
+    desired: &'a [u32; 64],
+    epochs: &'a [u32; 64],
+    s: RowSet,
+) -> Verdict
     requires { ⌜ Sized (now t) × (s .bits < 2 ^ usedOf (now t)) ⌝ }
-    ensures { λ r. ⌜ Judged (answers (now (t .entry)) (s .bits)) (has (s .bits)) r ⌝ }
+    ensures { λ v. ⌜ ((r : ℕ) → ((i : ℕ) → has (s .bits) i ≡ true → has r i ≡ true) → Shows (pollOf stale (now (versions .entry)) (now (desired .entry)) (now (epochs .entry))) (answers (now (t .entry)) r) → Judged (answers (now (t .entry)) r) (has (s .bits)) v) ⌝ }
 {
-    let poll = polls::gather(t, s);
-    let found = tally_of(poll.stale, &poll.versions, &poll.desired, &poll.epochs, s);
+    let found = tally_of(stale, versions, desired, epochs, s);
     let good = found.good;
     let leaders = found.leaders;
     Verdict {
@@ -88,6 +94,22 @@ pub fn judged(t: &[u8], s: RowSet) -> Verdict
         epoch: found.epoch,
         list: list_of(t, leaders),
     }
+}
+
+// What a poll of a set of rows says of it.
+pub fn judged(t: &[u8], s: RowSet) -> Verdict
+    requires { ⌜ Sized (now t) × (s .bits < 2 ^ usedOf (now t)) ⌝ }
+    ensures { λ v. ⌜ Judged (answers (now (t .entry)) (s .bits)) (has (s .bits)) v ⌝ }
+{
+    let poll = polls::gather(t, s);
+    told(
+        t,
+        poll.stale,
+        &poll.versions,
+        &poll.desired,
+        &poll.epochs,
+        s,
+    )
 }
 
 // Question 6: does a set hold a quorum of a list? An empty one does not.

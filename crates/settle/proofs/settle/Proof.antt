@@ -5,12 +5,11 @@ use Prim.Native.Nat.{ℕ, _^_, _<_}
 use native.Mathlib.Omega.{arith}
 use borrow.Author.Needs.{needs}
 use borrow.Author.Tests.{eqb-true}
-use lib.Dec.{eqb}
 use lib.ListN.{take}
-use Rattle.settle.proofs.SettleLaws.{sure-held, try-in, works-on-try, works-on-all}
-use Rattle.verdicts.proofs.ForceLaws.{six-is, verdict-is}
+use Rattle.settle.proofs.SettleLaws.{sure-held, try-in, works-on-try, works-on-all, alone}
+use Rattle.verdicts.specs.Judged.{Judged}
 use Rattle.protocol.specs.Calls.{answers}
-use Rattle.protocol.specs.Polls.{polled, current, quorumHeld, ownTry}
+use Rattle.protocol.specs.Polls.{polled, ownTry}
 use Rattle.protocol.specs.Lists.{listChoice}
 use Rattle.table.proofs.WellFormedLaws.{sized, long, few-rows}
 use Rattle.table.proofs.FormLaws.{formed}
@@ -19,7 +18,7 @@ use Rattle.table.specs.Chain.{orderOf}
 use Rattle.fields.specs.declared.Laid.{Laid}
 use Rattle.fields.specs.Layout.{get, name, list, noList, usedOf, nameOf, listOf}
 use Rattle.fields.proofs.FieldLaws.{laid-same}
-use Rattle.bools.proofs.BoolLaws.{and-l, and-r}
+use Rattle.bools.proofs.BoolLaws.{clash}
 use Rattle.sets.proofs.SetLaws.{has-within, within-lt}
 use Rattle.sets.specs.Sets.{has, cutTo}
 use Rattle.sets.specs.Upto.{Within}
@@ -67,6 +66,26 @@ tried-used c =
     within-lt (usedOf (s .args .t .now)) (c .cut .result .bits) (few-rows (sized (s .pre .0))) (omega arith)
     (λ i m. has-within _ (s .args .answering .bits) i (s .pre .2) (try-in (s .args .kind) (s .args .t .now) (s .args .c) (s .args .answering .bits) (c .cut .result .bits) (tried c) i m))
 
+-- what a poll of the rows that answered says of P, and of them all
+part-alone : (c : tie.After-judged) → let s = c .before .before .before .before .before .before .before .before .before .before .before in
+    Judged (answers (s .args .t .now) (s .args .answering .bits)) (has (c .before .before .before .before .cut .result .bits)) (c .judged .result)
+part-alone c =
+    let s = c .before .before .before .before .before .before .before .before .before .before .before in
+    alone (s .args .kind) (s .args .t .now) (s .args .c) (s .args .answering .bits) (c .before .before .before .before .cut .result .bits) (tried (c .before .before .before .before)) _ (c .judged .ensures)
+
+part-told : (c : tie.After-told) → let s = c .before .before .before .before .before .before .before .before .before .before .before .before .before .before .before .before .before in
+    Judged (answers (s .args .t .now) (s .args .answering .bits)) (has (c .before .before .before .before .before .before .before .before .before .before .cut .result .bits)) (c .told .result)
+unfolding answers
+part-told c =
+    let s = c .before .before .before .before .before .before .before .before .before .before .before .before .before .before .before .before .before in
+    let p = c .before .before .before .before .before .before .before .before .before .before in
+    c .told .ensures (s .args .answering .bits) (try-in (s .args .kind) (s .args .t .now) (s .args .c) (s .args .answering .bits) (p .cut .result .bits) (tried p)) (c .before .before .before .before .before .before .gather .ensures)
+
+whole-told : (c : tie.After-told2) → let s = c .before .before .before .before .before .before .before .before .before .before .before .before .before .before .before .before .before .before .before .before .before .before .before .before in
+    Judged (answers (s .args .t .now) (s .args .answering .bits)) (has (s .args .answering .bits)) (c .told2 .result)
+unfolding answers
+whole-told c = c .told2 .ensures (c .before .before .before .before .before .before .before .before .before .before .before .before .before .before .before .before .before .before .before .before .before .before .before .before .args .answering .bits) (λ i m. m) (c .before .before .before .before .before .before .before .before .before .before .before .before .before .gather .ensures)
+
 used-requires : tie.Need-used-requires
 used-requires c κs = long (sized (c .before .pre .0))
 
@@ -86,66 +105,77 @@ cut-requires : tie.Need-cut-requires
 cut-requires c κs = search needs
 
 judged-requires : tie.Need-judged-requires
-judged-requires c κs = (sized (c .before .before .before .before .before .before .before .pre .0), tried-used c)
+judged-requires c κs = (sized (c .before .before .before .before .before .before .before .before .before .before .pre .0), tried-used (c .before .before .before))
 
-both-requires : tie.Need-both-requires
-both-requires c κs = search needs
-
--- where it is sure, P is the choice and the list in force is the coordinator's own
+-- where the list in force is the coordinator's own, P, which is the whole choice, holds a quorum of it
 passes-requires : tie.Need-passes-requires
 unfolding listOf list
 passes-requires c κs =
-    let j = c .before .before .before .before .before in
+    let j = c .before .before in
     let s = c .before .before .before .before .before .before .before .before .before .before .before .before .before in
     let t = s .args .t .now in
-    let p = j .before .cut .result .bits in (
+    let p = c .before .before .before .before .before .before in (
       listed (c .before .before .before .before .before .before .before .before .before .before .before),
       λ k sure.
-          let b = sym (c .both .ensures) ∙ sure in
-          let whole : has p ≡ has (j .before .before .choice .result .bits) = ap has (eqb-true _ _ (and-l _ _ b)) in
-          let force : j .judged .result .list ≡ listOf t (s .args .c) = laid-same _ _ (eqb-true _ _ (and-r (eqb p (j .before .before .choice .result .bits)) _ b)) ∙ own-is (j .before .before .before .before) in
-          rw (order-is (c .before .before .before .before .before .before .before .before .before .before .before), force) (sure-held (s .args .kind) t p _ (listOf t (s .args .c)) (s .pre .0) (formed t (s .pre .0) .rows _ (own-used (c .before .before .before .before .before .before .before .before .before .before .before)) .only) (whole ∙ chosen-is (j .before .before)) (sym (j .judged .ensures .current) ∙ k)),
+          let whole : has (p .cut .result .bits) ≡ has (p .before .choice .result .bits) = ap has (c .before .before .before .if1 .taken) in
+          let force : j .judged .result .list ≡ listOf t (s .args .c) = laid-same _ _ (eqb-true _ _ sure) ∙ own-is (c .before .before .before .before .before .before .before .before .before) in
+          rw (order-is (c .before .before .before .before .before .before .before .before .before .before .before), force) (sure-held (s .args .kind) t (p .cut .result .bits) _ (listOf t (s .args .c)) (s .pre .0) (formed t (s .pre .0) .rows _ (own-used (c .before .before .before .before .before .before .before .before .before .before .before)) .only) (whole ∙ chosen-is (p .before)) (sym (j .judged .ensures .current) ∙ k)),
     )
 
 settled-on-requires : tie.Need-settled-on-requires
 settled-on-requires c κs = search needs
 
--- what was asked of P
-asked-is : (c : tie.After-passes) → let a = c .before .before .before .before .before .before .before .before .before .before .before .before .before .before .args in
-    let p = c .before .before .before .before .before .before .before .cut .result .bits in
-    c .passes .result ≡ (current (answers (a .t .now) p) (has p) && quorumHeld (a .kind) (orderOf (a .t .now)) (answers (a .t .now) p) (has p))
-asked-is c =
-    let j = c .before .before .before .before .before .before in
-    c .passes .ensures ∙ ap₂ _&&_ (j .judged .ensures .current) (six-is (c .before .before .before .before .before .before .before .before .before .before .before .before .before .before .args .t .now) (j .before .cut .result .bits) (c .before .before .before .before .before .before .before .before .before .before .before .before .before .before .args .kind) _ _ (order-is (c .before .before .before .before .before .before .before .before .before .before .before .before)) (j .judged .ensures))
-
 returns : tie.Need-returns
 returns c =
-    let q = c .before .before in
-    let j = q .before .before .before .before .before .before in
-    let s = q .before .before .before .before .before .before .before .before .before .before .before .before .before .before in
-    let yes = sym (asked-is q) ∙ c .before .if1 .taken in
-    works-on-try (s .args .kind) (s .args .t .now) (s .args .c) (s .args .answering .bits) (j .before .cut .result .bits) (tried (j .before)) _ (j .before .cut .result) _ refl (c .settled-on .ensures) (j .judged .ensures)
-    (and-r (current (answers (s .args .t .now) (j .before .cut .result .bits)) (has (j .before .cut .result .bits))) _ yes) (j .judged .ensures .current ∙ and-l _ _ yes)
+    let s = c .before .before .before .before .before .before .before .before .before .before .before .before .before .before .before .before in
+    let p = c .before .before .before .before .before .before .before .before .before in
+    works-on-try (s .args .kind) (s .args .t .now) (s .args .c) (s .args .answering .bits) (p .cut .result .bits) (tried p) _ (order-is (c .before .before .before .before .before .before .before .before .before .before .before .before .before .before)) _ (part-alone (c .before .before .before .before .before)) _ (c .before .before .passes .ensures)
+    (c .before .if2 .taken) _ (p .cut .result) refl (c .settled-on .ensures)
 
 judged-requires-2 : tie.Need-judged-requires-2
 judged-requires-2 c κs = let s = c .before .before .before .before .before .before .before .before .before .before .before .before .before .before .before in (sized (s .pre .0), s .pre .2)
 
-asked-requires : tie.Need-asked-requires
-asked-requires c κs = listed (c .before .before .before .before .before .before .before .before .before .before .before .before .before .before)
+on-all-requires : tie.Need-on-all-requires
+on-all-requires c κs = listed (c .before .before .before .before .before .before .before .before .before .before .before .before .before .before)
+
+returns-2 : tie.Need-returns-2
+returns-2 c =
+    let s = c .before .before .before .before .before .before .before .before .before .before .before .before .before .before .before .before .before in
+    let p = c .before .before .before .before .before .before .before .before .before .before in
+    works-on-all (s .args .kind) (s .args .t .now) (s .args .c) (s .args .answering .bits) (p .cut .result .bits) (tried p) _ (order-is (c .before .before .before .before .before .before .before .before .before .before .before .before .before .before .before)) _ (part-alone (c .before .before .before .before .before .before)) _ (c .before .before .before .passes .ensures)
+    (c .before .before .if2 .left) _ (s .args .answering) _ refl (c .before .judged2 .ensures) (c .on-all .ensures)
+
+gather-requires : tie.Need-gather-requires
+gather-requires c κs = let s = c .before .before .before .before .before .before .before .before .before .before in (sized (s .pre .0), s .pre .2)
+
+told-requires : tie.Need-told-requires
+told-requires c κs = (sized (c .before .before .before .before .before .before .before .before .before .before .before .before .before .before .before .before .pre .0), tried-used (c .before .before .before .before .before .before .before .before .before))
+
+passes-requires-2 : tie.Need-passes-requires-2
+passes-requires-2 c κs = (listed (c .before .before .before .before .before .before .before .before .before .before .before .before .before .before .before), λ k never. absurd (clash never))
 
 settled-on-requires-2 : tie.Need-settled-on-requires-2
 settled-on-requires-2 c κs = search needs
 
-returns-2 : tie.Need-returns-2
-returns-2 c =
-    let j = c .before .before in
-    let q = j .before .before in
-    let s = q .before .before .before .before .before .before .before .before .before .before .before .before .before .before in
-    let p = q .before .before .before .before .before .before .before in
-    let t = s .args .t .now in
-    let r = s .args .answering .bits in
-    works-on-all (s .args .kind) t (s .args .c) r (p .cut .result .bits) (tried p) (sym (asked-is q) ∙ j .before .if1 .left) _ _ (s .args .answering) _ refl (c .settled-on2 .ensures) (j .judged2 .ensures)
-    (verdict-is t r (s .args .kind) _ _ (order-is (q .before .before .before .before .before .before .before .before .before .before .before .before)) (j .judged2 .ensures) _ (c .before .asked .ensures))
+returns-3 : tie.Need-returns-3
+returns-3 c =
+    let s = c .before .before .before .before .before .before .before .before .before .before .before .before .before .before .before .before .before .before .before .before in
+    let p = c .before .before .before .before .before .before .before .before .before .before .before .before .before in
+    works-on-try (s .args .kind) (s .args .t .now) (s .args .c) (s .args .answering .bits) (p .cut .result .bits) (tried p) _ (order-is (c .before .before .before .before .before .before .before .before .before .before .before .before .before .before .before .before .before .before)) _ (part-told (c .before .before .before)) _ (c .before .before .passes2 .ensures)
+    (c .before .if3 .taken) _ (p .cut .result) refl (c .settled-on2 .ensures)
+
+told-requires-2 : tie.Need-told-requires-2
+told-requires-2 c κs = let s = c .before .before .before .before .before .before .before .before .before .before .before .before .before .before .before .before .before .before .before .before .before .before .before in (sized (s .pre .0), s .pre .2)
+
+on-all-requires-2 : tie.Need-on-all-requires-2
+on-all-requires-2 c κs = listed (c .before .before .before .before .before .before .before .before .before .before .before .before .before .before .before .before .before .before .before .before .before .before)
+
+returns-4 : tie.Need-returns-4
+returns-4 c =
+    let s = c .before .before .before .before .before .before .before .before .before .before .before .before .before .before .before .before .before .before .before .before .before .before .before .before .before in
+    let p = c .before .before .before .before .before .before .before .before .before .before .before .before .before .before .before .before .before .before in
+    works-on-all (s .args .kind) (s .args .t .now) (s .args .c) (s .args .answering .bits) (p .cut .result .bits) (tried p) _ (order-is (c .before .before .before .before .before .before .before .before .before .before .before .before .before .before .before .before .before .before .before .before .before .before .before)) _ (part-told (c .before .before .before .before .before .before .before .before)) _ (c .before .before .before .before .before .before .before .passes2 .ensures)
+    (c .before .before .before .before .before .before .if3 .left) _ (s .args .answering) _ refl (whole-told (c .before)) (c .on-all2 .ensures)
 
 pub settle-spec : {M : Type 1} → statement M
 settle-spec =
@@ -158,11 +188,17 @@ settle-spec =
     choice-requires
     cut-requires
     judged-requires
-    both-requires
     passes-requires
     settled-on-requires
     returns
     judged-requires-2
-    asked-requires
+    on-all-requires
+    returns-2
+    gather-requires
+    told-requires
+    passes-requires-2
     settled-on-requires-2
-    returns-2)
+    returns-3
+    told-requires-2
+    on-all-requires-2
+    returns-4)

@@ -1,4 +1,8 @@
+use mathlib.Core.Path.{sym, _∙_, ap}
+use mathlib.Core.Bool.{Bool}
+use Prim.Native.Nat.{ℕ}
 use borrow.Author.Needs.{needs}
+use Rattle.bools.proofs.BoolLaws.{and-l}
 use Rattle.sets.specs.Sets.{has}
 use Rattle.verdicts.proofs.TallyLaws.{tallied}
 use Rattle.verdicts.proofs.tally_of.Statement.{statement}
@@ -26,16 +30,19 @@ both-requires : tie.Need-both-requires
 both-requires c κs = search needs
 
 returns : tie.Need-returns
-returns c p shown =
+returns c =
     let latest = c .before .before in
     let above = latest .before .before .before in
     let best = above .before .before in
-    tallied _ p shown (has (best .before .before .args .s .bits)) _ _ (best .before .outside .ensures) (best .best .ensures) _ _ _ _ _
-    (above .before .cut .ensures)
-    (above .above .ensures)
-    (latest .before .is-empty .ensures)
-    (c .both .ensures)
-    (latest .best2 .ensures)
+    let s = has (best .before .before .args .s .bits) in (
+      λ i h. and-l (s i) _ (ap (λ (f : ℕ → Bool). f i) (sym (latest .best2 .ensures .rows)) ∙ h),
+      λ p shown. tallied _ p shown s _ _ (best .before .outside .ensures) (best .best .ensures) _ _ _ _ _
+          (above .before .cut .ensures)
+          (above .above .ensures)
+          (latest .before .is-empty .ensures)
+          (c .both .ensures)
+          (latest .best2 .ensures),
+    )
 
 pub tally-of-spec : {M : Type 1} → statement M
 tally-of-spec =

@@ -1,0 +1,18 @@
+use borrow.Author.Needs.{needs}
+use mathlib.Core.Path.{_∙_, ap}
+use Prim.Native.Nat.{ℕ}
+use Rattle.settle.specs.declared.Settled.{Settled}
+use Rattle.settle.proofs.on_all.Statement.{statement}
+use Rattle.settle.proofs.on_all.Tie as tie
+
+asked-requires : tie.Need-asked-requires
+asked-requires c κs = search needs
+
+settled-on-requires : tie.Need-settled-on-requires
+settled-on-requires c κs = search needs
+
+returns : tie.Need-returns
+returns c = rw (c .settled-on .ensures, c .before .asked .ensures)
+
+pub on-all-spec : {M : Type 1} → statement M
+on-all-spec = tie.close (tie.spec asked-requires settled-on-requires returns)
