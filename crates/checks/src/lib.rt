@@ -25,14 +25,8 @@ pub fn check(t: &mut [u8], c: usize, r: u64) -> u64
     if v.list.members == r {
         return result(0, v.epoch);
     }
-    let later = asked(
-        Kind::Write,
-        &order,
-        header::used(t),
-        v.list,
-        answering,
-        v.current,
-    );
+    let count = header::used(t);
+    let later = asked(Kind::Write, &order, count, v.list, answering, v.current);
     if later != 0 {
         return result(later, 0);
     }

@@ -41,14 +41,7 @@ fn check_row(row: &mut [u8], good: bool, version: u32, epoch: u32, list: Laid)
 }
 
 // What an epoch check makes of the rows of the new list.
-pub fn check_rows(
-    t: &mut [u8],
-    set: RowSet,
-    good: RowSet,
-    version: u32,
-    epoch: u32,
-    list: Laid,
-)
+pub fn check_rows(t: &mut [u8], set: RowSet, good: RowSet, version: u32, epoch: u32, list: Laid)
     requires { ⌜ Sized (now t) × ((i : ℕ) → has (set .bits) i ≡ true → Within (usedOf (now t)) i) ⌝ }
     ensures { λ r. ⌜ now (t .exit) ≡ withRows (now (t .entry)) (has (set .bits)) (checkedRow (has (good .bits)) version epoch list) (usedOf (now (t .entry))) ⌝ }
 {

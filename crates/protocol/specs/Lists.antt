@@ -23,7 +23,7 @@ seats order p = keep p order
 unfoldable pub atSeat : List ℕ → (ℕ → Bool) → ℕ → Bool
 atSeat rows p k = leb 1 k && leb k (length rows) && p (getD rows (k - 1) 0)
 
--- ---- a level: those that pass p, laid in the grid of their number
+-- ---- a level: those that pass p, laid in the grid of their number; "the length N of a list is how many members it has"
 -- the rows s hold a quorum of them
 unfoldable pub level : Kind → List ℕ → (ℕ → Bool) → (ℕ → Bool) → Bool
 level kind order p s = let N = count 64 p in quorum kind (published N) N (atSeat (seats order p) s)
