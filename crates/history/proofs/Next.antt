@@ -17,7 +17,7 @@ use Rattle.table.proofs.FormLaws.{Formed}
 use Rattle.fields.specs.declared.Laid.{Laid}
 use Rattle.protocol.specs.Polls.{polled, highestEpoch, inForce, goodVersion, good, current}
 use Rattle.protocol.specs.Calls.{Writing, Sending, Checking, answers, workSet}
-use Rattle.protocol.proofs.RowLaws.{fieldAt, fieldsOf, changed}
+use Rattle.protocol.proofs.RowLaws.{fieldAt, fieldsOf, changed, relisted}
 use Rattle.protocol.proofs.FrameLaws.{Frame, same-used, same-file, same-order}
 use Rattle.protocol.proofs.QuestionLaws.{WriteYes, SendYes, CheckYes}
 use Rattle.protocol.proofs.DoneLaws.{RowBecomes, writeTable, write-leaves, write-taken, write-marked, sendTable, send-leaves, send-target, checkTable, check-leaves, check-taken, check-marked}
@@ -153,7 +153,7 @@ module _ (t : List ℕ) (b : Book) (e : ℕ) (S : State t b e) (a : Checking) (y
     fresh i u m q = omega (arith, force-is .0, S .inv .epochs .below i u)
 
     checked : Checked (usedOf t) (whole t) (contentsOf t) b e (few t b e S (a .r)) (S .inv) (whole cu) (contentsOf cu) (a .r) (highestEpoch (whole t) (has (a .r)) + 1)
-    unfolding cu whole polled changed fieldsOf fieldAt staleOf versionOf desiredOf contentsOf
+    unfolding cu whole polled relisted changed fieldsOf fieldAt staleOf versionOf desiredOf contentsOf
     checked = record {
       epoch = rw (sym (epoch-whole t b e S (a .r) (has (a .r)) all)) (λ i v. check-membership t a y room cur i v .0);
       list = λ i v. check-membership t a y room cur i v .1;

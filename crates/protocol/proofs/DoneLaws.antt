@@ -22,7 +22,7 @@ use Rattle.protocol.specs.Polls.{Poll, polled, highestEpoch, goodVersion
 use Rattle.protocol.specs.Lists.{laidNow}
 use Rattle.protocol.specs.Rows.{refreshedRow, withRow, withRows, wroteRow, checkedRow}
 use Rattle.protocol.specs.Calls.{Writing, Sending, Checking, answers, workSet}
-use Rattle.protocol.proofs.RowLaws.{fieldAt, Becomes, fieldsOf, changed, unchanged, marked-row, patched-row, then-enrolled, refreshed-row}
+use Rattle.protocol.proofs.RowLaws.{fieldAt, Becomes, fieldsOf, changed, relisted, unchanged, marked-row, patched-row, then-enrolled, refreshed-row}
 use Rattle.protocol.proofs.TableLaws.{row-long, Changed, one-row, many-rows}
 use Rattle.protocol.proofs.PollLaws.{worked-in, version-under, epoch-under}
 use Rattle.protocol.proofs.FrameLaws.{Frame, frame-of}
@@ -202,7 +202,7 @@ module _ (t : List ℕ) (a : Checking) (y : CheckYes t a) (room : highestEpoch (
 
   enrolled : (i : ℕ) → Within (usedOf t) i → (b : Bool) → cg i ≡ b
       → Becomes (rowBytes t i) (checkedRow cg cv ce (laidNow (a .r)) i (rowBytes t i))
-      (changed (changed (cond b (fieldsOf (rowBytes t i)) (changed (changed (fieldsOf (rowBytes t i)) 3 1) 5 cv)) 6 ce) 7 (a .r)) (contents (rowBytes t i))
+      (relisted (changed (cond b (fieldsOf (rowBytes t i)) (changed (changed (fieldsOf (rowBytes t i)) 3 1) 5 cv)) 6 ce) (laidNow (a .r))) (contents (rowBytes t i))
   unfolding checkedRow cv ce limit laidNow
   enrolled i u true e = rw e (then-enrolled (rowBytes t i) (long-row t cw i u) ce (laidNow (a .r)) (omega arith) list-fits (unchanged (rowBytes t i)))
   enrolled i u false e = rw e (then-enrolled (rowBytes t i) (long-row t cw i u) ce (laidNow (a .r)) (omega arith) list-fits (marked-row (rowBytes t i) (long-row t cw i u) cv (omega (arith, check-version))))
@@ -217,7 +217,7 @@ module _ (t : List ℕ) (a : Checking) (y : CheckYes t a) (room : highestEpoch (
   check-rows = check-changed
 
   pub check-leaves : Leaves t checkTable (has (a .r))
-  unfolding changed fieldsOf fieldAt
+  unfolding relisted changed fieldsOf fieldAt
   check-leaves = leaves-of t checkTable (has (a .r)) (checkedRow cg cv ce (laidNow (a .r))) check-changed (λ i u m. go i u (cg i) refl)
     where
       go : (i : ℕ) → Within (usedOf t) i → (b : Bool) → cg i ≡ b
@@ -226,12 +226,12 @@ module _ (t : List ℕ) (a : Checking) (y : CheckYes t a) (room : highestEpoch (
       go i u false e = (_, _, enrolled i u false e, refl, refl)
 
   pub check-taken : (i : ℕ) → Within (usedOf t) i → has (a .r) i ≡ true → good (answers t (a .r)) (has (a .r)) i ≡ true
-      → RowBecomes t checkTable i (changed (changed (fieldsOf (rowBytes t i)) 6 (highestEpoch (answers t (a .r)) (has (a .r)) + 1)) 7 (a .r)) (contents (rowBytes t i))
+      → RowBecomes t checkTable i (relisted (changed (fieldsOf (rowBytes t i)) 6 (highestEpoch (answers t (a .r)) (has (a .r)) + 1)) (laidNow (a .r))) (contents (rowBytes t i))
   unfolding cg cv ce
   check-taken i u m e = becomes-at (changed-row check-changed i u m) (enrolled i u true e)
 
   pub check-marked : (i : ℕ) → Within (usedOf t) i → has (a .r) i ≡ true → good (answers t (a .r)) (has (a .r)) i ≡ false
       → RowBecomes t checkTable i
-      (changed (changed (changed (changed (fieldsOf (rowBytes t i)) 3 1) 5 (goodVersion (answers t (a .r)) (has (a .r)))) 6 (highestEpoch (answers t (a .r)) (has (a .r)) + 1)) 7 (a .r)) (contents (rowBytes t i))
+      (relisted (changed (changed (changed (fieldsOf (rowBytes t i)) 3 1) 5 (goodVersion (answers t (a .r)) (has (a .r)))) 6 (highestEpoch (answers t (a .r)) (has (a .r)) + 1)) (laidNow (a .r))) (contents (rowBytes t i))
   unfolding cg cv ce
   check-marked i u m e = becomes-at (changed-row check-changed i u m) (enrolled i u false e)

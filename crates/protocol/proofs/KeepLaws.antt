@@ -19,7 +19,7 @@ use Rattle.table.specs.WellFormed.{limit}
 use Rattle.table.proofs.FormLaws.{RowFacts, Formed, formed, header-facts}
 use Rattle.protocol.specs.Polls.{polled, highestEpoch, goodVersion, good, current}
 use Rattle.protocol.specs.Calls.{Writing, Sending, Checking, answers, workSet}
-use Rattle.protocol.proofs.RowLaws.{fieldAt, Becomes, fieldsOf, changed}
+use Rattle.protocol.proofs.RowLaws.{fieldAt, Becomes, fieldsOf, changed, listIn, relisted, becomes-list}
 use Rattle.protocol.proofs.PollLaws.{good-at, good-of, version-le, current-desired, worked-in}
 use Rattle.protocol.proofs.FrameLaws.{same-used, same-header, same-long, same-visits, same-rise, zero-stays}
 use Rattle.protocol.proofs.QuestionLaws.{answered-used, WriteYes, SendYes, CheckYes}
@@ -157,7 +157,7 @@ module _ (t : List ℕ) (a : Writing) (y : WriteYes t a) where
   -- epochs and lists stay
   pub write-membership : (i : ℕ) → Within (usedOf t) i
       → (epochOf (writeTable t a y) i ≡ epochOf t i) × (listOf (writeTable t a y) i ≡ listOf t i)
-  unfolding changed fieldsOf fieldAt epochOf listOf list
+  unfolding listIn changed fieldsOf fieldAt epochOf listOf list
   write-membership i u = go (workSet Write t (a .c) (a .r) i) refl (good (answers t (a .r)) (workSet Write t (a .c) (a .r)) i) refl
     where
       new : List ℕ
@@ -166,8 +166,8 @@ module _ (t : List ℕ) (a : Writing) (y : WriteYes t a) where
       go : (x : Bool) → workSet Write t (a .c) (a .r) i ≡ x → (b : Bool) → good (answers t (a .r)) (workSet Write t (a .c) (a .r)) i ≡ b
           → (get epoch new ≡ get epoch (rowBytes t i)) × (list new ≡ list (rowBytes t i))
       go false m b g = let e = write-leaves t a y .out i u m in (ap (get epoch) e, ap list e)
-      go true m true g = let e = write-taken t a y i u m g .fields in (e 6 (omega arith), list-is _ _ (e 7 (omega arith)))
-      go true m false g = let e = write-marked t a y i u m g .fields in (e 6 (omega arith), list-is _ _ (e 7 (omega arith)))
+      go true m true g = let e = write-taken t a y i u m g in (e .fields 6 (omega arith), becomes-list e)
+      go true m false g = let e = write-marked t a y i u m g in (e .fields 6 (omega arith), becomes-list e)
 
   pub write-formed : Formed (writeTable t a y)
   write-formed = keep-formed ww (write-leaves t a y) write-facts (λ i j u v e.
@@ -196,14 +196,14 @@ module _ (t : List ℕ) (a : Sending) (y : SendYes t a) where
 
   pub send-membership : (i : ℕ) → Within (usedOf t) i
       → (epochOf (sendTable t a y) i ≡ epochOf t i) × (listOf (sendTable t a y) i ≡ listOf t i)
-  unfolding changed fieldsOf fieldAt epochOf listOf list
+  unfolding listIn changed fieldsOf fieldAt epochOf listOf list
   send-membership i u = go (eqb (a .t) i) refl
     where
       go : (x : Bool) → eqb (a .t) i ≡ x
           → (get epoch (rowBytes (sendTable t a y) i) ≡ get epoch (rowBytes t i)) × (list (rowBytes (sendTable t a y) i) ≡ list (rowBytes t i))
       go false m = let e = send-leaves t a y .out i u m in (ap (get epoch) e, ap list e)
       go true m = subst (λ (x : ℕ). (get epoch (rowBytes (sendTable t a y) x) ≡ get epoch (rowBytes t x)) × (list (rowBytes (sendTable t a y) x) ≡ list (rowBytes t x))) (eqb-true (a .t) i m)
-          (let e = send-target t a y .fields in (e 6 (omega arith), list-is _ _ (e 7 (omega arith))))
+          (let e = send-target t a y in (e .fields 6 (omega arith), becomes-list e))
 
   pub send-formed : Formed (sendTable t a y)
   send-formed = keep-formed sw (send-leaves t a y) send-facts (λ i j u v e.
@@ -220,7 +220,7 @@ module _ (t : List ℕ) (a : Checking) (y : CheckYes t a) (room : highestEpoch (
   check-used = answered-used t (a .c) (a .r) [] (y .first)
 
   check-facts : (i : ℕ) → Within (usedOf t) i → has (a .r) i ≡ true → RowFacts (usedOf t) i (rowBytes (checkTable t a y room) i)
-  unfolding changed fieldsOf fieldAt versionOf
+  unfolding laidNow relisted changed fieldsOf fieldAt versionOf
   check-facts i u m = go (good (answers t (a .r)) (has (a .r)) i) refl
     where
       f : RowFacts (usedOf t) i (rowBytes t i)
@@ -253,7 +253,7 @@ module _ (t : List ℕ) (a : Checking) (y : CheckYes t a) (room : highestEpoch (
   -- rows that answered have the new epoch and list, the others keep theirs
   pub check-membership : (i : ℕ) → Within (usedOf t) i
       → (epochOf (checkTable t a y room) i ≡ cond (has (a .r) i) (highestEpoch (answers t (a .r)) (has (a .r)) + 1) (epochOf t i)) × (listOf (checkTable t a y room) i ≡ cond (has (a .r) i) (laidNow (a .r)) (listOf t i))
-  unfolding changed fieldsOf fieldAt epochOf listOf laidNow
+  unfolding listIn relisted changed fieldsOf fieldAt epochOf listOf laidNow
   check-membership i u = go (has (a .r) i) refl (good (answers t (a .r)) (has (a .r)) i) refl
     where
       new : List ℕ
@@ -262,8 +262,8 @@ module _ (t : List ℕ) (a : Checking) (y : CheckYes t a) (room : highestEpoch (
       go : (x : Bool) → has (a .r) i ≡ x → (b : Bool) → good (answers t (a .r)) (has (a .r)) i ≡ b
           → (get epoch new ≡ cond x (highestEpoch (answers t (a .r)) (has (a .r)) + 1) (get epoch (rowBytes t i))) × (list new ≡ cond x (laidNow (a .r)) (list (rowBytes t i)))
       go false m b g = let e = check-leaves t a y room .out i u m in (ap (get epoch) e, ap list e)
-      go true m true g = let e = check-taken t a y room i u m g .fields in (e 6 (omega arith), list-is _ _ (e 7 (omega arith)))
-      go true m false g = let e = check-marked t a y room i u m g .fields in (e 6 (omega arith), list-is _ _ (e 7 (omega arith)))
+      go true m true g = let e = check-taken t a y room i u m g in (e .fields 6 (omega arith), becomes-list e)
+      go true m false g = let e = check-marked t a y room i u m g in (e .fields 6 (omega arith), becomes-list e)
 
   -- where no used row outside R has the new epoch already
   pub check-formed : ((i : ℕ) → Within (usedOf t) i → has (a .r) i ≡ false → epochOf t i ≡ highestEpoch (answers t (a .r)) (has (a .r)) + 1 → ⊥) → Formed (checkTable t a y room)

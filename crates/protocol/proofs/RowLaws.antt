@@ -12,9 +12,9 @@ use Rattle.sets.specs.Upto.{Within, every}
 use Rattle.bools.proofs.BoolLaws.{and-l, and-r, or-e}
 use Rattle.sets.proofs.UptoLaws.{every-at}
 use Rattle.bytes.specs.Bytes.{put}
-use Rattle.fields.specs.Layout.{Field, get, store, name, link, mark, version, desired, epoch, members, storeList, reserved, contents, storeContents}
+use Rattle.fields.specs.Layout.{Field, get, store, name, link, mark, version, desired, epoch, members, list, storeList, reserved, contents, storeContents}
 use Rattle.bytes.proofs.ByteLaws.{put-all}
-use Rattle.fields.proofs.FieldLaws.{Apart, length-store, get-store, get-other, reserved-store, contents-store, length-contents, get-contents, reserved-contents, contents-contents}
+use Rattle.fields.proofs.FieldLaws.{Apart, length-store, get-store, get-other, reserved-store, contents-store, length-contents, get-contents, reserved-contents, contents-contents, list-is}
 use Rattle.fields.specs.declared.Laid.{Laid}
 use Rattle.protocol.specs.Rows.{markedRow, patchedRow, enrolledRow, refreshedRow}
 
@@ -82,6 +82,18 @@ fieldsOf row j = get (fieldAt j) row
 unfoldable pub changed : (ℕ → ℕ) → ℕ → ℕ → ℕ → ℕ
 changed f i v j = cond (eqb j i) v (f j)
 
+-- the list that the fields say; the fields with another list
+unfoldable pub listIn : (ℕ → ℕ) → Laid
+listIn f = record { members = f 7 }
+
+unfoldable pub relisted : (ℕ → ℕ) → Laid → ℕ → ℕ
+relisted f l = changed f 7 (l .members)
+
+-- a row has the list that its fields say
+pub becomes-list : {row new c : List ℕ} {f : ℕ → ℕ} → Becomes row new f c → list new ≡ listIn f
+unfolding listIn fieldAt
+becomes-list b = list-is _ _ (b .fields 7 (omega arith))
+
 pub unchanged : (row : List ℕ) → Becomes row row (fieldsOf row) (contents row)
 unfolding fieldsOf
 unchanged row = record { long = refl; spare = refl; fields = λ j w. refl; bytes = refl }
@@ -124,8 +136,8 @@ module _ (row : List ℕ) (long : 32 ≤ length row) where
 
   -- a row that became new is enrolled
   pub then-enrolled : {new c : List ℕ} {f : ℕ → ℕ} (e : ℕ) (l : Laid) → e < 256 ^ 4 → l .members < 256 ^ 8 → Becomes row new f c
-      → Becomes row (enrolledRow e l new) (changed (changed f 6 e) 7 (l .members)) c
-  unfolding enrolledRow storeList fieldAt epoch members
+      → Becomes row (enrolledRow e l new) (relisted (changed f 6 e) l) c
+  unfolding enrolledRow storeList relisted fieldAt epoch members
   then-enrolled e l he hl b = then-store 7 (l .members) (omega arith) hl long (then-store 6 e (omega arith) he long b)
 
   pub refreshed-row : (source : List ℕ) → get version source < 256 ^ 4 → length source ≡ length row
