@@ -1,5 +1,6 @@
 // A row of a table: the offsets of its fields.
 ghost use mathlib.Core.Path.{_≡_};
+ghost use mathlib.Core.Bool.{true};
 ghost use Prim.Native.Nat.{_+_, _≤_};
 ghost use lib.Dec.{eqb};
 ghost use lib.ListN.{length};
@@ -14,6 +15,13 @@ pub struct Laid {
 impl Laid {
     // No list.
     pub const NONE: Laid = Laid { members: 0 };
+
+    // Are they the same list?
+    pub fn same(self, other: Laid) -> bool
+        ensures { λ r. ⌜ (r ≡ true → self ≡ other) × (self ≡ other → r ≡ true) ⌝ }
+    {
+        self.members == other.members
+    }
 }
 
 // A row's head; the contents stand behind it.

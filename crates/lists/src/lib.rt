@@ -120,9 +120,7 @@ pub fn quorum(kind: Kind, order: &[u8; 64], count: usize, list: Laid, set: RowSe
     requires { ⌜ Listed count (now order) count ⌝ }
     ensures { λ r. ⌜ r ≡ listQuorum kind (take count (now (order .entry))) list (has (set .bits)) ⌝ }
 {
-    let members = RowSet {
-        bits: list.members,
-    };
+    let members = RowSet { bits: list.members };
     let length = members.size();
     let seats = seated(order, count, members);
     coterie::holds(
@@ -138,9 +136,7 @@ pub fn choice(kind: Kind, order: &[u8; 64], count: usize, list: Laid, name: u16)
     requires { ⌜ Listed count (now order) count ⌝ }
     ensures { λ r. ⌜ has (r .bits) ≡ listChoice kind (take count (now (order .entry))) list name ⌝ }
 {
-    let members = RowSet {
-        bits: list.members,
-    };
+    let members = RowSet { bits: list.members };
     let length = members.size();
     let chosen = coterie::choose(kind, grid::published(length), length, name);
     let seats = seated(order, count, members);

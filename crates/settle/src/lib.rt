@@ -62,24 +62,11 @@ fn passes(
 }
 
 // All rows that answered are worked on, with what questions 6 and 7 say of them.
-fn on_all(
-    kind: Kind,
-    order: &[u8; 64],
-    count: usize,
-    answering: RowSet,
-    whole: Verdict,
-) -> Settled
+fn on_all(kind: Kind, order: &[u8; 64], count: usize, answering: RowSet, whole: Verdict) -> Settled
     requires { ⌜ Listed count (now order) count ⌝ }
     ensures { λ r. ⌜ r ≡ record { rows = answering; refusal = cond (some 64 (has (answering .bits)) && listQuorum kind (take count (now (order .entry))) (whole .list) (has (answering .bits))) (cond (whole .current) 0 7) 6; good = whole .good; version = whole .version } ⌝ }
 {
-    let no = asked(
-        kind,
-        order,
-        count,
-        whole.list,
-        answering,
-        whole.current,
-    );
+    let no = asked(kind, order, count, whole.list, answering, whole.current);
     settled_on(answering, no, whole)
 }
 
@@ -97,16 +84,8 @@ pub fn settle(kind: Kind, t: &[u8], order: &[u8; 64], c: usize, answering: RowSe
     if tried.bits == chosen.bits {
         // the whole choice answered: it is polled alone, and holds a quorum of the list that it was made over
         let part = judged(t, tried);
-        let sure = part.list.members == own.members;
-        if passes(
-            kind,
-            order,
-            count,
-            part.list,
-            tried,
-            part.current,
-            sure,
-        ) {
+        let sure = part.list.same(own);
+        if passes(kind, order, count, part.list, tried, part.current, sure) {
             return settled_on(tried, 0, part);
         }
         return on_all(kind, order, count, answering, judged(t, answering));
@@ -114,23 +93,8 @@ pub fn settle(kind: Kind, t: &[u8], order: &[u8; 64], c: usize, answering: RowSe
     // one poll for both sets
     let poll = polls::gather(t, answering);
     let stale = poll.stale;
-    let part = told(
-        t,
-        stale,
-        &poll.versions,
-        &poll.desired,
-        &poll.epochs,
-        tried,
-    );
-    if passes(
-        kind,
-        order,
-        count,
-        part.list,
-        tried,
-        part.current,
-        false,
-    ) {
+    let part = told(t, stale, &poll.versions, &poll.desired, &poll.epochs, tried);
+    if passes(kind, order, count, part.list, tried, part.current, false) {
         return settled_on(tried, 0, part);
     }
     let whole = told(

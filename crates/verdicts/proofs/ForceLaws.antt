@@ -77,7 +77,6 @@ module _ (t : List ℕ) (r s : ℕ) (sub : (i : ℕ) → has s i ≡ true → ha
     epoch = y .epoch ∙ epoch-same _ _ (has s) same;
     list = y .list ∙ list-is (some 64 (has s)) refl;
   }
-
     where
       list-is : (b : Bool) → some 64 (has s) ≡ b → inForce (answers t s) (has s) ≡ inForce (answers t r) (has s)
       list-is true one = list-same _ _ (has s) same one

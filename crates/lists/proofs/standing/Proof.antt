@@ -97,8 +97,8 @@ returns c =
     let s = cut .before .before in
     let all = all-taken (l .inv .1) (omega arith) (sym (c .before .is-empty .ensures) ∙ not-false _ (c .if1 .left)) in
     l .inv .2 ∙ fun-ext (λ i.
-        ap (λ (q : ℕ → Bool). some 64 (λ k. q k && atSeat (take (s .args .count) (s .args .rows .now)) (eqb i) k)) (sym all ∙ cut .cut .ensures ∙ ap (cutTo (has (s .args .positions .bits))) (cut .before .first .ensures))
-        ∙ standing-all (s .args .rows .now) (s .args .count) (s .pre .places) (s .pre .few) (has (s .args .positions .bits)) i)
+    ap (λ (q : ℕ → Bool). some 64 (λ k. q k && atSeat (take (s .args .count) (s .args .rows .now)) (eqb i) k)) (sym all ∙ cut .cut .ensures ∙ ap (cutTo (has (s .args .positions .bits))) (cut .before .first .ensures))
+    ∙ standing-all (s .args .rows .now) (s .args .count) (s .pre .places) (s .pre .few) (has (s .args .positions .bits)) i)
 
 pub standing-spec : {M : Type 1} → statement M
 standing-spec =

@@ -4,7 +4,6 @@ use mathlib.Core.List.{List}
 use Prim.Native.Nat.{ℕ, _^_, _<_}
 use native.Mathlib.Omega.{arith}
 use borrow.Author.Needs.{needs}
-use borrow.Author.Tests.{eqb-true}
 use lib.ListN.{take}
 use Rattle.settle.proofs.SettleLaws.{sure-held, try-in, works-on-try, works-on-all, alone}
 use Rattle.verdicts.specs.Judged.{Judged}
@@ -17,7 +16,6 @@ use Rattle.table.specs.Contracts.{Listed}
 use Rattle.table.specs.Chain.{orderOf}
 use Rattle.fields.specs.declared.Laid.{Laid}
 use Rattle.fields.specs.Layout.{get, name, list, noList, usedOf, nameOf, listOf}
-use Rattle.fields.proofs.FieldLaws.{laid-same}
 use Rattle.bools.proofs.BoolLaws.{clash}
 use Rattle.sets.proofs.SetLaws.{has-within, within-lt}
 use Rattle.sets.specs.Sets.{has, cutTo}
@@ -107,19 +105,22 @@ cut-requires c κs = search needs
 judged-requires : tie.Need-judged-requires
 judged-requires c κs = (sized (c .before .before .before .before .before .before .before .before .before .before .pre .0), tried-used (c .before .before .before))
 
+same-requires : tie.Need-same-requires
+same-requires c κs = search needs
+
 -- where the list in force is the coordinator's own, P, which is the whole choice, holds a quorum of it
 passes-requires : tie.Need-passes-requires
 unfolding listOf list
 passes-requires c κs =
-    let j = c .before .before in
-    let s = c .before .before .before .before .before .before .before .before .before .before .before .before .before in
+    let j = c .before in
+    let s = c .before .before .before .before .before .before .before .before .before .before .before .before in
     let t = s .args .t .now in
-    let p = c .before .before .before .before .before .before in (
-      listed (c .before .before .before .before .before .before .before .before .before .before .before),
+    let p = c .before .before .before .before .before in (
+      listed (c .before .before .before .before .before .before .before .before .before .before),
       λ k sure.
-          let whole : has (p .cut .result .bits) ≡ has (p .before .choice .result .bits) = ap has (c .before .before .before .if1 .taken) in
-          let force : j .judged .result .list ≡ listOf t (s .args .c) = laid-same _ _ (eqb-true _ _ sure) ∙ own-is (c .before .before .before .before .before .before .before .before .before) in
-          rw (order-is (c .before .before .before .before .before .before .before .before .before .before .before), force) (sure-held (s .args .kind) t (p .cut .result .bits) _ (listOf t (s .args .c)) (s .pre .0) (formed t (s .pre .0) .rows _ (own-used (c .before .before .before .before .before .before .before .before .before .before .before)) .only) (whole ∙ chosen-is (p .before)) (sym (j .judged .ensures .current) ∙ k)),
+          let whole : has (p .cut .result .bits) ≡ has (p .before .choice .result .bits) = ap has (c .before .before .if1 .taken) in
+          let force : j .judged .result .list ≡ listOf t (s .args .c) = c .same .ensures .0 sure ∙ own-is (c .before .before .before .before .before .before .before .before) in
+          rw (order-is (c .before .before .before .before .before .before .before .before .before .before), force) (sure-held (s .args .kind) t (p .cut .result .bits) _ (listOf t (s .args .c)) (s .pre .0) (formed t (s .pre .0) .rows _ (own-used (c .before .before .before .before .before .before .before .before .before .before)) .only) (whole ∙ chosen-is (p .before)) (sym (j .judged .ensures .current) ∙ k)),
     )
 
 settled-on-requires : tie.Need-settled-on-requires
@@ -127,22 +128,22 @@ settled-on-requires c κs = search needs
 
 returns : tie.Need-returns
 returns c =
-    let s = c .before .before .before .before .before .before .before .before .before .before .before .before .before .before .before .before in
-    let p = c .before .before .before .before .before .before .before .before .before in
-    works-on-try (s .args .kind) (s .args .t .now) (s .args .c) (s .args .answering .bits) (p .cut .result .bits) (tried p) _ (order-is (c .before .before .before .before .before .before .before .before .before .before .before .before .before .before)) _ (part-alone (c .before .before .before .before .before)) _ (c .before .before .passes .ensures)
+    let s = c .before .before .before .before .before .before .before .before .before .before .before .before .before .before .before in
+    let p = c .before .before .before .before .before .before .before .before in
+    works-on-try (s .args .kind) (s .args .t .now) (s .args .c) (s .args .answering .bits) (p .cut .result .bits) (tried p) _ (order-is (c .before .before .before .before .before .before .before .before .before .before .before .before .before)) _ (part-alone (c .before .before .before .before)) _ (c .before .before .passes .ensures)
     (c .before .if2 .taken) _ (p .cut .result) refl (c .settled-on .ensures)
 
 judged-requires-2 : tie.Need-judged-requires-2
-judged-requires-2 c κs = let s = c .before .before .before .before .before .before .before .before .before .before .before .before .before .before .before in (sized (s .pre .0), s .pre .2)
+judged-requires-2 c κs = let s = c .before .before .before .before .before .before .before .before .before .before .before .before .before .before in (sized (s .pre .0), s .pre .2)
 
 on-all-requires : tie.Need-on-all-requires
-on-all-requires c κs = listed (c .before .before .before .before .before .before .before .before .before .before .before .before .before .before)
+on-all-requires c κs = listed (c .before .before .before .before .before .before .before .before .before .before .before .before .before)
 
 returns-2 : tie.Need-returns-2
 returns-2 c =
-    let s = c .before .before .before .before .before .before .before .before .before .before .before .before .before .before .before .before .before in
-    let p = c .before .before .before .before .before .before .before .before .before .before in
-    works-on-all (s .args .kind) (s .args .t .now) (s .args .c) (s .args .answering .bits) (p .cut .result .bits) (tried p) _ (order-is (c .before .before .before .before .before .before .before .before .before .before .before .before .before .before .before)) _ (part-alone (c .before .before .before .before .before .before)) _ (c .before .before .before .passes .ensures)
+    let s = c .before .before .before .before .before .before .before .before .before .before .before .before .before .before .before .before in
+    let p = c .before .before .before .before .before .before .before .before .before in
+    works-on-all (s .args .kind) (s .args .t .now) (s .args .c) (s .args .answering .bits) (p .cut .result .bits) (tried p) _ (order-is (c .before .before .before .before .before .before .before .before .before .before .before .before .before .before)) _ (part-alone (c .before .before .before .before .before)) _ (c .before .before .before .passes .ensures)
     (c .before .before .if2 .left) _ (s .args .answering) _ refl (c .before .judged2 .ensures) (c .on-all .ensures)
 
 gather-requires : tie.Need-gather-requires
@@ -188,6 +189,7 @@ settle-spec =
     choice-requires
     cut-requires
     judged-requires
+    same-requires
     passes-requires
     settled-on-requires
     returns
