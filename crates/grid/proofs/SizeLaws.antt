@@ -62,5 +62,5 @@ published-fits N pos = go (root N) (root-is N) (eqb (root N * root N) N) refl (l
         record { room = omega (arith, ltb-false); tight = omega (arith, r .low, root-pos N s pos r, eqb-false); narrow = omega (arith, square s (root-pos N s pos r), r .low, eqb-false); some-column = omega arith }
 
 -- two bytes multiplied
-pub short-product : (a b : ℕ) → a < 65536 → b < 65536 → a * b < 4294967296
-short-product a b h k = let q : a ≤ 65535 = omega arith in omega (arith, mul-le-mul-right b q)
+pub byte-product : (a b : ℕ) → a < 256 → b < 256 → a * b < 65536
+byte-product a b h k = let q : a ≤ 255 = omega arith in omega (arith, mul-le-mul-right b q)

@@ -5,10 +5,10 @@ ghost use lib.Dec.{leb};
 ghost use Prim.Native.Nat.{_-_, _≤_};
 ghost use Rattle.grid.specs.Sizes.{published, noGrid, height};
 
-// The sizes of a grid. (The table below has one for each length of a list. Two bytes each: it is built in whole words, and so read faster.)
+// The sizes of a grid. (The table below has one for each length of a list.)
 pub struct Grid {
-    pub rows: u16,
-    pub cols: u16,
+    pub rows: u8,
+    pub cols: u8,
 }
 
 // The published grid of each length from 1 to 64.

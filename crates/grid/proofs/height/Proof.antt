@@ -2,7 +2,7 @@ use Prim.Native.Nat.{_*_, _-_}
 use native.Mathlib.Omega.{arith}
 use borrow.Author.Tests.{le-leb, lt-leb}
 use borrow.Author.Needs.{needs}
-use Rattle.grid.proofs.SizeLaws.{short-product}
+use Rattle.grid.proofs.SizeLaws.{byte-product}
 use Rattle.grid.specs.Sizes.{height, spare}
 use Rattle.grid.proofs.height.Statement.{statement}
 use Rattle.grid.proofs.height.Tie as tie
@@ -14,7 +14,7 @@ cast-columns : tie.Need-cast-columns
 cast-columns c = search needs
 
 mul-less : tie.Need-mul-less
-mul-less c = let g = c .before .before .args .g in omega (arith, short-product (g .rows) (g .cols) (omega arith) (omega arith))
+mul-less c = let g = c .before .before .args .g in omega (arith, byte-product (g .rows) (g .cols) (omega arith) (omega arith))
 
 less-requires : tie.Need-less-requires
 less-requires c κs = search needs
