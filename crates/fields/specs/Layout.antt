@@ -1,7 +1,7 @@
 -- The table in memory: the only places where offsets stand. A table is its bytes; every reading of it is total.
 use mathlib.Core.Bool.{Bool}
-use mathlib.Core.List.{List, []}
-use Prim.Native.Nat.{ℕ, zero, suc, _+_, _*_}
+use mathlib.Core.List.{List}
+use Prim.Native.Nat.{ℕ, zero, _+_, _*_}
 use lib.Dec.{eqb}
 use lib.ListN.{drop}
 use Rattle.blocks.specs.Blocks.{block}

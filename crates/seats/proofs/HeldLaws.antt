@@ -8,7 +8,7 @@ use lib.Dec.{eqb, leb}
 use lib.ListN.{length, getD}
 use borrow.Author.Tests.{le-leb, leb-true, eqb-true, eq-eqb}
 use Rattle.bools.proofs.BoolLaws.{and-l, and-r, and-i}
-use Rattle.sets.specs.Upto.{Within, some, count, keep}
+use Rattle.sets.specs.Upto.{Within, count, keep}
 use Rattle.sets.proofs.UptoLaws.{some-at, some-of}
 use Rattle.sets.proofs.KeepLaws.{kept}
 use Rattle.quorums.specs.declared.Kind.{Kind}
@@ -16,9 +16,7 @@ use Rattle.grid.specs.Sizes.{published}
 use Rattle.quorums.specs.Quorums.{choice}
 use Rattle.grid.proofs.SizeLaws.{published-fits}
 use Rattle.quorums.proofs.QuorumLaws as Q
-use Rattle.fields.specs.Layout.{usedOf}
 use Rattle.table.specs.Chain.{orderOf}
-use Rattle.table.specs.WellFormed.{wellFormed}
 use Rattle.protocol.specs.Lists.{seats, atSeat, level, levelChoice}
 use Rattle.protocol.proofs.ListLaws.{level-grows}
 use Rattle.seats.specs.Seats.{EveryListIsSeated, EveryChoiceHolds}

@@ -1,6 +1,6 @@
 -- The seats of a list on a well-formed table: as many as the list has members, and each member on one of them.
 use mathlib.Core.Path.{_≡_, sym, _∙_}
-use mathlib.Core.Bool.{Bool, true, false, _&&_}
+use mathlib.Core.Bool.{Bool, true, false}
 use mathlib.Core.List.{List}
 use Prim.Native.Nat.{ℕ, suc, _-_, _<_}
 use native.Mathlib.Omega.{arith}
@@ -14,7 +14,7 @@ use Rattle.table.specs.WellFormed.{wellFormed}
 use Rattle.table.proofs.WellFormedLaws.{sized, few-rows}
 use Rattle.table.proofs.ChainLaws.{order-each, order-rises}
 use Rattle.protocol.specs.Lists.{seats}
-use Rattle.seats.specs.Seats.{rowAt, Seated, EveryListIsSeated}
+use Rattle.seats.specs.Seats.{rowAt, EveryListIsSeated}
 use Rattle.table.proofs.RisingLaws.{order-within}
 use Rattle.sets.proofs.CountLaws.{count-to}
 use Rattle.seats.proofs.RisingKept.{keep-count, keep-among, among-at, place-of, keep-rises, rises-apart}

@@ -10,7 +10,6 @@ use Rattle.polls.specs.declared.Poll as code
 use Rattle.polls.specs.Shows.{Shows}
 use Rattle.places.specs.declared.Top.{Top}
 use Rattle.places.specs.Places.{placed, Tops}
-use Rattle.verdicts.specs.declared.Tally.{Tally}
 use Rattle.verdicts.specs.Judged.{Tallied}
 
 not-not : (b : Bool) → not (not b) ≡ b

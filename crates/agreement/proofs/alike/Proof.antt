@@ -1,9 +1,6 @@
-use mathlib.Core.Path.{_≡_, sym, _∙_, ap}
-use mathlib.Core.Bool.{true, false}
+use mathlib.Core.Path.{sym, _∙_, ap}
 use native.Mathlib.Omega.{arith}
-use borrow.Author.Needs.{needs}
 use borrow.Author.Tests.{eqb-true, eq-eqb}
-use Prim.Native.Nat.{_+_}
 use Rattle.bools.proofs.BoolLaws.{clash}
 use Rattle.fields.specs.Layout.{get, epoch, epochOf}
 use Rattle.table.proofs.WellFormedLaws.{few-rows}

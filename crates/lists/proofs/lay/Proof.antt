@@ -3,7 +3,7 @@ use Prim.Native.Nat.{ℕ, _+_, _-_, _%_, _≤_, _<_}
 use native.Mathlib.Nat.{mod-eq-of-lt}
 use native.Mathlib.Omega.{arith}
 use borrow.Author.Needs.{needs}
-use lib.ListN.{length, getD, take, set, length-set}
+use lib.ListN.{length, getD, take, length-set}
 use Rattle.lists.proofs.SeatLaws.{seat-few, lay-next, laid-listed}
 use Rattle.protocol.specs.Lists.{seats}
 use Rattle.sets.specs.Upto.{keep}

@@ -1,6 +1,6 @@
-use mathlib.Core.Bool.{Bool, true, cond, _&&_}
-use mathlib.Core.Path.{_≡_, refl, sym, ap, _∙_, fun-ext}
-use Prim.Native.Nat.{ℕ, _+_, _-_, _%_, _≤_, _<_}
+use mathlib.Core.Bool.{Bool, true, _&&_}
+use mathlib.Core.Path.{_≡_, sym, ap, _∙_, fun-ext}
+use Prim.Native.Nat.{ℕ, _+_, _-_, _<_}
 use native.Mathlib.Nat.{mod-eq-of-lt}
 use native.Mathlib.Omega.{arith}
 use borrow.Author.Needs.{needs}
@@ -12,7 +12,7 @@ use Rattle.protocol.specs.Lists.{atSeat}
 use Rattle.bools.proofs.BoolLaws.{and-r}
 use Rattle.sets.proofs.SetLaws.{has-empty, first-within}
 use Rattle.sets.proofs.MemberLaws.{only, Taken, none-taken, all-taken, in-set, fewer-left, one-taken}
-use Rattle.sets.specs.Sets.{has, noRow, gaining, joining, cutTo, firstRows}
+use Rattle.sets.specs.Sets.{has, noRow, gaining, joining, cutTo}
 use Rattle.sets.specs.Upto.{Within, some}
 use Rattle.lists.proofs.standing.Statement.{statement}
 use Rattle.lists.proofs.standing.Tie as tie

@@ -1,7 +1,4 @@
 use borrow.Author.Needs.{needs}
-use mathlib.Core.Path.{_∙_, ap}
-use Prim.Native.Nat.{ℕ}
-use Rattle.settle.specs.declared.Settled.{Settled}
 use Rattle.settle.proofs.on_all.Statement.{statement}
 use Rattle.settle.proofs.on_all.Tie as tie
 
