@@ -62,6 +62,10 @@ storeList l row = store members (l .members) row
 unfoldable pub noList : Laid
 noList = record { members = 0 }
 
+-- "a row with an empty list": a list that names no row
+unfoldable pub isEmpty : Laid → Bool
+isEmpty l = eqb (l .members) 0
+
 -- a row's part: "3 stale mark; 4 to 7 version; 8 to 11 desired version; 24 to 31 zero; then L contents bytes"
 unfoldable pub mark : Field
 mark = record { place = 3; width = 1 }
