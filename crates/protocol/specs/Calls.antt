@@ -4,18 +4,19 @@ use mathlib.Core.List.{List, [], _∷_, _++_}
 use Prim.Native.Nat.{ℕ, suc, _+_, _-_, _*_, _%_, _^_}
 use lib.Dec.{eqb, leb, ltb}
 use lib.ListN.{length, replicate}
-use Rattle.sets.specs.Upto.{lowest}
+use Rattle.sets.specs.Upto.{some, lowest}
 use Rattle.sets.specs.Sets.{has}
 use Rattle.quorums.specs.declared.Kind.{Kind}
 use Rattle.quorums.specs.declared.Kind.the-variants.{Read, Write}
 use Rattle.bytes.specs.Bytes.{bytesOf, part}
-use Rattle.fields.specs.Layout.{formValue, bodyLength, stride, usedOf, fileLengthOf, nameOf, staleOf, versionOf, desiredOf, contentsOf, rowBytes}
+use Rattle.fields.specs.Layout.{formValue, bodyLength, stride, capacityOf, usedOf, fileLengthOf, nameOf, staleOf, versionOf, desiredOf, contentsOf, rowBytes}
 use Rattle.table.specs.Chain.{orderOf}
 use Rattle.table.specs.WellFormed.{between, limit, onlyRows, wellFormed}
 use Rattle.asking.specs.Asking.{Question, firstNo}
 use Rattle.protocol.specs.Lists.{laidNow}
 use Rattle.protocol.specs.Polls.{Poll, polled, highestEpoch, inForce, goodVersion, good, current, quorumHeld, workedOn}
 use Rattle.protocol.specs.Rows.{refreshedRow, withRow, withRows, wroteRow, checkedRow}
+use Rattle.protocol.specs.Joining.{joined}
 
 -- ---- the arguments of each call: "Coordinator c, answering set R (bit i − 1 for row i); c, f and t are row indexes."
 pub record Founding : Type 0 where
@@ -48,8 +49,12 @@ pub record Checking : Type 0 where
   pub c : ℕ
   pub r : ℕ
 
+pub record Joining : Type 0 where
+  pub name : ℕ
+
 pub data Call : Type 0 where
   founding : Founding → Call
+  join : Joining → Call
   read : Reading → Call
   write : Writing → Call
   send : Sending → Call
@@ -65,6 +70,7 @@ pub record Outcome : Type 0 where
 -- the read buffer that a call is lent
 unfoldable pub lent : Call → List ℕ
 lent (founding a) = []
+lent (join a) = []
 lent (read a) = a .buffer
 lent (write a) = []
 lent (send a) = []
@@ -147,6 +153,12 @@ questions t (founding a) =
     record { ask = 11; yes = eqb (length (a .names) % 2) 0 && between 1 n 64 && namesRising 0 (namesIn (a .names)) }
     ∷ record { ask = 12; yes = between 1 (a .capacity) 64 && leb n (a .capacity) && between 1 (a .fileLength) 4_096 && eqb (length t) (16 + a .capacity * stride (a .fileLength)) }
     ∷ []
+-- "Questions 2 and 3 are not put to it. .. after question 1, joining gives 13 for name 0 or a name in use, then 14 when no unused row is left."
+questions t (join a) =
+    record { ask = 1; yes = wellFormed t }
+    ∷ record { ask = 13; yes = between 1 (a .name) 65_535 && not (some (usedOf t) (λ i. eqb (nameOf t i) (a .name))) }
+    ∷ record { ask = 14; yes = ltb (usedOf t) (capacityOf t) }
+    ∷ []
 questions t (read a) =
     let p = answers t (a .r) in
     let s = workSet Read t (a .c) (a .r) in
@@ -184,6 +196,8 @@ questions t (check a) =
 -- ---- what a done call leaves
 unfoldable pub done : List ℕ → Call → Outcome
 done t (founding a) = leaves (founding a) 0 (length (namesIn (a .names))) (founded (a .capacity) (a .fileLength) (namesIn (a .names)))
+-- "its value is the new index"
+done t (join a) = leaves (join a) 0 (usedOf t + 1) (joined t (a .name))
 -- "copies the range from the good row of lowest index. Value: its version."
 done t (read a) =
     let p = answers t (a .r) in
