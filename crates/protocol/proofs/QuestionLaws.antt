@@ -35,6 +35,7 @@ result-value o h = low (o .refusal) 32 h
 done-zero : (t : List ℕ) (k : Calls.Call) → Calls.done t k .refusal ≡ 0
 unfolding Calls.done
 done-zero t (Calls.founding a) = refl
+done-zero t (Calls.join a) = refl
 done-zero t (Calls.read a) = refl
 done-zero t (Calls.write a) = refl
 done-zero t (Calls.send a) = refl
