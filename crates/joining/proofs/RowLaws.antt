@@ -8,17 +8,17 @@ use native.Mathlib.Nat.{lt-of-lt-of-le}
 use native.Mathlib.Omega.{arith}
 use lib.Dec.{eqb, ltb}
 use lib.Pow.{pow-mono, pow-pos}
-use lib.ListN.{length, drop}
+use lib.ListN.{length, take, drop, length-append}
 use lib.Seq.{drop-drop}
 use borrow.Author.Tests.{eqb-true, eq-eqb, ne-eqb}
 use Rattle.bools.proofs.BoolLaws.{and-l, and-r, clash}
 use Rattle.sets.specs.Upto.{Within}
 use Rattle.sets.proofs.UptoLaws.{last}
 use Rattle.bytes.specs.Bytes.{number, bytesOf, part, zeros, allZero}
-use Rattle.bytes.proofs.ByteLaws.{number-bytes, part-part, zero-drop}
+use Rattle.bytes.proofs.ByteLaws.{length-bytes, number-bytes, part-part, length-zeros, first-zeros, zero-drop}
 use Rattle.fields.specs.declared.Laid.{Laid}
-use Rattle.fields.specs.Layout.{Field, get, store, form, formValue, capacity, used, first, fileLength, name, link, mark, version, desired, epoch, members, list, isEmpty, reserved, bodyLength, stride, capacityOf, usedOf, firstOf, fileLengthOf, rowLength, rowsEnd, rowBytes, nameOf, linkOf}
-use Rattle.fields.proofs.FieldLaws.{Apart, get-store, get-other, reserved-store, list-is}
+use Rattle.fields.specs.Layout.{Field, get, store, form, formValue, capacity, used, first, fileLength, name, link, mark, version, desired, epoch, members, list, noList, isEmpty, reserved, contents, bodyLength, stride, capacityOf, usedOf, firstOf, fileLengthOf, rowLength, rowsEnd, rowBytes, nameOf, linkOf}
+use Rattle.fields.proofs.FieldLaws.{Apart, get-store, get-other, reserved-store, contents-store, body-room, contents-part, list-is}
 use Rattle.table.specs.Chain.{orderOf, among}
 use Rattle.table.specs.WellFormed.{between, limit, wellFormed, headerValues, lengthRight, unusedZero}
 use Rattle.table.proofs.FormLaws.{is-between, RowFacts, OneList, Formed, formed}
@@ -63,6 +63,34 @@ module _ (x next body : ℕ) (h : Within 65_535 x) (l : next < 256) where
     own = λ e. absurd (clash (sym e));
   }
 
+new-contents : (x next file : ℕ) → contents (bytesOf 2 x ++ (bytesOf 1 next ++ (zeros 29 ++ zeros (bodyLength file)))) ≡ zeros file
+unfolding part zeros bytesOf stride
+new-contents x next file =
+    contents-part (bytesOf 2 x ++ (bytesOf 1 next ++ (zeros 29 ++ zeros (bodyLength file)))) file new-length ∙ first-zeros file (bodyLength file) (body-room file)
+  where
+    new-length : length (bytesOf 2 x ++ (bytesOf 1 next ++ (zeros 29 ++ zeros (bodyLength file)))) ≡ 32 + bodyLength file
+    new-length = simp length-zeros (omega arith)
+
+-- what the new row says but for name and link: nothing yet
+pub record Blank (file : ℕ) (row : List ℕ) : Type 0 where
+  pub mark : get mark row ≡ 0
+  pub version : get version row ≡ 0
+  pub desired : get desired row ≡ 0
+  pub epoch : get epoch row ≡ 0
+  pub list : list row ≡ noList
+  pub contents : contents row ≡ zeros file
+
+new-blank : (x next file : ℕ) → Blank file (bytesOf 2 x ++ (bytesOf 1 next ++ (zeros 29 ++ zeros (bodyLength file))))
+unfolding list noList get mark version desired epoch members part number zeros bytesOf
+new-blank x next file = record {
+  mark = refl;
+  version = refl;
+  desired = refl;
+  epoch = refl;
+  list = refl;
+  contents = new-contents x next file;
+}
+
 module _ (t u : List ℕ) (x : ℕ) (e : wellFormed t ≡ true) (room : usedOf t < capacityOf t) (o : OneMore t u x) where
   few : suc (usedOf t) ≤ 64
   few = omega (arith, header (sized e .header) .capacity)
@@ -76,16 +104,16 @@ module _ (t u : List ℕ) (x : ℕ) (e : wellFormed t ≡ true) (room : usedOf t
   unfolding get capacityOf capacity
   same-capacity = ap number (sym (part-part 0 2 1 1 u (omega arith)) ∙ ap (part 1 1) (o .low) ∙ part-part 0 2 1 1 t (omega arith))
 
-  pub same-file : fileLengthOf u ≡ fileLengthOf t
+  pub file-kept : fileLengthOf u ≡ fileLengthOf t
   unfolding get fileLengthOf fileLength
-  same-file = ap number (sym (part-part 4 12 0 2 u (omega arith)) ∙ ap (part 0 2) (o .high) ∙ part-part 4 12 0 2 t (omega arith))
+  file-kept = ap number (sym (part-part 4 12 0 2 u (omega arith)) ∙ ap (part 0 2) (o .high) ∙ part-part 4 12 0 2 t (omega arith))
 
   same-zero : part 6 10 u ≡ part 6 10 t
   same-zero = sym (part-part 4 12 2 10 u (omega arith)) ∙ ap (part 2 10) (o .high) ∙ part-part 4 12 2 10 t (omega arith)
 
   same-end : (k : ℕ) → rowsEnd u k ≡ rowsEnd t k
   unfolding rowsEnd rowLength
-  same-end k = ap (λ (f : ℕ). 16 + k * stride f) same-file
+  same-end k = ap (λ (f : ℕ). 16 + k * stride f) file-kept
 
   front-used : Within (suc (usedOf t)) (firstOf u)
   front-used = rw (o .front) (go (eqb (rowBefore t x) 0))
@@ -100,7 +128,7 @@ module _ (t u : List ℕ) (x : ℕ) (e : wellFormed t ≡ true) (room : usedOf t
     same-form,
     same-capacity,
     o .count,
-    same-file,
+    file-kept,
     same-zero,
     is-between 1 (suc (usedOf t)) (capacityOf t) (omega arith) room,
     is-between 1 (firstOf u) (suc (usedOf t)) (front-used .0) (front-used .1),
@@ -151,6 +179,18 @@ module _ (t u : List ℕ) (x : ℕ) (e : wellFormed t ≡ true) (room : usedOf t
       go : (b : Bool) → cond b (suc (usedOf t)) (linkOf t i) ≤ suc (usedOf t)
       go true = omega arith
       go false = omega (arith, formed t e .rows i v .linked)
+
+  -- and the contents
+  pub contents-kept : (i : ℕ) → Within (usedOf t) i → contents (rowBytes u i) ≡ contents (rowBytes t i)
+  unfolding link
+  contents-kept i v = ap contents (o .rows i v) ∙ go (eqb (rowBefore t x) i)
+    where
+      go : (b : Bool) → contents (cond b (store link (suc (usedOf t)) (rowBytes t i)) (rowBytes t i)) ≡ contents (rowBytes t i)
+      go true = contents-store link (suc (usedOf t)) (rowBytes t i) (omega (arith, long-row i v)) (omega arith)
+      go false = refl
+
+  pub new-says : Blank (fileLengthOf t) (rowBytes u (suc (usedOf t)))
+  new-says = rw (o .new) (new-blank x (behind (firstOf t) (linkOf t) (rowBefore t x)) (fileLengthOf t))
 
   -- a row's list stays
   pub list-kept : (i : ℕ) → Within (usedOf t) i → list (rowBytes u i) ≡ list (rowBytes t i)
