@@ -20,7 +20,7 @@ use Rattle.fields.specs.declared.Laid.{Laid}
 use Rattle.joining.specs.Joining.{joined}
 use Rattle.joining.specs.Claims.{OneMore}
 use Rattle.joining.proofs.FrameLaws.{joined-alters}
-use Rattle.joining.proofs.RowLaws.{file-kept, kept, contents-kept, list-kept, new-says, more-chain, more-formed}
+use Rattle.joining.proofs.RowLaws.{more-used, file-kept, kept, contents-kept, list-kept, new-says, more-chain, more-formed}
 use Rattle.joining.proofs.OrderLaws.{Joined}
 use Rattle.sets.proofs.UptoLaws.{last}
 use Rattle.protocol.specs.Polls.{polled, highestEpoch, inForce, goodVersion, good, current}
@@ -102,16 +102,19 @@ module _ (t : List ℕ) (b : Book) (e : ℕ) (S : State t b e) (a : Joining) (y 
   unfolding ju whole polled listOf list admitted
   next-join = record {
     formed = more-formed t ju (a .name) (y .formed) (y .room) more (y .named) (y .free);
-    used = more .count ∙ ap suc (S .used) ∙ sym (names-more b (a .name));
-    names = rw (more .count) (λ i v. ⊎-elim
+    used = counted ∙ ap suc (S .used) ∙ sym (names-more b (a .name));
+    names = rw (counted) (λ i v. ⊎-elim
         (λ q. ap (nameOf ju) q ∙ chain .new ∙ sym (new-name b (a .name)) ∙ ap (nameIn (admitted b (a .name))) (sym (q ∙ ap suc (S .used))))
         (λ w. chain .names i w ∙ S .names i w ∙ sym (old-name b (a .name) i (rw (← S .used) w)))
         (last (usedOf t) i v));
     file = S .file ∙ sym (file-kept t ju (a .name) (y .formed) (y .room) more);
     blank = S .blank;
-    inv = rw (more .count) (keep-join (usedOf t) (whole t) (contentsOf t) b e (S .inv) (whole ju) (contentsOf ju) (a .name) grown (S .used) (λ i v. S .formed .rows i v .only) (S .blank));
+    inv = rw (counted) (keep-join (usedOf t) (whole t) (contentsOf t) b e (S .inv) (whole ju) (contentsOf ju) (a .name) grown (S .used) (λ i v. S .formed .rows i v .only) (S .blank));
   }
     where
+      counted : usedOf ju ≡ suc (usedOf t)
+      counted = more-used t ju (a .name) (y .formed) (y .room) more
+
       chain : Joined t ju (a .name)
       chain = more-chain t ju (a .name) (y .formed) (y .room) more (y .named) (y .free)
 

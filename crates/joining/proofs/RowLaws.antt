@@ -115,19 +115,27 @@ module _ (t u : List ℕ) (x : ℕ) (e : wellFormed t ≡ true) (room : usedOf t
   unfolding rowsEnd rowLength
   same-end k = ap (λ (f : ℕ). 16 + k * stride f) file-kept
 
+  pub more-used : usedOf u ≡ suc (usedOf t)
+  unfolding usedOf get used
+  more-used = ap number (o .count) ∙ number-bytes 1 _ (omega (arith, few))
+
+  front-in : (b : Bool) → Within (suc (usedOf t)) (cond b (suc (usedOf t)) (firstOf t))
+  front-in true = omega arith
+  front-in false = omega (arith, header (sized e .header) .first)
+
+  more-first : firstOf u ≡ cond (eqb (rowBefore t x) 0) (suc (usedOf t)) (firstOf t)
+  unfolding firstOf get first
+  more-first = ap number (o .front) ∙ number-bytes 1 _ (omega (arith, few, front-in (eqb (rowBefore t x) 0)))
+
   front-used : Within (suc (usedOf t)) (firstOf u)
-  front-used = rw (o .front) (go (eqb (rowBefore t x) 0))
-    where
-      go : (b : Bool) → Within (suc (usedOf t)) (cond b (suc (usedOf t)) (firstOf t))
-      go true = omega arith
-      go false = omega (arith, header (sized e .header) .first)
+  front-used = rw more-first (front-in (eqb (rowBefore t x) 0))
 
   more-header : headerValues u ≡ true
   unfolding headerValues
   more-header = rw (
     same-form,
     same-capacity,
-    o .count,
+    more-used,
     file-kept,
     same-zero,
     is-between 1 (suc (usedOf t)) (capacityOf t) (omega arith) room,
@@ -164,7 +172,7 @@ module _ (t u : List ℕ) (x : ℕ) (e : wellFormed t ≡ true) (room : usedOf t
       go true = reserved-store link (suc (usedOf t)) (rowBytes t i) (omega (arith, long-row i v)) (omega arith)
       go false = refl
 
-  link-after : (i : ℕ) → Within (usedOf t) i → linkOf u i ≡ cond (eqb (rowBefore t x) i) (suc (usedOf t)) (linkOf t i)
+  pub link-after : (i : ℕ) → Within (usedOf t) i → linkOf u i ≡ cond (eqb (rowBefore t x) i) (suc (usedOf t)) (linkOf t i)
   unfolding linkOf link
   link-after i v = ap (get link) (o .rows i v) ∙ go (eqb (rowBefore t x) i)
     where
@@ -229,11 +237,11 @@ module _ (t u : List ℕ) (x : ℕ) (e : wellFormed t ≡ true) (room : usedOf t
     pub more-chain : Joined t u x
     unfolding nameOf linkOf name rowBefore
     more-chain = record {
-      used = o .count;
+      used = more-used;
       new = ap (get name) (o .new) ∙ new-name x next body h (omega (arith, few, small));
       names = kept name (inl (omega arith));
       links = record {
-        front = o .front;
+        front = more-first;
         into = λ l. let v : Within (usedOf t) (rowBefore t x) = (l, before-used t e x room) in link-after (rowBefore t x) v ∙ rw (eq-eqb (rowBefore t x) (rowBefore t x) refl);
         onto = ap (get link) (o .new) ∙ new-link x next body h (omega (arith, few, small));
         same = λ j m d. link-after j (order-within t e j m) ∙ rw (ne-eqb (rowBefore t x) j (λ z. d (sym z)));
@@ -267,7 +275,7 @@ module _ (t u : List ℕ) (x : ℕ) (e : wellFormed t ≡ true) (room : usedOf t
     unfolding unusedZero rowsEnd
     rest-zero =
         let far : 16 + suc (usedOf t) * rowLength t ≡ 16 + usedOf t * rowLength t + rowLength t = omega arith in
-        rw (o .count, same-end (suc (usedOf t)), o .rest)
+        rw (more-used, same-end (suc (usedOf t)), o .rest)
         (ap (λ (k : ℕ). allZero (drop k t)) far ∙ ap allZero (sym (drop-drop (rowLength t) (16 + usedOf t * rowLength t) t)) ∙ zero-drop (rowLength t) (drop (16 + usedOf t * rowLength t) t) (formed t e .zero))
 
     pub more-formed : Formed u
@@ -275,9 +283,9 @@ module _ (t u : List ℕ) (x : ℕ) (e : wellFormed t ≡ true) (room : usedOf t
     more-formed = record {
       header = more-header;
       long = eq-eqb _ _ (o .bytes ∙ length-is (sized e) ∙ sym (same-end (capacityOf t)) ∙ ap (rowsEnd u) (sym same-capacity));
-      rows = rw (o .count) row-facts;
+      rows = rw (more-used) row-facts;
       visits = joined-visits t e u x more-chain;
       rise = joined-rise t e u x more-chain (h .0) free;
       zero = rest-zero;
-      agree = rw (o .count) one-list;
+      agree = rw (more-used) one-list;
     }

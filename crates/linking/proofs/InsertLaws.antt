@@ -33,6 +33,12 @@ last-among p a (x ∷ xs) = go (p x) (last-among p (cond (p x) x a) xs)
         (λ q. rw (← q) (among-head a (x ∷ xs)))
         (among-e a xs _ m)
 
+-- it goes by the test of what is on the list alone
+pub last-same : (p q : ℕ → Bool) (a : ℕ) (xs : List ℕ) → ((j : ℕ) → among xs j ≡ true → p j ≡ q j) → lastOf p a xs ≡ lastOf q a xs
+unfolding lastOf
+last-same p q a [] e = refl
+last-same p q a (x ∷ xs) e = ap (λ (b : Bool). lastOf p (cond b x a) xs) (e x (among-head x xs)) ∙ last-same p q (cond (q x) x a) xs (λ j m. e j (among-tail x xs j m))
+
 -- ---- the list with a row more
 module _ (f : ℕ → ℕ) (x w : ℕ) where
   pub inserted-length : (xs : List ℕ) → length (inserted f x w xs) ≡ suc (length xs)
