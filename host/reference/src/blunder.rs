@@ -25,10 +25,16 @@ pub enum Blunder {
     SixByCount,
     /// A read copies from the good row of highest index.
     HighestGood,
+    /// A joining puts the new row behind the row that should follow it.
+    LinkTooFar,
+    /// A row with an empty list is not passed over in finding the highest epoch.
+    UnlistedEpoch,
+    /// An empty list has a read quorum in any set, since it has no column without a member.
+    VacuousQuorum,
 }
 
 impl Blunder {
-    pub const ALL: [Blunder; 10] = [
+    pub const ALL: [Blunder; 13] = [
         Blunder::OutsidersCount,
         Blunder::ShortColumnWhole,
         Blunder::DesiredIgnored,
@@ -39,6 +45,9 @@ impl Blunder {
         Blunder::NoChoice,
         Blunder::SixByCount,
         Blunder::HighestGood,
+        Blunder::LinkTooFar,
+        Blunder::UnlistedEpoch,
+        Blunder::VacuousQuorum,
     ];
 
     /// Its name on a command line.
@@ -54,6 +63,9 @@ impl Blunder {
             Blunder::NoChoice => "no-choice",
             Blunder::SixByCount => "six-by-count",
             Blunder::HighestGood => "highest-good",
+            Blunder::LinkTooFar => "link-too-far",
+            Blunder::UnlistedEpoch => "unlisted-epoch",
+            Blunder::VacuousQuorum => "vacuous-quorum",
         }
     }
 
