@@ -51,6 +51,16 @@ impl Ledger {
             }
             Call::Send { from, to, .. } if done => book.send(*from as usize, *to as usize),
             Call::Check { answering, .. } if done => book.check(*answering),
+            Call::Join { name } if done => {
+                book.join(*name);
+                if answer.result != book.rows() as u64 {
+                    return Err(format!(
+                        "{}, but the book has {} rows",
+                        result_shown(answer.result),
+                        book.rows()
+                    ));
+                }
+            }
             _ => {}
         }
         Ok(())
@@ -82,7 +92,7 @@ mod tests {
 
     /// Makes up to so many calls in founded histories; true if the book finds something wrong.
     fn book_finds(blunder: Option<Blunder>, calls: usize) -> bool {
-        let engine = Engine { blunder };
+        let engine = Engine { blunder, ..Engine::default() };
         let mut made = 0;
         for case in 0.. {
             let mut random = Random::new(3, case);
@@ -111,7 +121,7 @@ mod tests {
 
     /// Good rows of a founded history hold the same bytes, so the book cannot tell which of them was read.
     #[test]
-    fn the_book_alone_finds_nine_blunders() {
+    fn the_book_alone_finds_all_blunders_but_one() {
         for blunder in Blunder::ALL {
             assert_eq!(
                 book_finds(Some(blunder), 50_000),
