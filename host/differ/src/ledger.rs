@@ -79,7 +79,8 @@ fn agree(refusal: u32, result: u64) -> Result<(), String> {
     if u64::from(refusal) == result >> 32 {
         Ok(())
     } else {
-        Err(format!("{}, but the book says {refusal}", result_shown(result)))
+        let by_the_book = if refusal == 0 { "done".into() } else { format!("refused by {refusal}") };
+        Err(format!("{}, but by the book it is {by_the_book}", result_shown(result)))
     }
 }
 

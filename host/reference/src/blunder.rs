@@ -1,7 +1,7 @@
 //! Mistakes to make on purpose: each turns the engine into a wrong one that the tests must find.
 
 use crate::rows::{self, Order};
-use crate::{Layout, Quorum};
+use crate::{Layout, Quorum, Table};
 
 #[derive(Clone, Copy, Debug, PartialEq, Eq)]
 pub enum Blunder {
@@ -72,6 +72,12 @@ impl Blunder {
     pub fn from_name(name: &str) -> Option<Blunder> {
         Blunder::ALL.into_iter().find(|blunder| blunder.name() == name)
     }
+}
+
+/// The highest epoch in the set and its list, rows with an empty list among them.
+pub fn highest_of_all(table: &Table, bytes: &[u8], set: u64) -> (u32, u64) {
+    let polled = rows::members(set).map(|row| table.row(bytes, row));
+    polled.max_by_key(|row| row.epoch).map_or((0, 0), |row| (row.epoch, row.list))
 }
 
 /// Counts each row outside the list in the place of the next member.

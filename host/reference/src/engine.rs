@@ -82,11 +82,6 @@ impl Engine {
         result(self.try_join(bytes, name))
     }
 
-    /// Question 1.
-    fn judge(&self, bytes: &[u8]) -> Result<Table, u32> {
-        Table::decode_by(self.rules, bytes).ok_or(1)
-    }
-
     fn try_read(
         &self,
         bytes: &[u8],
@@ -96,7 +91,7 @@ impl Engine {
         length: u64,
         buffer: &mut [u8],
     ) -> Answer {
-        let table = self.judge(bytes)?;
+        let table = Table::decode_by(self.rules, bytes).ok_or(1u32)?;
         ask(2, is_used(&table, coordinator) && only_used(&table, answering))?;
         ask(3, answers(answering, coordinator))?;
         ask(4, range_fits(&table, offset, length))?;
@@ -121,7 +116,7 @@ impl Engine {
         offset: u64,
         patch: &[u8],
     ) -> Answer {
-        let table = self.judge(bytes)?;
+        let table = Table::decode_by(self.rules, bytes).ok_or(1u32)?;
         ask(2, is_used(&table, coordinator) && only_used(&table, answering))?;
         ask(3, answers(answering, coordinator))?;
         ask(4, range_fits(&table, offset, patch.len() as u64))?;
@@ -149,7 +144,7 @@ impl Engine {
     }
 
     fn try_check(&self, bytes: &mut [u8], coordinator: u64, answering: u64) -> Answer {
-        let table = self.judge(bytes)?;
+        let table = Table::decode_by(self.rules, bytes).ok_or(1u32)?;
         ask(2, is_used(&table, coordinator) && only_used(&table, answering))?;
         ask(3, answers(answering, coordinator))?;
         let poll = self.poll(&table, bytes, answering);
@@ -173,7 +168,7 @@ impl Engine {
     }
 
     fn try_send(&self, bytes: &mut [u8], from: u64, to: u64, answering: u64) -> Answer {
-        let table = self.judge(bytes)?;
+        let table = Table::decode_by(self.rules, bytes).ok_or(1u32)?;
         ask(2, is_used(&table, from) && is_used(&table, to) && only_used(&table, answering) && from != to)?;
         ask(3, answers(answering, from) && answers(answering, to))?;
         let (from, to) = (from as usize, to as usize);
@@ -188,7 +183,7 @@ impl Engine {
     }
 
     fn try_join(&self, bytes: &mut [u8], name: u16) -> Answer {
-        let table = self.judge(bytes)?;
+        let table = Table::decode_by(self.rules, bytes).ok_or(1u32)?;
         let mut place = table.chain.partition_point(|&row| table.row(bytes, row.into()).name < name);
         let in_use = table.chain.get(place).is_some_and(|&row| table.row(bytes, row.into()).name == name);
         ask(13, name != 0 && !in_use)?;
@@ -234,8 +229,8 @@ impl Engine {
         let mut desired = 0;
         for index in rows::members(set) {
             let row = table.row(bytes, index);
-            let passed_over = self.rules.exempt(row.list) && !self.makes(Blunder::UnlistedEpoch);
-            if row.epoch >= poll.epoch && !passed_over {
+            // A row with an empty list is passed over.
+            if row.epoch >= poll.epoch && row.list != 0 {
                 (poll.epoch, poll.list) = (row.epoch, row.list);
             }
             if row.stale {
@@ -245,6 +240,9 @@ impl Engine {
             } else if row.version == poll.version {
                 poll.good |= rows::only(index);
             }
+        }
+        if self.makes(Blunder::UnlistedEpoch) {
+            (poll.epoch, poll.list) = blunder::highest_of_all(table, bytes, set);
         }
         poll.current = poll.good != 0 && (desired <= poll.version || self.makes(Blunder::DesiredIgnored));
         poll

@@ -20,7 +20,7 @@ pub enum Rules {
 }
 
 impl Rules {
-    /// Is a row with this list outside the rules on lists, and passed over where the highest epoch is sought?
+    /// Is a row with this list exempt from the rules on its own row and on one list for an epoch?
     pub fn exempt(self, list: u64) -> bool {
         list == 0 && self == Rules::Joining
     }
@@ -175,27 +175,28 @@ impl Table {
         let all_used = self.all_used();
         // The first row of each epoch; most tables have few epochs, and most rows that of the row before.
         let mut leaders = Order::EMPTY;
-        let mut before = None;
+        // Epoch and list of the last row that is not exempt; an empty list stands for none.
+        let mut before = (0, 0);
         for index in 1..=self.used {
             let header = self.row_header(bytes, index);
             let row = Row::read(header);
             if !row.fits(header) || row.list & !all_used != 0 {
                 return false;
             }
-            if rules.exempt(row.list) {
-                continue;
-            }
             if !rows::has(row.list, index) {
+                if rules.exempt(row.list) {
+                    continue;
+                }
                 return false;
             }
-            if before != Some((row.epoch, row.list)) {
+            if before != (row.epoch, row.list) {
                 let mut earlier = leaders.iter().map(|&leader| self.row(bytes, usize::from(leader)));
                 match earlier.find(|leader| leader.epoch == row.epoch) {
                     Some(leader) if leader.list != row.list => return false,
                     Some(_) => {}
                     None => leaders.push(index),
                 }
-                before = Some((row.epoch, row.list));
+                before = (row.epoch, row.list);
             }
         }
         true
