@@ -336,3 +336,30 @@ fn resize(random: &mut Random, list: &mut Vec<u8>, file_len: usize) {
         0,
     );
 }
+
+#[cfg(test)]
+mod tests {
+    use super::*;
+
+    #[test]
+    fn names_to_join_with_lie_everywhere() {
+        let (mut zero, mut in_use, mut below, mut between, mut above) = (0, 0, 0, 0, 0);
+        for case in 0..2_000 {
+            let mut random = Random::new(6, case);
+            let size = Size::pick(&mut random);
+            let table = Picture::of(&tables::well_formed(&mut random, size)).expect("well formed");
+            let name = joining_name(&mut random, &table);
+            let lower = table.rows.iter().filter(|row| row.name < name).count();
+            let count = match lower {
+                _ if name == 0 => &mut zero,
+                _ if table.rows.iter().any(|row| row.name == name) => &mut in_use,
+                0 => &mut below,
+                lower if lower == table.used => &mut above,
+                _ => &mut between,
+            };
+            *count += 1;
+        }
+        let counts = [zero, in_use, below, between, above];
+        assert!(counts.into_iter().all(|count| count > 50), "{counts:?}");
+    }
+}
