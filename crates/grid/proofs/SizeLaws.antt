@@ -1,14 +1,14 @@
 -- The sizes of the published grid, for any length.
 use mathlib.Core.Path.{_≡_, refl, ap}
-use mathlib.Core.Bool.{Bool, true, false, cond, _&&_}
-use Prim.Native.Nat.{ℕ, zero, suc, _+_, _-_, _*_, _≤_, _<_}
+use mathlib.Core.Bool.{Bool, true, false, cond, _&&_, _||_}
+use Prim.Native.Nat.{ℕ, zero, suc, _+_, _-_, _*_, _^_, _≤_, _<_}
 use native.Mathlib.Nat.{mul-le-mul-right}
 use native.Mathlib.Omega.{arith}
 use lib.Dec.{leb, ltb, eqb}
 use borrow.Author.Tests.{leb-true, leb-false, ltb-true, ltb-false, eqb-true, eqb-false}
 use Rattle.bools.proofs.BoolLaws.{and-r}
 use Rattle.grid.specs.declared.Grid.{Grid}
-use Rattle.grid.specs.Sizes.{Fits, root, rootUp, published, newFive, gridBy, noGrid}
+use Rattle.grid.specs.Sizes.{Fits, root, rootUp, published, newFive, gridBy, markFits, newMark, noGrid}
 
 -- s is the square root of N rounded down
 pub record Root (N s : ℕ) : Type 0 where
@@ -77,6 +77,23 @@ unfolding gridBy
 laid-fits mark N pos = either (λ (g : Grid). Fits g N) (eqb mark 1 && eqb N 5)
     (λ e. let five : N ≡ 5 = eqb-true N 5 (and-r (eqb mark 1) _ e) in rw five five-fits)
     (λ e. published-fits N pos)
+
+-- ---- the mark of a list laid now
+pub new-mark-fits : (N : ℕ) → markFits (newMark N) N ≡ true
+unfolding markFits newMark
+new-mark-fits N = go (eqb N 5) refl
+  where
+    go : (b : Bool) → eqb N 5 ≡ b → (eqb (cond b 1 0) 0 || (eqb (cond b 1 0) 1 && b)) ≡ true
+    go true e = refl
+    go false e = refl
+
+pub new-mark-small : (N : ℕ) → newMark N < 256 ^ 1
+unfolding newMark
+new-mark-small N = go (eqb N 5)
+  where
+    go : (b : Bool) → cond b 1 0 < 256 ^ 1
+    go true = omega arith
+    go false = omega arith
 
 -- ---- a mark's grid as the code finds it
 pub by-five : (mark N : ℕ) → (eqb mark 1 && eqb N 5) ≡ true → newFive ≡ cond (leb N 64) (gridBy mark N) noGrid

@@ -22,7 +22,7 @@ allHold (On t k refusal value buffer ∷ cs) = stepsHold t (Made k refusal value
 -- two used rows of three; row 1 alone is the list in force
 unfoldable pub pair : List ℕ
 pair =
-    (1 ∷ 3 ∷ 2 ∷ 1 ∷ 1 ∷ 0 ∷ zeros 10)
+    (2 ∷ 3 ∷ 2 ∷ 1 ∷ 1 ∷ 0 ∷ zeros 10)
     ++ ((10 ∷ 0 ∷ 2 ∷ 0 ∷ 0 ∷ 0 ∷ 0 ∷ 0 ∷ 0 ∷ 0 ∷ 0 ∷ 0 ∷ 1 ∷ 0 ∷ 0 ∷ 0 ∷ 1 ∷ 0 ∷ 0 ∷ 0 ∷ 0 ∷ 0 ∷ 0 ∷ 0 ∷ 0 ∷ 0 ∷ 0 ∷ 0 ∷ 0 ∷ 0 ∷ 0 ∷ 0 ∷ 5 ∷ [])
     ++ ((20 ∷ 0 ∷ 0 ∷ 0 ∷ 0 ∷ 0 ∷ 0 ∷ 0 ∷ 0 ∷ 0 ∷ 0 ∷ 0 ∷ 0 ∷ 0 ∷ 0 ∷ 0 ∷ 3 ∷ 0 ∷ 0 ∷ 0 ∷ 0 ∷ 0 ∷ 0 ∷ 0 ∷ 0 ∷ 0 ∷ 0 ∷ 0 ∷ 0 ∷ 0 ∷ 0 ∷ 0 ∷ 5 ∷ [])
     ++ zeros 33))
@@ -44,7 +44,7 @@ set place width value t = put place (bytesOf width value) t
 -- one used row, of a capacity and a file length
 unfoldable pub single : (capacity fileLength : ℕ) → List ℕ
 single capacity fileLength =
-    (1 ∷ capacity ∷ 1 ∷ 1 ∷ bytesOf 2 fileLength) ++ (zeros 10
+    (2 ∷ capacity ∷ 1 ∷ 1 ∷ bytesOf 2 fileLength) ++ (zeros 10
     ++ ((10 ∷ 0 ∷ zeros 14) ++ ((1 ∷ zeros 15) ++ (replicate fileLength 5 ++ zeros ((capacity - 1) * (32 + fileLength))))))
 
 -- pair with a third row, at an epoch; its list is itself
@@ -80,8 +80,8 @@ cases =
     -- ---- question 1: each rule broken, beside what is nearest to it and passes
     -- form
     formed pair
-    ∷ malformed (set 0 1 0 pair)
-    ∷ malformed (set 0 1 2 pair)
+    ∷ malformed (set 0 1 1 pair)
+    ∷ malformed (set 0 1 3 pair)
     -- capacity
     ∷ malformed (set 1 1 0 pair)
     ∷ formed (single 64 1)
@@ -146,7 +146,7 @@ cases =
     ∷ formed (set (row1 + 12) 4 0 (set (row1 + 16) 8 0 pair))
     ∷ formed nobody
     -- zeros of a row; its contents; an unused row
-    ∷ malformed (set (row1 + 24) 1 1 pair)
+    ∷ malformed (set (row1 + 25) 1 1 pair)
     ∷ malformed (set (row2 + 31) 1 1 pair)
     ∷ formed (set (row2 + 32) 1 1 pair)
     ∷ malformed (set row3 1 1 pair)
