@@ -4,7 +4,7 @@ use mathlib.Core.List.{List}
 use Prim.Native.Nat.{ℕ, zero, _+_, _*_}
 use lib.Dec.{eqb}
 use lib.ListN.{drop}
-use Rattle.blocks.specs.Blocks.{block}
+use Rattle.blocks.specs.Blocks.{block, withBlock, withBlocks}
 use Rattle.bytes.specs.Bytes.{number, bytesOf, part, put}
 use Rattle.fields.specs.declared.Laid.{Laid}
 
@@ -118,6 +118,14 @@ rowsEnd t k = 16 + k * rowLength t
 -- "Rows have indexes 1 upward": row i's bytes; there is no row 0
 unfoldable pub rowBytes : List ℕ → ℕ → List ℕ
 rowBytes t i = block 16 (rowLength t) i t
+
+-- the table with row i changed by f, and no other byte
+unfoldable pub withRow : List ℕ → ℕ → (List ℕ → List ℕ) → List ℕ
+withRow t i f = withBlock 16 (rowLength t) i f t
+
+-- the table with each row i of s among 1 to n changed by f i, and no other byte
+unfoldable pub withRows : List ℕ → (ℕ → Bool) → (ℕ → List ℕ → List ℕ) → ℕ → List ℕ
+withRows t s f n = withBlocks 16 (rowLength t) s f n t
 
 -- ---- what a table says: its row i
 unfoldable pub nameOf : List ℕ → ℕ → ℕ

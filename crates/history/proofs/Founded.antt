@@ -15,7 +15,8 @@ use Rattle.quorums.specs.declared.Kind.the-variants.{Read}
 use Rattle.fields.specs.Layout.{get, mark, version, epoch, list, contents, epochOf, listOf, staleOf, versionOf, contentsOf}
 use Rattle.protocol.specs.Lists.{laidNow}
 use Rattle.protocol.specs.Polls.{polled}
-use Rattle.protocol.specs.Calls.{Founding, namesIn, zeros, founded}
+use Rattle.bytes.specs.Bytes.{zeros}
+use Rattle.protocol.specs.Calls.{Founding, namesIn, founded}
 use Rattle.protocol.proofs.ListLaws.{inhabited}
 use Rattle.protocol.proofs.FoundedLaws.{Founds, founded-used, founded-file, founded-name, founded-order, founded-formed, at-row, row-list, zero-mark, zero-version, zero-epoch, row-contents}
 use Rattle.history.specs.Book.{order, nameIn, opened}

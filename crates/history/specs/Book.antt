@@ -8,10 +8,10 @@ use Rattle.sets.specs.Upto.{every, some, upward}
 use Rattle.sets.specs.Sets.{has, cutTo}
 use Rattle.quorums.specs.declared.Kind.{Kind}
 use Rattle.quorums.specs.declared.Kind.the-variants.{Write}
-use Rattle.bytes.specs.Bytes.{put}
+use Rattle.bytes.specs.Bytes.{put, zeros}
 use Rattle.fields.specs.declared.Laid.{Laid}
 use Rattle.protocol.specs.Lists.{laidNow, listQuorum, listChoice}
-use Rattle.protocol.specs.Calls.{Founding, Call, founding, read, write, send, check, namesIn, zeros}
+use Rattle.protocol.specs.Calls.{Founding, Call, founding, read, write, send, check, namesIn}
 
 pub record Book : Type 0 where
   -- the names of rows 1 upward, from the founding's arguments

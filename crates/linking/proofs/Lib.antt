@@ -1,3 +1,2 @@
 pub mod PathLaws
 pub mod InsertLaws
-pub mod OrderLaws

@@ -5,9 +5,9 @@ use Prim.Native.Nat.{ℕ, _+_, _-_, _*_}
 use lib.Dec.{eqb}
 use lib.ListN.{take, replicate}
 use Rattle.sets.specs.Upto.{upward}
-use Rattle.bytes.specs.Bytes.{bytesOf, put}
+use Rattle.bytes.specs.Bytes.{bytesOf, put, zeros}
 use Rattle.fields.specs.Layout.{Field, get, mark, version, desired, epoch, members, rowBytes, contentsOf}
-use Rattle.protocol.specs.Calls.{Call, outcome, zeros}
+use Rattle.protocol.specs.Calls.{Call, outcome}
 use Rattle.protocol.proofs.Histories.{fo, rd, wr, ck, Made, same, stepsHold}
 
 -- on these bytes a call has this refusal, value and buffer

@@ -26,7 +26,7 @@ use Rattle.protocol.specs.Rows.{wroteRow, checkedRow, refreshedRow}
 use Rattle.asking.specs.Asking.{Question, firstNo}
 use Rattle.protocol.specs.Calls.{Reading, Writing, Sending, Checking, Call, read, write, send, check, byCoordinator, isUsed, inFile, questions, done, outcome, answers, workSet}
 use Rattle.protocol.specs.Claims.{Answering, byRead, byWrite, bySend, byCheck, EqualIn, SameFor, UnansweredHaveNoPart}
-use Rattle.protocol.proofs.TableLaws.{Changed}
+use Rattle.table.proofs.TableLaws.{Changed}
 use Rattle.protocol.proofs.PollLaws.{lowest-good, worked-in}
 use Rattle.protocol.proofs.QuestionLaws.{refusal-is, when-done, when-refused, answered-used, ReadYes, read-yes, WriteYes, write-yes, SendYes, send-yes, CheckYes, check-yes}
 use Rattle.protocol.proofs.DoneLaws.{writeTable, write-rows, sendTable, send-changed, checkTable, check-rows}

@@ -3,20 +3,20 @@ use mathlib.Core.Bool.{Bool, true, not, cond, _&&_, _||_}
 use mathlib.Core.List.{List, [], _∷_, _++_}
 use Prim.Native.Nat.{ℕ, suc, _+_, _-_, _*_, _%_, _^_}
 use lib.Dec.{eqb, leb, ltb}
-use lib.ListN.{length, replicate}
+use lib.ListN.{length}
 use Rattle.sets.specs.Upto.{some, lowest}
 use Rattle.sets.specs.Sets.{has}
 use Rattle.quorums.specs.declared.Kind.{Kind}
 use Rattle.quorums.specs.declared.Kind.the-variants.{Read, Write}
-use Rattle.bytes.specs.Bytes.{bytesOf, part}
-use Rattle.fields.specs.Layout.{formValue, bodyLength, stride, capacityOf, usedOf, fileLengthOf, nameOf, staleOf, versionOf, desiredOf, contentsOf, rowBytes}
+use Rattle.bytes.specs.Bytes.{bytesOf, part, zeros}
+use Rattle.fields.specs.Layout.{formValue, bodyLength, stride, capacityOf, usedOf, fileLengthOf, nameOf, staleOf, versionOf, desiredOf, contentsOf, rowBytes, withRow, withRows}
 use Rattle.table.specs.Chain.{orderOf}
 use Rattle.table.specs.WellFormed.{between, limit, onlyRows, wellFormed}
 use Rattle.asking.specs.Asking.{Question, firstNo}
 use Rattle.protocol.specs.Lists.{laidNow}
 use Rattle.protocol.specs.Polls.{Poll, polled, highestEpoch, inForce, goodVersion, good, current, quorumHeld, workedOn}
-use Rattle.protocol.specs.Rows.{refreshedRow, withRow, withRows, wroteRow, checkedRow}
-use Rattle.protocol.specs.Joining.{joined}
+use Rattle.protocol.specs.Rows.{refreshedRow, wroteRow, checkedRow}
+use Rattle.joining.specs.Joining.{joined}
 
 -- ---- the arguments of each call: "Coordinator c, answering set R (bit i − 1 for row i); c, f and t are row indexes."
 pub record Founding : Type 0 where
@@ -115,15 +115,11 @@ unfoldable pub namesRising : ℕ → List ℕ → Bool
 namesRising a [] = true
 namesRising a (x ∷ l) = ltb a x && leb x 65_535 && namesRising x l
 
--- "contents, versions, epochs, marks .. become 0": n zero bytes
-unfoldable pub zeros : ℕ → List ℕ
-zeros n = replicate n 0
-
 -- "16 bytes: form, capacity, rows used, first row, file length; the rest 0"
 unfoldable pub foundedHeader : ℕ → ℕ → ℕ → List ℕ
 foundedHeader capacity n fileLength = formValue ∷ capacity ∷ n ∷ 1 ∷ (bytesOf 2 fileLength ++ zeros 10)
 
--- row i of n: its name, the next row (0 after the last), the list of all used rows, and all else 0, with a body of so many bytes
+-- row i of n: its name, the next row (0 after the last), the list of all used rows; "contents, versions, epochs, marks .. become 0", with a body of so many bytes
 unfoldable pub foundedRow : ℕ → ℕ → ℕ → ℕ → List ℕ
 foundedRow n body i x = bytesOf 2 x ++ (cond (eqb i n) 0 (i + 1) ∷ (zeros 13 ++ (bytesOf 8 (laidNow (2 ^ n - 1) .members) ++ (zeros 8 ++ zeros body))))
 
@@ -197,7 +193,7 @@ questions t (check a) =
 unfoldable pub done : List ℕ → Call → Outcome
 done t (founding a) = leaves (founding a) 0 (length (namesIn (a .names))) (founded (a .capacity) (a .fileLength) (namesIn (a .names)))
 -- "its value is the new index"
-done t (join a) = leaves (join a) 0 (usedOf t + 1) (joined t (a .name))
+done t (join a) = leaves (join a) 0 (suc (usedOf t)) (joined t (a .name))
 -- "copies the range from the good row of lowest index. Value: its version."
 done t (read a) =
     let p = answers t (a .r) in

@@ -9,11 +9,12 @@ use Rattle.sets.specs.Sets.{has}
 use Rattle.fields.specs.Layout.{usedOf, nameOf, linkOf, rowsEnd, rowBytes}
 use Rattle.table.specs.WellFormed.{wellFormed}
 use Rattle.asking.specs.Asking.{Question}
-use Rattle.protocol.specs.Calls.{Founding, Reading, Writing, Sending, Checking, Call, founding, read, write, send, check, Outcome, resultOf, questions, lent, outcome}
+use Rattle.protocol.specs.Calls.{Founding, Reading, Writing, Sending, Checking, Joining, Call, founding, join, read, write, send, check, Outcome, resultOf, questions, lent, outcome}
 
--- "In this order, each to the calls it names (2 and 3 to all but founding)": the numbers of the questions put to a call
+-- "In this order, each to the calls it names (2 and 3 to all but founding)" and joining: the numbers of the questions put to a call
 unfoldable pub numbersPut : Call → List ℕ
 numbersPut (founding a) = 11 ∷ 12 ∷ []
+numbersPut (join a) = 1 ∷ 13 ∷ 14 ∷ []
 numbersPut (read a) = 1 ∷ 2 ∷ 3 ∷ 4 ∷ 5 ∷ 6 ∷ 7 ∷ []
 numbersPut (write a) = 1 ∷ 2 ∷ 3 ∷ 4 ∷ 6 ∷ 7 ∷ 8 ∷ []
 numbersPut (send a) = 1 ∷ 2 ∷ 3 ∷ 9 ∷ 10 ∷ []
@@ -40,7 +41,7 @@ pub record Untouched (t : List ℕ) (k : Call) (o : Outcome) : Type 0 where
 unfoldable pub RefusalAltersNothing : Type 0
 RefusalAltersNothing = (t : List ℕ) (k : Call) → (outcome t k .refusal ≡ 0 → ⊥) → Untouched t k (outcome t k)
 
--- the call has an answering set R: every call but founding
+-- the call has an answering set R: every call but founding and joining
 pub data Answering : Call → ℕ → Type 0 where
   byRead : {a : Reading} → Answering (read a) (a .r)
   byWrite : {a : Writing} → Answering (write a) (a .r)
@@ -54,7 +55,7 @@ pub record OnlyRowsOf (r : ℕ) (t u : List ℕ) : Type 0 where
   pub rows : (i : ℕ) → Within (usedOf t) i → has r i ≡ false → rowBytes u i ≡ rowBytes t i
   pub rest : drop (rowsEnd t (usedOf t)) u ≡ drop (rowsEnd t (usedOf t)) t
 
--- "A done call, founding aside, alters only rows of machines that answered."
+-- "A done call, founding aside" and joining, "alters only rows of machines that answered."
 unfoldable pub AltersOnlyAnswered : Type 0
 AltersOnlyAnswered = (t : List ℕ) (k : Call) (r : ℕ) → Answering k r → outcome t k .refusal ≡ 0 → OnlyRowsOf r t (outcome t k .table)
 
@@ -80,6 +81,7 @@ UnansweredHaveNoPart = (t u : List ℕ) (k : Call) (r : ℕ) → Answering k r �
 -- "A check on a well-formed table that no founding leads to may leave one that question 1 turns down"; no other call may
 pub data NoCheck : Call → Type 0 where
   aFounding : {a : Founding} → NoCheck (founding a)
+  aJoin : {a : Joining} → NoCheck (join a)
   aRead : {a : Reading} → NoCheck (read a)
   aWrite : {a : Writing} → NoCheck (write a)
   aSend : {a : Sending} → NoCheck (send a)

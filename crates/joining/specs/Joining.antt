@@ -1,12 +1,11 @@
 -- The table after a joining: "The first unused row gets the name, is linked in name order, and is zero otherwise, its list empty."
 use mathlib.Core.Bool.{cond}
 use mathlib.Core.List.{List}
-use Prim.Native.Nat.{ℕ, _+_}
+use Prim.Native.Nat.{ℕ, suc}
 use lib.Dec.{eqb, ltb}
-use Rattle.fields.specs.Layout.{store, used, first, name, link, usedOf, firstOf, nameOf, linkOf}
+use Rattle.fields.specs.Layout.{store, used, first, name, link, usedOf, firstOf, nameOf, linkOf, withRow}
 use Rattle.table.specs.Chain.{orderOf}
 use Rattle.linking.specs.Linking.{lastOf, behind}
-use Rattle.protocol.specs.Rows.{withRow}
 
 -- the row that comes before the name x in the chain: the last whose name is below x; 0 where there is none
 unfoldable pub rowBefore : List ℕ → ℕ → ℕ
@@ -20,7 +19,7 @@ namedRow x next row = store link next (store name x row)
 -- "the header's count and first index"
 unfoldable pub joinedBehind : List ℕ → ℕ → ℕ → List ℕ
 joinedBehind t p x =
-    let w = usedOf t + 1 in
+    let w = suc (usedOf t) in
     let new = withRow t w (namedRow x (behind (firstOf t) (linkOf t) p)) in
     store first (cond (eqb p 0) w (firstOf t)) (store used w (withRow new p (store link w)))
 
