@@ -8,7 +8,8 @@ use native.Mathlib.Omega.{arith}
 use lib.Dec.{eqb}
 use lib.ListN.{length, replicate}
 use borrow.Author.Tests.{eq-eqb, lt-ltb}
-use Rattle.sets.specs.Upto.{Within, every, upward}
+use Rattle.sets.specs.Upto.{Within, every}
+use Rattle.linking.specs.Linking.{inserted, byName}
 use Rattle.sets.specs.Sets.{has, cutTo}
 use Rattle.bools.proofs.BoolLaws.{and-l, and-r, or-l, or-r}
 use Rattle.sets.proofs.UptoLaws.{every-at, every-of, some-at, some-of}
@@ -46,7 +47,7 @@ record Lone (b : Book) : Type 0 where
 
 module _ (b : Book) (L : Lone b) where
   holds : holdsQuorum b Write (has 1) ≡ true
-  unfolding holdsQuorum order upward
+  unfolding holdsQuorum order byName inserted
   holds = rw (L .names, L .list) one-holds
 
   someone : someHasAll b (has 1) ≡ true

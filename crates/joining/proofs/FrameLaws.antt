@@ -1,9 +1,9 @@
 -- What a joining alters, byte for byte.
 use mathlib.Core.Path.{_≡_, refl, sym, _∙_, ap}
-use mathlib.Core.Bool.{Bool, true, false, cond}
+use mathlib.Core.Bool.{true, cond}
 use mathlib.Core.Logic.{_⊎_, ⊎-elim, inl, inr}
 use mathlib.Core.List.{List, _++_}
-use Prim.Native.Nat.{ℕ, zero, suc, _+_, _*_, _^_, _≤_, _<_}
+use Prim.Native.Nat.{ℕ, zero, suc, _+_, _*_, _≤_, _<_}
 use native.Mathlib.Omega.{arith}
 use lib.Dec.{eqb, ltb}
 use lib.ListN.{length, take, drop, length-drop}
@@ -13,7 +13,7 @@ use Rattle.bytes.specs.Bytes.{bytesOf, part, put, zeros}
 use Rattle.bytes.proofs.ByteLaws.{length-bytes, drop-put-after, first-zeros, split-zeros, zeros-are}
 use Rattle.blocks.specs.Blocks.{block, withBlock}
 use Rattle.fields.specs.Layout.{Field, get, store, used, first, fileLength, name, link, bodyLength, stride, capacityOf, usedOf, firstOf, fileLengthOf, rowLength, rowsEnd, rowBytes, nameOf, linkOf, withRow}
-use Rattle.fields.proofs.FieldLaws.{length-store, get-store, get-other, part-store, contents-room}
+use Rattle.fields.proofs.FieldLaws.{length-store, stored-bytes, get-other, part-store, contents-room}
 use Rattle.table.specs.Chain.{orderOf, among}
 use Rattle.table.specs.WellFormed.{wellFormed, unusedZero}
 use Rattle.table.proofs.FormLaws.{Formed, formed}
@@ -80,9 +80,6 @@ module _ (t : List ℕ) (e : wellFormed t ≡ true) (x : ℕ) (room : usedOf t <
       go zero h = header (sized e .header) .first .1
       go (suc k) h = rw (ne-eqb (suc k) 0 (λ z. omega arith)) (link-in (linked e) (suc k) (omega arith))
 
-  few : suc (usedOf t) ≤ 64
-  few = omega (arith, header (sized e .header) .capacity)
-
   roomy : Roomy t (suc (usedOf t))
   roomy = rows-in (sized e) (suc (usedOf t)) room
 
@@ -138,14 +135,6 @@ module _ (t : List ℕ) (e : wellFormed t ≡ true) (x : ℕ) (room : usedOf t <
   front : ℕ
   front = cond (eqb (rowBefore t x) 0) (suc (usedOf t)) (firstOf t)
 
-  front-small : front < 256 ^ 1
-  unfolding front
-  front-small = go (eqb (rowBefore t x) 0)
-    where
-      go : (b : Bool) → cond b (suc (usedOf t)) (firstOf t) < 256 ^ 1
-      go true = omega (arith, few)
-      go false = omega (arith, few, header (sized e .header) .first)
-
   u : List ℕ
   u = store first front t3
 
@@ -156,8 +145,8 @@ module _ (t : List ℕ) (e : wellFormed t ≡ true) (x : ℕ) (room : usedOf t <
     bytes = length-store first front t3 (omega (arith, long3)) ∙ length-store used (suc (usedOf t)) t2 (omega (arith, long2)) ∙ like2 .long;
     low = part-store first front t3 (omega (arith, long3)) 0 2 (inl (omega arith)) ∙ part-store used (suc (usedOf t)) t2 (omega (arith, long2)) 0 2 (inl (omega arith)) ∙ like2 .header 0 2 (omega arith);
     high = part-store first front t3 (omega (arith, long3)) 4 12 (inr (omega arith)) ∙ part-store used (suc (usedOf t)) t2 (omega (arith, long2)) 4 12 (inr (omega arith)) ∙ like2 .header 4 12 (omega arith);
-    count = get-other first front t3 (omega (arith, long3)) used (inl (omega arith)) ∙ get-store used (suc (usedOf t)) t2 (omega (arith, long2)) (omega (arith, few));
-    front = get-store first front t3 (omega (arith, long3)) front-small;
+    count = part-store first front t3 (omega (arith, long3)) 2 1 (inl (omega arith)) ∙ stored-bytes used (suc (usedOf t)) t2 (omega (arith, long2));
+    front = stored-bytes first front t3 (omega (arith, long3));
     rows = λ i v. at i ∙ led .rows i (omega arith) ∙ ap (λ (row : List ℕ). cond (eqb (rowBefore t x) i) (store link (suc (usedOf t)) row) row) (named .rows i (omega arith) ∙ rw (ne-eqb (suc (usedOf t)) i (λ z. omega arith)));
     new = at (suc (usedOf t)) ∙ led .rows (suc (usedOf t)) (omega arith) ∙ rw (ne-eqb (rowBefore t x) (suc (usedOf t)) (λ z. omega (arith, before-used)))
         (named .rows (suc (usedOf t)) (omega arith) ∙ rw (eq-eqb (suc (usedOf t)) (suc (usedOf t)) refl, zero-row) new-row);

@@ -8,17 +8,17 @@ use native.Mathlib.Nat.{lt-of-lt-of-le}
 use native.Mathlib.Omega.{arith}
 use lib.Dec.{eqb, ltb}
 use lib.Pow.{pow-mono, pow-pos}
-use lib.ListN.{length, drop}
+use lib.ListN.{length, take, drop, length-append}
 use lib.Seq.{drop-drop}
 use borrow.Author.Tests.{eqb-true, eq-eqb, ne-eqb}
 use Rattle.bools.proofs.BoolLaws.{and-l, and-r, clash}
 use Rattle.sets.specs.Upto.{Within}
 use Rattle.sets.proofs.UptoLaws.{last}
 use Rattle.bytes.specs.Bytes.{number, bytesOf, part, zeros, allZero}
-use Rattle.bytes.proofs.ByteLaws.{number-bytes, part-part, zero-drop}
+use Rattle.bytes.proofs.ByteLaws.{length-bytes, number-bytes, part-part, length-zeros, first-zeros, zero-drop}
 use Rattle.fields.specs.declared.Laid.{Laid}
-use Rattle.fields.specs.Layout.{Field, get, store, form, formValue, capacity, used, first, fileLength, name, link, mark, version, desired, epoch, members, list, isEmpty, reserved, bodyLength, stride, capacityOf, usedOf, firstOf, fileLengthOf, rowLength, rowsEnd, rowBytes, nameOf, linkOf}
-use Rattle.fields.proofs.FieldLaws.{Apart, get-store, get-other, reserved-store, list-is}
+use Rattle.fields.specs.Layout.{Field, get, store, form, formValue, capacity, used, first, fileLength, name, link, mark, version, desired, epoch, members, list, noList, isEmpty, reserved, contents, bodyLength, stride, capacityOf, usedOf, firstOf, fileLengthOf, rowLength, rowsEnd, rowBytes, nameOf, linkOf}
+use Rattle.fields.proofs.FieldLaws.{Apart, get-store, get-other, reserved-store, contents-store, body-room, contents-part, list-is}
 use Rattle.table.specs.Chain.{orderOf, among}
 use Rattle.table.specs.WellFormed.{between, limit, wellFormed, headerValues, lengthRight, unusedZero}
 use Rattle.table.proofs.FormLaws.{is-between, RowFacts, OneList, Formed, formed}
@@ -63,6 +63,34 @@ module _ (x next body : ℕ) (h : Within 65_535 x) (l : next < 256) where
     own = λ e. absurd (clash (sym e));
   }
 
+new-contents : (x next file : ℕ) → contents (bytesOf 2 x ++ (bytesOf 1 next ++ (zeros 29 ++ zeros (bodyLength file)))) ≡ zeros file
+unfolding part zeros bytesOf stride
+new-contents x next file =
+    contents-part (bytesOf 2 x ++ (bytesOf 1 next ++ (zeros 29 ++ zeros (bodyLength file)))) file new-length ∙ first-zeros file (bodyLength file) (body-room file)
+  where
+    new-length : length (bytesOf 2 x ++ (bytesOf 1 next ++ (zeros 29 ++ zeros (bodyLength file)))) ≡ 32 + bodyLength file
+    new-length = simp length-zeros (omega arith)
+
+-- what the new row says but for name and link: nothing yet
+pub record Blank (file : ℕ) (row : List ℕ) : Type 0 where
+  pub mark : get mark row ≡ 0
+  pub version : get version row ≡ 0
+  pub desired : get desired row ≡ 0
+  pub epoch : get epoch row ≡ 0
+  pub list : list row ≡ noList
+  pub contents : contents row ≡ zeros file
+
+new-blank : (x next file : ℕ) → Blank file (bytesOf 2 x ++ (bytesOf 1 next ++ (zeros 29 ++ zeros (bodyLength file))))
+unfolding list noList get mark version desired epoch members part number zeros bytesOf
+new-blank x next file = record {
+  mark = refl;
+  version = refl;
+  desired = refl;
+  epoch = refl;
+  list = refl;
+  contents = new-contents x next file;
+}
+
 module _ (t u : List ℕ) (x : ℕ) (e : wellFormed t ≡ true) (room : usedOf t < capacityOf t) (o : OneMore t u x) where
   few : suc (usedOf t) ≤ 64
   few = omega (arith, header (sized e .header) .capacity)
@@ -76,31 +104,39 @@ module _ (t u : List ℕ) (x : ℕ) (e : wellFormed t ≡ true) (room : usedOf t
   unfolding get capacityOf capacity
   same-capacity = ap number (sym (part-part 0 2 1 1 u (omega arith)) ∙ ap (part 1 1) (o .low) ∙ part-part 0 2 1 1 t (omega arith))
 
-  pub same-file : fileLengthOf u ≡ fileLengthOf t
+  pub file-kept : fileLengthOf u ≡ fileLengthOf t
   unfolding get fileLengthOf fileLength
-  same-file = ap number (sym (part-part 4 12 0 2 u (omega arith)) ∙ ap (part 0 2) (o .high) ∙ part-part 4 12 0 2 t (omega arith))
+  file-kept = ap number (sym (part-part 4 12 0 2 u (omega arith)) ∙ ap (part 0 2) (o .high) ∙ part-part 4 12 0 2 t (omega arith))
 
   same-zero : part 6 10 u ≡ part 6 10 t
   same-zero = sym (part-part 4 12 2 10 u (omega arith)) ∙ ap (part 2 10) (o .high) ∙ part-part 4 12 2 10 t (omega arith)
 
   same-end : (k : ℕ) → rowsEnd u k ≡ rowsEnd t k
   unfolding rowsEnd rowLength
-  same-end k = ap (λ (f : ℕ). 16 + k * stride f) same-file
+  same-end k = ap (λ (f : ℕ). 16 + k * stride f) file-kept
+
+  pub more-used : usedOf u ≡ suc (usedOf t)
+  unfolding usedOf get used
+  more-used = ap number (o .count) ∙ number-bytes 1 _ (omega (arith, few))
+
+  front-in : (b : Bool) → Within (suc (usedOf t)) (cond b (suc (usedOf t)) (firstOf t))
+  front-in true = omega arith
+  front-in false = omega (arith, header (sized e .header) .first)
+
+  more-first : firstOf u ≡ cond (eqb (rowBefore t x) 0) (suc (usedOf t)) (firstOf t)
+  unfolding firstOf get first
+  more-first = ap number (o .front) ∙ number-bytes 1 _ (omega (arith, few, front-in (eqb (rowBefore t x) 0)))
 
   front-used : Within (suc (usedOf t)) (firstOf u)
-  front-used = rw (o .front) (go (eqb (rowBefore t x) 0))
-    where
-      go : (b : Bool) → Within (suc (usedOf t)) (cond b (suc (usedOf t)) (firstOf t))
-      go true = omega arith
-      go false = omega (arith, header (sized e .header) .first)
+  front-used = rw more-first (front-in (eqb (rowBefore t x) 0))
 
   more-header : headerValues u ≡ true
   unfolding headerValues
   more-header = rw (
     same-form,
     same-capacity,
-    o .count,
-    same-file,
+    more-used,
+    file-kept,
     same-zero,
     is-between 1 (suc (usedOf t)) (capacityOf t) (omega arith) room,
     is-between 1 (firstOf u) (suc (usedOf t)) (front-used .0) (front-used .1),
@@ -136,7 +172,7 @@ module _ (t u : List ℕ) (x : ℕ) (e : wellFormed t ≡ true) (room : usedOf t
       go true = reserved-store link (suc (usedOf t)) (rowBytes t i) (omega (arith, long-row i v)) (omega arith)
       go false = refl
 
-  link-after : (i : ℕ) → Within (usedOf t) i → linkOf u i ≡ cond (eqb (rowBefore t x) i) (suc (usedOf t)) (linkOf t i)
+  pub link-after : (i : ℕ) → Within (usedOf t) i → linkOf u i ≡ cond (eqb (rowBefore t x) i) (suc (usedOf t)) (linkOf t i)
   unfolding linkOf link
   link-after i v = ap (get link) (o .rows i v) ∙ go (eqb (rowBefore t x) i)
     where
@@ -151,6 +187,18 @@ module _ (t u : List ℕ) (x : ℕ) (e : wellFormed t ≡ true) (room : usedOf t
       go : (b : Bool) → cond b (suc (usedOf t)) (linkOf t i) ≤ suc (usedOf t)
       go true = omega arith
       go false = omega (arith, formed t e .rows i v .linked)
+
+  -- and the contents
+  pub contents-kept : (i : ℕ) → Within (usedOf t) i → contents (rowBytes u i) ≡ contents (rowBytes t i)
+  unfolding link
+  contents-kept i v = ap contents (o .rows i v) ∙ go (eqb (rowBefore t x) i)
+    where
+      go : (b : Bool) → contents (cond b (store link (suc (usedOf t)) (rowBytes t i)) (rowBytes t i)) ≡ contents (rowBytes t i)
+      go true = contents-store link (suc (usedOf t)) (rowBytes t i) (omega (arith, long-row i v)) (omega arith)
+      go false = refl
+
+  pub new-says : Blank (fileLengthOf t) (rowBytes u (suc (usedOf t)))
+  new-says = rw (o .new) (new-blank x (behind (firstOf t) (linkOf t) (rowBefore t x)) (fileLengthOf t))
 
   -- a row's list stays
   pub list-kept : (i : ℕ) → Within (usedOf t) i → list (rowBytes u i) ≡ list (rowBytes t i)
@@ -189,11 +237,11 @@ module _ (t u : List ℕ) (x : ℕ) (e : wellFormed t ≡ true) (room : usedOf t
     pub more-chain : Joined t u x
     unfolding nameOf linkOf name rowBefore
     more-chain = record {
-      used = o .count;
+      used = more-used;
       new = ap (get name) (o .new) ∙ new-name x next body h (omega (arith, few, small));
       names = kept name (inl (omega arith));
       links = record {
-        front = o .front;
+        front = more-first;
         into = λ l. let v : Within (usedOf t) (rowBefore t x) = (l, before-used t e x room) in link-after (rowBefore t x) v ∙ rw (eq-eqb (rowBefore t x) (rowBefore t x) refl);
         onto = ap (get link) (o .new) ∙ new-link x next body h (omega (arith, few, small));
         same = λ j m d. link-after j (order-within t e j m) ∙ rw (ne-eqb (rowBefore t x) j (λ z. d (sym z)));
@@ -227,7 +275,7 @@ module _ (t u : List ℕ) (x : ℕ) (e : wellFormed t ≡ true) (room : usedOf t
     unfolding unusedZero rowsEnd
     rest-zero =
         let far : 16 + suc (usedOf t) * rowLength t ≡ 16 + usedOf t * rowLength t + rowLength t = omega arith in
-        rw (o .count, same-end (suc (usedOf t)), o .rest)
+        rw (more-used, same-end (suc (usedOf t)), o .rest)
         (ap (λ (k : ℕ). allZero (drop k t)) far ∙ ap allZero (sym (drop-drop (rowLength t) (16 + usedOf t * rowLength t) t)) ∙ zero-drop (rowLength t) (drop (16 + usedOf t * rowLength t) t) (formed t e .zero))
 
     pub more-formed : Formed u
@@ -235,9 +283,9 @@ module _ (t u : List ℕ) (x : ℕ) (e : wellFormed t ≡ true) (room : usedOf t
     more-formed = record {
       header = more-header;
       long = eq-eqb _ _ (o .bytes ∙ length-is (sized e) ∙ sym (same-end (capacityOf t)) ∙ ap (rowsEnd u) (sym same-capacity));
-      rows = rw (o .count) row-facts;
+      rows = rw (more-used) row-facts;
       visits = joined-visits t e u x more-chain;
       rise = joined-rise t e u x more-chain (h .0) free;
       zero = rest-zero;
-      agree = rw (o .count) one-list;
+      agree = rw (more-used) one-list;
     }

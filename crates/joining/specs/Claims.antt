@@ -14,11 +14,11 @@ use Rattle.joining.specs.Joining.{rowBefore}
 -- "Joining alters only the new row, the header's count and first index, and the one link before it": u is t with a row more, named x
 pub record OneMore (t u : List ℕ) (x : ℕ) : Type 0 where
   pub bytes : length u ≡ length t
-  -- form and capacity; file length and the rest of the header
+  -- the header: form and capacity; the count; the first index; the rest
   pub low : part 0 2 u ≡ part 0 2 t
+  pub count : part 2 1 u ≡ bytesOf 1 (suc (usedOf t))
+  pub front : part 3 1 u ≡ bytesOf 1 (cond (eqb (rowBefore t x) 0) (suc (usedOf t)) (firstOf t))
   pub high : part 4 12 u ≡ part 4 12 t
-  pub count : usedOf u ≡ suc (usedOf t)
-  pub front : firstOf u ≡ cond (eqb (rowBefore t x) 0) (suc (usedOf t)) (firstOf t)
   pub rows : (i : ℕ) → Within (usedOf t) i → rowBytes u i ≡ cond (eqb (rowBefore t x) i) (store link (suc (usedOf t)) (rowBytes t i)) (rowBytes t i)
   -- the new row: its name, its link, and zeros
   pub new : rowBytes u (suc (usedOf t)) ≡ bytesOf 2 x ++ (bytesOf 1 (behind (firstOf t) (linkOf t) (rowBefore t x)) ++ (zeros 29 ++ zeros (bodyLength (fileLengthOf t))))

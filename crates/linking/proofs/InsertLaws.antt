@@ -2,7 +2,7 @@
 use mathlib.Core.Path.{_≡_, refl, sym, _∙_, ap, ap₂}
 use mathlib.Core.Bool.{Bool, true, false, cond, _||_, or-assoc, or-comm}
 use mathlib.Core.Logic.{⊎-elim}
-use mathlib.Core.List.{List, [], _∷_, _++_}
+use mathlib.Core.List.{List, [], _∷_}
 use Prim.Native.Nat.{ℕ, zero, suc, _≤_, _<_}
 use native.Mathlib.Omega.{arith}
 use lib.Dec.{eqb, ltb}
@@ -32,6 +32,12 @@ last-among p a (x ∷ xs) = go (p x) (last-among p (cond (p x) x a) xs)
         (λ n. among-tail a (x ∷ xs) _ (among-tail x xs _ n))
         (λ q. rw (← q) (among-head a (x ∷ xs)))
         (among-e a xs _ m)
+
+-- it goes by the test of what is on the list alone
+pub last-same : (p q : ℕ → Bool) (a : ℕ) (xs : List ℕ) → ((j : ℕ) → among xs j ≡ true → p j ≡ q j) → lastOf p a xs ≡ lastOf q a xs
+unfolding lastOf
+last-same p q a [] e = refl
+last-same p q a (x ∷ xs) e = ap (λ (b : Bool). lastOf p (cond b x a) xs) (e x (among-head x xs)) ∙ last-same p q (cond (q x) x a) xs (λ j m. e j (among-tail x xs j m))
 
 -- ---- the list with a row more
 module _ (f : ℕ → ℕ) (x w : ℕ) where
@@ -81,12 +87,6 @@ unfolding inserted
 inserted-same f g x w [] e = refl
 inserted-same f g x w (k ∷ xs) e =
     ap₂ (λ (y : ℕ) (l : List ℕ). cond (ltb y x) (k ∷ l) (w ∷ k ∷ xs)) (e k (among-head k xs)) (inserted-same f g x w xs (λ j m. e j (among-tail k xs j m)))
-
--- behind all others where its name is the highest
-pub inserted-last : (f : ℕ → ℕ) (x w : ℕ) (xs : List ℕ) → ((j : ℕ) → among xs j ≡ true → f j < x) → inserted f x w xs ≡ xs ++ (w ∷ [])
-unfolding inserted
-inserted-last f x w [] l = refl
-inserted-last f x w (k ∷ xs) l = rw (lt-ltb (f k) x (l k (among-head k xs))) (ap (λ (ys : List ℕ). k ∷ ys) (inserted-last f x w xs (λ j m. l j (among-tail k xs j m))))
 
 -- ---- the chain with a row more
 -- w is put in behind row p; the other rows keep their steps

@@ -1,2 +1,3 @@
 pub mod PathLaws
 pub mod InsertLaws
+pub mod NameLaws
