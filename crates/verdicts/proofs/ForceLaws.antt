@@ -6,12 +6,11 @@ use Prim.Native.Nat.{ℕ, zero, suc, _≤_}
 use native.Mathlib.Nat.{pos-of-ne-zero}
 use native.Mathlib.Omega.{arith}
 use lib.Dec.{eqb}
-use borrow.Author.Tests.{eqb-true, ne-eqb}
+use borrow.Author.Tests.{eqb-true}
 use Rattle.sets.specs.Upto.{Within, some, lowest, most}
-use Rattle.sets.specs.Sets.{has, noRow}
+use Rattle.sets.specs.Sets.{has}
 use Rattle.bools.proofs.BoolLaws.{and-l, and-r, and-i, clash}
 use Rattle.sets.proofs.UptoLaws.{lowest-in, lowest-part, most-le, most-under}
-use Rattle.sets.proofs.SetLaws.{has-empty}
 use Rattle.quorums.specs.declared.Kind.{Kind}
 use Rattle.fields.specs.declared.Laid.{Laid}
 use Rattle.fields.specs.Layout.{noList, isEmpty, listOf}
@@ -24,11 +23,6 @@ use Rattle.protocol.proofs.PollLaws.{listed-at, listed-of, epoch-le, lead-none,
 use Rattle.verdicts.specs.declared.Force.{Force}
 use Rattle.verdicts.specs.declared.Verdict.{Verdict}
 use Rattle.verdicts.specs.Judged.{withLists, Led, Forced, Judged}
-
--- a list with a member is not empty
-pub member-listed : (l : Laid) (i : ℕ) → has (l .members) i ≡ true → isEmpty l ≡ false
-unfolding isEmpty noRow
-member-listed l i m = ne-eqb (l .members) 0 (λ z. clash (ap (λ (f : ℕ → Bool). f i) (sym (ap has z ∙ has-empty)) ∙ m))
 
 -- of any poll: the lowest row of the highest epoch of all leads those that have a list, where it has one
 module _ (p : Poll) (s : ℕ → Bool) where
