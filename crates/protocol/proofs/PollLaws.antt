@@ -64,7 +64,7 @@ module _ (p : Poll) (s : ℕ → Bool) where
   pub leads : some 64 (listed p s) ≡ true → (i : ℕ) × Leads p s i
   leads h = (leader, lead-is h)
 
-  lead-none : some 64 (listed p s) ≡ false → inForce p s ≡ p .list 0
+  pub lead-none : some 64 (listed p s) ≡ false → inForce p s ≡ p .list 0
   unfolding inForce
   lead-none h = ap (p .list) (lowest-none 64 _ (λ i w. go i w (listed p s i) refl))
     where
