@@ -1,7 +1,7 @@
 -- Single calls on tables that no founding leads to, and foundings: what the histories do not reach.
 use mathlib.Core.Bool.{Bool, true, not, _&&_}
 use mathlib.Core.List.{List, [], _∷_, _++_}
-use Prim.Native.Nat.{ℕ, _+_, _-_, _*_}
+use Prim.Native.Nat.{ℕ, zero, suc, _+_, _-_, _*_}
 use lib.Dec.{eqb}
 use lib.ListN.{take, replicate}
 use Rattle.sets.specs.Upto.{upward}
@@ -59,6 +59,19 @@ unlisted e = set (row2 + 12) 4 e (set (row2 + 16) 8 0 pair)
 unfoldable pub nobody : List ℕ
 nobody = set (row1 + 16) 8 0 (unlisted 0)
 
+-- names below 256, two bytes each
+unfoldable pub twoBytes : List ℕ → List ℕ
+twoBytes [] = []
+twoBytes (x ∷ xs) = x ∷ 0 ∷ twoBytes xs
+
+-- n rows founded, named 10, 11, ..; and with the grid mark of each put to a number
+unfoldable pub full : ℕ → List ℕ
+full n = outcome (zeros (16 + n * 33)) (fo n 1 (twoBytes (upward n 10))) .table
+
+unfoldable pub remarked : (n mark : ℕ) → List ℕ → List ℕ
+remarked zero mark t = t
+remarked (suc n) mark t = remarked n mark (set (16 + n * 33 + 24) 1 mark t)
+
 -- ---- calls
 -- a check by row 0: refused by 1, or by 2 where question 1 is passed
 unfoldable pub malformed : List ℕ → Case
@@ -67,11 +80,7 @@ malformed t = On t (ck 0 0) 1 0 []
 unfoldable pub formed : List ℕ → Case
 formed t = On t (ck 0 0) 2 0 []
 
--- a founding on so many bytes, by names below 256
-unfoldable pub twoBytes : List ℕ → List ℕ
-twoBytes [] = []
-twoBytes (x ∷ xs) = x ∷ 0 ∷ twoBytes xs
-
+-- a founding on so many bytes
 unfoldable pub founds : (length capacity fileLength : ℕ) (names : List ℕ) (refusal value : ℕ) → Case
 founds length capacity fileLength names refusal value = On (zeros length) (fo capacity fileLength names) refusal value []
 
@@ -145,6 +154,15 @@ cases =
     ∷ formed (unlisted 1)
     ∷ formed (set (row1 + 12) 4 0 (set (row1 + 16) 8 0 pair))
     ∷ formed nobody
+    -- grid marks: 1 for five alone, 0 for every length; one mark for an epoch
+    ∷ formed (full 4)
+    ∷ malformed (remarked 4 1 (full 4))
+    ∷ formed (full 5)
+    ∷ formed (remarked 5 0 (full 5))
+    ∷ malformed (remarked 5 2 (full 5))
+    ∷ malformed (set (row2 + 24) 1 0 (full 5))
+    ∷ malformed (remarked 6 1 (full 6))
+    ∷ malformed (set (row2 + 24) 1 1 (unlisted 0))
     -- zeros of a row; its contents; an unused row
     ∷ malformed (set (row1 + 25) 1 1 pair)
     ∷ malformed (set (row2 + 31) 1 1 pair)
@@ -161,6 +179,13 @@ cases =
     ∷ On nobody (rd 1 3 0 1 (9 ∷ [])) 6 0 (9 ∷ [])
     ∷ On nobody (wr 1 3 0 (7 ∷ [])) 6 0 []
     ∷ On nobody (ck 1 3) 6 0 []
+    -- ---- a published five that was carried over keeps its grid, also through a check of all five; the new five does not need its third row
+    ∷ On (full 5) (rd 1 27 0 1 (9 ∷ [])) 0 0 (0 ∷ [])
+    ∷ On (remarked 5 0 (full 5)) (rd 1 27 0 1 (9 ∷ [])) 6 0 (9 ∷ [])
+    ∷ On (remarked 5 0 (full 5)) (rd 1 7 0 1 (9 ∷ [])) 0 0 (0 ∷ [])
+    ∷ On (full 5) (rd 1 5 0 1 (9 ∷ [])) 6 0 (9 ∷ [])
+    ∷ On (outcome (remarked 5 0 (full 5)) (ck 1 31) .table) (rd 1 27 0 1 (9 ∷ [])) 6 0 (9 ∷ [])
+    ∷ On (outcome (outcome (remarked 5 0 (full 5)) (ck 1 15) .table) (ck 1 31) .table) (rd 1 27 0 1 (9 ∷ [])) 0 0 (0 ∷ [])
     -- ---- joining: 1, then 13 (name 0, above 65,535, in use), then 14
     ∷ On pair (jn 15) 0 3 []
     ∷ On pair (jn 1) 0 3 []
