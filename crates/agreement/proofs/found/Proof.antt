@@ -1,11 +1,15 @@
 use mathlib.Core.Path.{_≡_, sym, _∙_, ap}
+use mathlib.Core.Bool.{false}
+use mathlib.Core.Logic.{⊎-elim}
 use Prim.Native.Nat.{_+_, _≤_}
 use native.Mathlib.Omega.{arith}
 use borrow.Author.Needs.{needs}
+use borrow.Author.Tests.{not-true, not-false}
+use Rattle.bools.proofs.BoolLaws.{clash}
 use Rattle.fields.specs.Layout.{get, epoch, list, epochOf, listOf, isEmpty}
 use Rattle.table.proofs.WellFormedLaws.{few-rows}
 use Rattle.agreement.specs.Compared.{Apart}
-use Rattle.agreement.proofs.AgreeLaws.{listed-at, unlisted-at, apart-more, join-empty, join-none, join-one}
+use Rattle.agreement.proofs.AgreeLaws.{apart-more, join-empty, join-none, join-like, join-one}
 use Rattle.agreement.proofs.found.Statement.{statement}
 use Rattle.agreement.proofs.found.Tie as tie
 
@@ -15,20 +19,26 @@ Inv-loop t k from own epoch j₀ j = (j ≤ k) × Apart t k epoch j
 abbrev μ-loop : tie.MeasureT-loop
 μ-loop t k from own epoch j₀ j = j
 
--- list and epoch of row k + 1
+-- list and epoch of row k + 1, and of row j
 own : (c : tie.After-list Inv-loop μ-loop) → let a = c .before .before .before .args in c .list .result ≡ listOf (a .t .now) (a .k + 1)
 unfolding listOf
 own c = c .list .ensures ∙ ap list (c .before .row-of .ensures .0)
 
-its-epoch : (c : tie.After-epoch Inv-loop μ-loop) → let r = c .before .before .before .before in let a = r .before .before .args in
-    c .epoch .result ≡ epochOf (a .t .now) (a .k + 1)
+its-epoch : (c : tie.After-epoch Inv-loop μ-loop) → let a = c .before .before .before .before .before .before .args in c .epoch .result ≡ epochOf (a .t .now) (a .k + 1)
 unfolding epochOf
 its-epoch c = c .epoch .ensures ∙ ap (get epoch) (c .before .before .before .before .row-of .ensures .0)
 
-other : (c : tie.After-list2 Inv-loop μ-loop) → let l = c .before .before .before .before .before in
-    c .list2 .result ≡ listOf (l .before .before .before .before .before .before .before .args .t .now) (l .loop .j)
+other : (c : tie.After-list2 Inv-loop μ-loop) → let l = c .before .before .before .before .before in c .list2 .result ≡ listOf (l .before .before .before .before .before .before .before .args .t .now) (l .loop .j)
 unfolding listOf
-other c = c .list2 .ensures ∙ ap list (c .before .row-of2 .ensures .0)
+other c = c .list2 .ensures ∙ ap list (c .before .before .before .row-of2 .ensures .0)
+
+other-epoch : (c : tie.After-epoch2 Inv-loop μ-loop) → let l = c .before .before .before in c .epoch2 .result ≡ epochOf (l .before .before .before .before .before .before .before .args .t .now) (l .loop .j)
+unfolding epochOf
+other-epoch c = c .epoch2 .ensures ∙ ap (get epoch) (c .before .row-of2 .ensures .0)
+
+-- the two are of one epoch
+alike : (c : tie.Then2 Inv-loop μ-loop) → let l = c .before .before .before .before in let a = l .before .before .before .before .before .before .before .args in epochOf (a .t .now) (a .k + 1) ≡ epochOf (a .t .now) (l .loop .j)
+alike c = sym (its-epoch (c .before .before .before .before .before)) ∙ c .if2 .taken ∙ other-epoch (c .before)
 
 add-row-of : tie.Need-add-row-of Inv-loop μ-loop
 add-row-of c = omega (arith, few-rows (c .before .pre .0))
@@ -51,31 +61,43 @@ epoch-requires c κs = c .before .before .before .row-of .ensures .1
 loop-holds : tie.Need-loop-holds Inv-loop μ-loop
 loop-holds c = let s = c .before .before .before .before .before .before in (s .pre .2, λ i w h q. s .pre .3 i w h (sym (its-epoch c) ∙ q))
 
-listed-requires : tie.Need-listed-requires Inv-loop μ-loop
-listed-requires c κs = let s = c .before .before .before .before .before .before .before .before in (s .pre .0, omega (arith, s .pre .1))
-
 row-of-requires-2 : tie.Need-row-of-requires-2 Inv-loop μ-loop
-row-of-requires-2 c κs = let s = c .before .before .before .before .before .before .before .before .before .before in (s .pre .0, omega (arith, s .pre .1))
+row-of-requires-2 c κs = let s = c .before .before .before .before .before .before .before .before in (s .pre .0, omega (arith, s .pre .1))
+
+epoch-requires-2 : tie.Need-epoch-requires-2 Inv-loop μ-loop
+epoch-requires-2 c κs = c .row-of2 .ensures .1
 
 list-requires-2 : tie.Need-list-requires-2 Inv-loop μ-loop
-list-requires-2 c κs = c .row-of2 .ensures .1
+list-requires-2 c κs = c .before .before .row-of2 .ensures .1
 
 same-requires : tie.Need-same-requires Inv-loop μ-loop
 same-requires c κs = search needs
 
 returns-2 : tie.Need-returns-2 Inv-loop μ-loop
 returns-2 c all =
-    let r = c .before .before in
-    let d = r .before .before in
-    let l = d .before .before in
-    let e = l .before .before in
-    let a = e .before .before .before .before .before .args in
-    let hit = listed-at _ _ _ (d .listed .ensures) (r .before .if2 .taken) in
-    let empty = ap isEmpty (sym (own (e .before .before))) ∙ sym (e .before .is-empty .ensures) ∙ e .if1 .left in
-    join-one (a .t .now) (a .k) (l .loop .j) (omega (arith, d .before .loop-test .taken))
-    (sym (its-epoch (l .before)) ∙ hit .0) all empty (hit .1) (c .same .result)
-    (λ y. sym (own (e .before .before)) ∙ c .same .ensures .0 y ∙ other (c .before))
-    (λ q. c .same .ensures .1 (own (e .before .before) ∙ q ∙ sym (other (c .before))))
+    let two = c .before .before in
+    let i = two .before .before .before .before in
+    let l = i .before in
+    let a = l .before .before .before .before .before .before .before .args in
+    join-like (a .t .now) (a .k) (l .loop .j) (omega (arith, i .loop-test .taken)) (alike (two .before)) all
+    (sym (own (l .before .before .before .before)) ∙ c .before .same .ensures .0 (c .if3 .taken) ∙ other two)
+
+is-empty-requires-2 : tie.Need-is-empty-requires-2 Inv-loop μ-loop
+is-empty-requires-2 c κs = search needs
+
+returns-3 : tie.Need-returns-3 Inv-loop μ-loop
+returns-3 c all =
+    let e = c .before .before in
+    let d = e .before in
+    let two = d .before in
+    let i = two .before .before .before .before in
+    let l = i .before in
+    let f = l .before .before in
+    let a = l .before .before .before .before .before .before .before .args in
+    join-one (a .t .now) (a .k) (l .loop .j) (omega (arith, i .loop-test .taken)) (alike (two .before)) all
+    (ap isEmpty (sym (own (f .before .before))) ∙ sym (f .before .is-empty .ensures) ∙ f .if1 .left)
+    (ap isEmpty (sym (other two)) ∙ sym (c .before .is-empty2 .ensures) ∙ not-true _ (c .if4 .taken)) false (λ y. absurd (clash y))
+    (λ q. sym (e .if3 .left) ∙ d .same .ensures .1 (own (f .before .before) ∙ q ∙ sym (other two)))
 
 sub-j : tie.Need-sub-j Inv-loop μ-loop
 sub-j c = search needs
@@ -84,12 +106,18 @@ loop-less : tie.Need-loop-less Inv-loop μ-loop
 loop-less c = search needs
 
 loop-again : tie.Need-loop-again Inv-loop μ-loop
+unfolding listOf
 loop-again c =
-    let l = c .before .before .before .loop in
-    (omega arith, apart-more _ _ _ (l .j) (l .inv .1) (unlisted-at _ _ (l .j) (c .before .listed .ensures) (c .if2 .left)))
+    let l = c .before .before .before .before .loop in (
+      omega arith,
+      apart-more _ _ _ (l .j) (l .inv .1) (λ q. ⊎-elim
+          (λ w. ap isEmpty (sym (w .1 .ensures ∙ ap list (c .before .before .row-of2 .ensures .0))) ∙ sym (w .4 .ensures) ∙ not-false _ (w .5 .left))
+          (λ w. absurd (w .left (q ∙ sym (other-epoch (c .before)))))
+          (c .if2 .came)),
+    )
 
-returns-3 : tie.Need-returns-3 Inv-loop μ-loop
-returns-3 c all =
+returns-4 : tie.Need-returns-4 Inv-loop μ-loop
+returns-4 c all =
     let l = c .before in
     let a = l .before .before .before .before .before .before .before .args in
     join-none (a .t .now) (a .k) (λ i w h q. l .loop .inv .1 i w (omega (arith, c .loop-test .left)) (its-epoch (l .before) ∙ q))
@@ -107,12 +135,14 @@ found-spec =
     returns
     epoch-requires
     loop-holds
-    listed-requires
     row-of-requires-2
+    epoch-requires-2
     list-requires-2
     same-requires
     returns-2
+    is-empty-requires-2
+    returns-3
     sub-j
     loop-less
     loop-again
-    returns-3)
+    returns-4)
