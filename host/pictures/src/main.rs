@@ -31,14 +31,14 @@ fn main() -> ExitCode {
 fn draw(root: &Path) -> Result<(), Box<dyn std::error::Error>> {
     let folder = root.join("docs");
     let sizes = (1..=64).map(measure::sizes).collect::<Result<Vec<Sizes>, Refusal>>()?;
-    std::fs::write(folder.join("QUORUMS.md"), document(&sizes))?;
+    std::fs::write(folder.join("QUORUMS.md"), document(&sizes, &measure::published_five()?))?;
     std::fs::write(folder.join("quorums.svg"), chart::svg(&sizes))?;
     std::fs::write(folder.join("rooms.svg"), rooms::svg(root)?)?;
     println!("pictures: wrote QUORUMS.md, quorums.svg and rooms.svg to {}", folder.display());
     Ok(())
 }
 
-fn document(sizes: &[Sizes]) -> String {
+fn document(sizes: &[Sizes], published_five: &Sizes) -> String {
     let mut text = String::from(
         "# Machines called\n\n\
          ![Machines called for a read, for a write and for a majority, for 1 to 64 machines](quorums.svg)\n\n\
@@ -46,9 +46,16 @@ fn document(sizes: &[Sizes]) -> String {
          on the coordinator, the range over all coordinators is given.\n\n\
          The figures come from the library, from the outside: in a founded table one row after the other is marked as stale, and a read\n\
          (write) that is then refused by 7 had called that row. For writes the rows with a new version give the same number.\n\
-         `make pictures` makes this page anew.\n\n\
-         | machines | read | write | majority |\n|---:|---:|---:|---:|\n",
+         `make pictures` makes this page anew.\n\n",
     );
+    let Sizes { read, write, .. } = published_five;
+    write!(
+        text,
+        "Five machines are those of a list laid now, in three rows and two columns. A list of five that was in force in a table of form 1 keeps\n\
+         the published grid of two rows and three columns: there a read calls {read}, and a write {write}.\n\n\
+         | machines | read | write | majority |\n|---:|---:|---:|---:|\n"
+    )
+    .expect("a string takes all");
     for Sizes { machines, read, write } in sizes {
         let majority = machines / 2 + 1;
         writeln!(text, "| {machines} | {read} | {write} | {majority} |").expect("a string takes all");

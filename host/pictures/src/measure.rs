@@ -6,6 +6,8 @@ use std::fmt;
 const FILE_LEN: usize = 1;
 const HEADER: usize = 16;
 const ROW: usize = 32 + FILE_LEN;
+/// Where a row has its grid mark.
+const GRID_MARK: usize = 24;
 
 /// The least and the most over all coordinators.
 #[derive(Clone, Copy)]
@@ -31,15 +33,31 @@ pub struct Sizes {
     pub write: Range,
 }
 
+/// Of machines that are founded now.
 pub fn sizes(machines: usize) -> Result<Sizes, Refusal> {
+    measured(&founded(machines)?)
+}
+
+/// Of five in the published grid, as a table of form 1 has them.
+pub fn published_five() -> Result<Sizes, Refusal> {
+    let mut bytes = founded(5)?.into_bytes();
+    (1..=5).for_each(|row| bytes[row_at(row) + GRID_MARK] = 0);
+    measured(&Table::from_bytes(bytes)?)
+}
+
+fn founded(machines: usize) -> Result<Table, Refusal> {
     let names: Vec<u16> = (1..=machines as u16).collect();
-    let founded = Table::found(machines, FILE_LEN, &names)?;
+    Table::found(machines, FILE_LEN, &names)
+}
+
+fn measured(founded: &Table) -> Result<Sizes, Refusal> {
+    let machines = founded.used();
     let mut reads = Vec::new();
     let mut writes = Vec::new();
     for coordinator in 1..=machines {
-        reads.push(called(&founded, coordinator, read)?);
-        let write_calls = called(&founded, coordinator, write)?;
-        assert_eq!(write_calls, rows_written(&founded, coordinator)?, "two ways to count a write's rows");
+        reads.push(called(founded, coordinator, read)?);
+        let write_calls = called(founded, coordinator, write)?;
+        assert_eq!(write_calls, rows_written(founded, coordinator)?, "two ways to count a write's rows");
         writes.push(write_calls);
     }
     Ok(Sizes { machines, read: range(&reads), write: range(&writes) })
