@@ -1,4 +1,4 @@
-//! Finds the sizes of a coordinator's own choice from the outside.
+//! Finds the sizes of a coordinator's own choice, and the losses that are borne, from the outside.
 
 use dyngrid::{Refusal, Rows, Table};
 use std::fmt;
@@ -26,11 +26,28 @@ impl fmt::Display for Range {
     }
 }
 
-/// How many of so many machines a read and a write call.
+/// How many of so many machines a read and a write call, and which loss they bear.
 pub struct Sizes {
     pub machines: usize,
     pub read: Range,
     pub write: Range,
+    /// The machines each of which may be lost, the others answering.
+    pub borne: Rows,
+}
+
+impl Sizes {
+    /// Do they bear the loss of any one?
+    pub fn bears(&self) -> String {
+        let fatal = Rows::first(self.machines) - self.borne;
+        if fatal.is_empty() {
+            "yes".into()
+        } else if self.borne.is_empty() {
+            "no".into()
+        } else {
+            let fatal: Vec<String> = fatal.iter().map(|row| row.to_string()).collect();
+            format!("of any but {}", fatal.join(" and "))
+        }
+    }
 }
 
 /// Of machines that are founded now.
@@ -60,7 +77,7 @@ fn measured(founded: &Table) -> Result<Sizes, Refusal> {
         assert_eq!(write_calls, rows_written(founded, coordinator)?, "two ways to count a write's rows");
         writes.push(write_calls);
     }
-    Ok(Sizes { machines, read: range(&reads), write: range(&writes) })
+    Ok(Sizes { machines, read: range(&reads), write: range(&writes), borne: borne(founded)? })
 }
 
 type Attempt = fn(&mut Table, usize, Rows) -> Result<u32, Refusal>;
@@ -94,6 +111,34 @@ fn rows_written(founded: &Table, coordinator: usize) -> Result<usize, Refusal> {
     Ok(table.rows().iter().filter(|&row| table.as_bytes()[row_at(row) + 4] == 1).count())
 }
 
+/// The machines without each of which all the others hold a write quorum: whoever of them calls, a check by them is done, and
+/// so is a write.
+fn borne(founded: &Table) -> Result<Rows, Refusal> {
+    let mut borne = Rows::EMPTY;
+    for lost in founded.rows() {
+        let lost = Rows::of(&[lost])?;
+        let left = founded.rows() - lost;
+        let (mut done, mut refused) = (0, 0);
+        for by in left {
+            for attempt in [Table::check, write as Attempt] {
+                match attempt(&mut founded.clone(), by, left) {
+                    Ok(_) => done += 1,
+                    Err(Refusal::NoQuorum) => refused += 1,
+                    Err(refusal) => return Err(refusal),
+                }
+            }
+        }
+        assert!(
+            done == 0 || refused == 0,
+            "all of them, for a check and for a write, ask for the same quorum"
+        );
+        if done > 0 {
+            borne |= lost;
+        }
+    }
+    Ok(borne)
+}
+
 /// The table with one row marked and desiring version 1.
 fn with_stale_row(founded: &Table, row: usize) -> Result<Table, Refusal> {
     let mut bytes = founded.as_bytes().to_vec();
@@ -110,4 +155,20 @@ fn range(sizes: &[usize]) -> Range {
     let least = sizes.iter().copied().min().unwrap_or(0);
     let most = sizes.iter().copied().max().unwrap_or(0);
     Range { least, most }
+}
+
+#[cfg(test)]
+mod tests {
+    use super::*;
+
+    #[test]
+    fn losses_are_borne_as_the_page_says() {
+        let bears = |machines| sizes(machines).map(|sizes| sizes.bears());
+        assert_eq!([1, 2].map(bears), [Ok("no".into()), Ok("no".into())]);
+        assert_eq!(bears(3), Ok("of any but 2".into()));
+        for machines in 4..=64 {
+            assert_eq!(bears(machines), Ok("yes".into()), "{machines} machines");
+        }
+        assert_eq!(published_five().map(|sizes| sizes.bears()), Ok("of any but 3".into()));
+    }
 }
