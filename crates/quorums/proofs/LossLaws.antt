@@ -1,8 +1,8 @@
 -- With two columns, and two positions in each, all positions but one hold a write quorum.
 use mathlib.Core.Path.{_≡_, refl, sym, _∙_, ap}
-use mathlib.Core.Bool.{Bool, true, false, not, _&&_, _||_}
+use mathlib.Core.Bool.{Bool, true, false, not, _||_}
 use mathlib.Core.Logic.{_≢_, _⊎_, inl, inr}
-use Prim.Native.Nat.{ℕ, _-_, _*_, _≤_}
+use Prim.Native.Nat.{ℕ, _*_, _≤_}
 use native.Mathlib.Omega.{arith}
 use lib.Dec.{eqb, leb}
 use borrow.Author.Tests.{eqb-true, le-leb}
@@ -68,11 +68,11 @@ module _ (g : Grid) (N : ℕ) (wide : 2 ≤ g .cols) (high : 2 * g .cols ≤ N) 
 
 pub room-bears-loss : RoomBearsLoss
 unfolding RoomBearsLoss
-room-bears-loss = one-missed
+room-bears-loss g N wide high = one-missed g N (omega arith) (omega arith)
 
 pub four-bear-loss : FourBearLoss
 unfolding FourBearLoss RoomBearsLoss bears
-four-bear-loss N k four = let r = roomy N four in room-bears-loss (gridBy (newMark N) N) N (r .0) (r .1) _ (losing-one (isPosition N) k)
+four-bear-loss N k four = let r = roomy N (omega arith) in room-bears-loss (gridBy (newMark N) N) N (r .0) (r .1) _ (losing-one (isPosition N) k)
 
 -- ---- shorter lists: by computing the definitions
 pub shorter-hold : lossesHold shorter ≡ true
