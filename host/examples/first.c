@@ -22,6 +22,8 @@ static const char *meaning(uint32_t refusal)
     case GRID_RECEIVER_NOT_BEHIND: return "the receiver is not stale, or desires more than the sender has";
     case GRID_BAD_NAMES: return "names must be 1 to 64, rise strictly, and none be 0";
     case GRID_BAD_SIZE: return "capacity, file length and table length do not fit together";
+    case GRID_NAME_NOT_FREE: return "the name is 0 or in use: join with another one";
+    case GRID_NO_ROOM: return "every row of the table is in use: found a larger table";
     default: return "no such refusal";
     }
 }

@@ -8,6 +8,7 @@
  *   Rows have the numbers 1 upward. In an answering set, bit i - 1 stands for row i (see grid_row).
  *   A result is the refusal number (0: done) times 2^32, plus the value (see grid_refusal, grid_value).
  *   A refused call has value 0 and alters no byte of the table, of a buffer or of anything else.
+ *   A done call, founding and joining aside, alters only rows that answered.
  *
  * Calls at the same time
  *   Reads of one table may run at the same time, also from several threads, each with its own buffer: a read alters
@@ -31,7 +32,7 @@ extern "C" {
 #endif
 
 /* Rises with every change of a signature in this header. */
-#define DYNGRID_INTERFACE 1
+#define DYNGRID_INTERFACE 2
 
 /* The number of the archive. */
 uint64_t grid_interface(void);
@@ -57,7 +58,9 @@ enum grid_refusals {
     GRID_SENDER_STALE = 9,         /* the sending row is stale itself: send from another one */
     GRID_RECEIVER_NOT_BEHIND = 10, /* the receiving row is not stale, or desires more than the sender has */
     GRID_BAD_NAMES = 11,           /* names must be 1 to 64, rise strictly, and none be 0 */
-    GRID_BAD_SIZE = 12             /* capacity (1 to 64, no fewer than the names), file (1 to 4,096) and table length must fit */
+    GRID_BAD_SIZE = 12,            /* capacity (1 to 64, no fewer than the names), file (1 to 4,096) and table length must fit */
+    GRID_NAME_NOT_FREE = 13,       /* the name is 0 or in use: join with another one, 1 to 65,535 */
+    GRID_NO_ROOM = 14              /* every row of the table is in use: found a larger table and carry the file over */
 };
 
 /* Limits of a table. */
@@ -105,6 +108,16 @@ uint64_t grid_send(uint8_t *table, size_t table_len, uint64_t from, uint64_t to,
 
 /* Epoch check: makes the answering rows the list in force. Value: the epoch number in force. Refusals: 1 to 3, 6 to 8. */
 uint64_t grid_check(uint8_t *table, size_t table_len, uint64_t coordinator, uint64_t answering);
+
+/* Joins a machine: the first unused row gets the name and its place in the chain, and is zero otherwise. Nobody need answer.
+   Besides that row it alters the header's count, and the one link before the row: another row's, or the header's first index.
+   Value: the new row. Refusals: 1, 13, 14.
+
+   The new row may coordinate and answer at once, but it counts in no quorum until a check that it answers takes it into
+   the list. Until then its own list is empty: it has no choice of its own, so a read or write that it coordinates works on
+   all that answered. Its version is 0, without a mark. Before the first write it is as good as any row; a send to it is
+   refused by 10 until a check that it answers, or a write that works on all that answered, has marked it. */
+uint64_t grid_join(uint8_t *table, size_t table_len, uint16_t name);
 
 #ifdef __cplusplus
 }

@@ -1,13 +1,13 @@
 // What a host program in C sees: one function for each call. The result is refusal number times 2^32, plus value.
 ghost use mathlib.Core.Path.{_≡_};
-ghost use Rattle.protocol.specs.Calls.{founding, read, write, send, check, resultOf, outcome};
+ghost use Rattle.protocol.specs.Calls.{founding, join, read, write, send, check, resultOf, outcome};
 
 // The number of this interface: it rises with every change of a signature, so that header and archive can be compared.
 #[no_mangle]
 pub extern "C" fn grid_interface() -> u64
-    ensures { λ r. ⌜ r ≡ 1 ⌝ }
+    ensures { λ r. ⌜ r ≡ 2 ⌝ }
 {
-    1
+    2
 }
 
 #[no_mangle]
@@ -15,6 +15,13 @@ pub extern "C" fn grid_found(table: &mut [u8], capacity: u64, file: u64, names: 
     ensures { λ r. ⌜ (let o = outcome (now (table .entry)) (founding (record { capacity = capacity; fileLength = file; names = now (names .entry) })) in (r ≡ resultOf o) × (now (table .exit) ≡ o .table)) ⌝ }
 {
     founding::found(table, capacity as usize, file as usize, names)
+}
+
+#[no_mangle]
+pub extern "C" fn grid_join(table: &mut [u8], name: u16) -> u64
+    ensures { λ r. ⌜ (let o = outcome (now (table .entry)) (join (record { name = name })) in (r ≡ resultOf o) × (now (table .exit) ≡ o .table)) ⌝ }
+{
+    joins::join(table, name)
 }
 
 #[no_mangle]

@@ -7,9 +7,9 @@ ghost use Prim.Native.Nat.{ℕ, _≤_};
 ghost use lib.ListN.{length};
 ghost use Rattle.sets.specs.Upto.{Within};
 ghost use Rattle.sets.specs.Sets.{has};
-ghost use Rattle.fields.specs.Layout.{usedOf};
+ghost use Rattle.fields.specs.Layout.{usedOf, withRows};
 ghost use Rattle.table.specs.Contracts.{Sized};
-ghost use Rattle.protocol.specs.Rows.{markedRow, enrolledRow, withRows, checkedRow};
+ghost use Rattle.protocol.specs.Rows.{markedRow, enrolledRow, checkedRow};
 
 // A row gets an epoch number and its list.
 fn enroll_row(row: &mut [u8], epoch: u32, list: Laid)

@@ -30,11 +30,15 @@ module _ (f : Field) (v : ℕ) (xs : List ℕ) (h : Ends f (length xs)) where
   unfolding store
   length-store = length-put xs (f .place) (bytesOf (f .width) v) stored-fits
 
+  pub stored-bytes : part (f .place) (f .width) (store f v xs) ≡ bytesOf (f .width) v
+  unfolding store
+  stored-bytes =
+      ap (λ (k : ℕ). part (f .place) k (put (f .place) (bytesOf (f .width) v) xs)) (sym (length-bytes (f .width) v))
+      ∙ part-put xs (f .place) (bytesOf (f .width) v) stored-fits
+
   pub get-store : v < 256 ^ f .width → get f (store f v xs) ≡ v
-  unfolding get store
-  get-store l =
-      ap (λ (k : ℕ). number (part (f .place) k (put (f .place) (bytesOf (f .width) v) xs))) (sym (length-bytes (f .width) v))
-      ∙ ap number (part-put xs (f .place) (bytesOf (f .width) v) stored-fits) ∙ number-bytes (f .width) v l
+  unfolding get
+  get-store l = ap number stored-bytes ∙ number-bytes (f .width) v l
 
   pub part-store : (a n : ℕ) → (a + n ≤ f .place) ⊎ (f .place + f .width ≤ a) → part a n (store f v xs) ≡ part a n xs
   unfolding store

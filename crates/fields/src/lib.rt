@@ -4,7 +4,7 @@ ghost use mathlib.Core.Bool.{true};
 ghost use Prim.Native.Nat.{_+_, _≤_};
 ghost use lib.Dec.{eqb};
 ghost use lib.ListN.{length};
-ghost use Rattle.fields.specs.Layout.{get, store, name, link, mark, version, desired, epoch, members, list, storeList, contents, storeContents};
+ghost use Rattle.fields.specs.Layout.{get, store, name, link, mark, version, desired, epoch, members, list, storeList, isEmpty, contents, storeContents};
 ghost use Rattle.bytes.specs.Bytes.{part};
 
 // A list of rows as it was laid: bit i − 1 of `members` for row i.
@@ -15,6 +15,13 @@ pub struct Laid {
 impl Laid {
     // No list.
     pub const NONE: Laid = Laid { members: 0 };
+
+    // Does the list name no row?
+    pub fn is_empty(self) -> bool
+        ensures { λ r. ⌜ r ≡ isEmpty self ⌝ }
+    {
+        self.members == 0
+    }
 
     // Are they the same list?
     pub fn same(self, other: Laid) -> bool

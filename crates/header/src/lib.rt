@@ -57,6 +57,20 @@ pub fn file_length(t: &[u8]) -> usize
     bytes::u16_at(t, FILE_AT) as usize
 }
 
+pub fn set_used(t: &mut [u8], n: u8)
+    requires { ⌜ 16 ≤ length (now t) ⌝ }
+    ensures { λ r. ⌜ now (t .exit) ≡ store used n (now (t .entry)) ⌝ }
+{
+    bytes::store_at(t, USED_AT, 1, n as u64);
+}
+
+pub fn set_first(t: &mut [u8], i: u8)
+    requires { ⌜ 16 ≤ length (now t) ⌝ }
+    ensures { λ r. ⌜ now (t .exit) ≡ store first i (now (t .entry)) ⌝ }
+{
+    bytes::store_at(t, FIRST_AT, 1, i as u64);
+}
+
 // The header of a table whose chain starts at row 1.
 pub fn set_header(t: &mut [u8], rows: u8, n: u8, file: u16)
     requires { ⌜ 16 ≤ length (now t) ⌝ }
@@ -64,7 +78,7 @@ pub fn set_header(t: &mut [u8], rows: u8, n: u8, file: u16)
 {
     bytes::store_at(t, FORM_AT, 1, FORM as u64);
     bytes::store_at(t, CAPACITY_AT, 1, rows as u64);
-    bytes::store_at(t, USED_AT, 1, n as u64);
-    bytes::store_at(t, FIRST_AT, 1, 1);
+    set_used(t, n);
+    set_first(t, 1);
     bytes::store_at(t, FILE_AT, 2, file as u64);
 }

@@ -6,18 +6,20 @@ use Prim.Native.Nat.{ℕ, _-_, _^_}
 use native.Mathlib.Omega.{arith}
 use lib.Dec.{eqb}
 use lib.Pow.{ones-lt}
-use lib.ListN.{length, length-replicate}
+use lib.ListN.{length}
 use borrow.Author.Tests.{lt-leb}
-use Rattle.sets.specs.Upto.{Within, upward}
+use Rattle.sets.specs.Upto.{Within}
 use Rattle.bools.proofs.BoolLaws.{clash}
 use Rattle.sets.proofs.SetLaws.{has-within}
 use Rattle.quorums.specs.declared.Kind.the-variants.{Read}
 use Rattle.fields.specs.Layout.{get, mark, version, epoch, list, contents, epochOf, listOf, staleOf, versionOf, contentsOf}
 use Rattle.protocol.specs.Lists.{laidNow}
 use Rattle.protocol.specs.Polls.{polled}
-use Rattle.protocol.specs.Calls.{Founding, namesIn, zeros, founded}
+use Rattle.bytes.specs.Bytes.{zeros}
+use Rattle.bytes.proofs.ByteLaws.{length-zeros}
+use Rattle.protocol.specs.Calls.{Founding, namesIn, founded}
 use Rattle.protocol.proofs.ListLaws.{inhabited}
-use Rattle.protocol.proofs.FoundedLaws.{Founds, founded-used, founded-file, founded-name, founded-order, founded-formed, at-row, row-list, zero-mark, zero-version, zero-epoch, row-contents}
+use Rattle.protocol.proofs.FoundedLaws.{Founds, founded-used, founded-file, founded-name, founded-formed, at-row, row-list, zero-mark, zero-version, zero-epoch, row-contents}
 use Rattle.history.specs.Book.{order, nameIn, opened}
 use Rattle.history.proofs.Invariant.{aim, Inv}
 use Rattle.history.proofs.State.{whole, State}
@@ -51,12 +53,13 @@ module _ (a : Founding) (f : Founds a) where
   zero-contents = at-row a f (λ i r. contents r ≡ zeros (a .fileLength)) (row-contents a f)
 
   start : Inv (length names) (whole t) (contentsOf t) (opened a) 0
-  unfolding opened aim whole polled order laidNow
+  unfolding opened aim whole polled laidNow
   start = record {
     epochs = record {
       below = λ i u. rw (epoch-zero i u) (omega arith);
-      inside = λ i u m. epoch-zero i u;
-      forced = λ i u q. list-all i u;
+      inside = λ i u m. (epoch-zero i u, list-all i u);
+      forced = λ i u l q. list-all i u;
+      bare = λ i u l. epoch-zero i u;
       owned = λ i u. sym (list-all i u);
       bound = ones-lt (length names);
       dead = λ i u l. absurd (omega arith);
@@ -68,18 +71,18 @@ module _ (a : Founding) (f : Founds a) where
       kept = λ k h. rw (version-zero i u) (sym (lt-leb k 0 (omega arith)));
     };
     live = λ s h.
-        let w = inhabited (upward (length names) 1) (laidNow (2 ^ length names - 1)) Read s h in
+        let w = inhabited (order (opened a)) (laidNow (2 ^ length names - 1)) Read s h in
         let u = has-within (length names) (2 ^ length names - 1) (w .0) (ones-lt (length names)) (w .1) in
         (w .0, u, w .2, rw (no-mark (w .0) u) (version-zero (w .0) u));
   }
 
   pub founded-state : State (founded (a .capacity) (a .fileLength) (namesIn (a .names))) (opened a) 0
-  unfolding opened order nameIn t zeros
+  unfolding opened nameIn t
   founded-state = record {
     formed = founded-formed a f;
     used = founded-used a f;
-    chain = founded-order a f;
     names = rw (founded-used a f) (founded-name a f);
-    file = length-replicate {A = ℕ} (a .fileLength) 0 ∙ sym (founded-file a f);
+    blank = λ z. ap zeros (sym (length-zeros (a .fileLength)));
+    file = length-zeros (a .fileLength) ∙ sym (founded-file a f);
     inv = rw (founded-used a f) start;
   }

@@ -12,25 +12,27 @@ use Rattle.sets.specs.Upto.{Within, every, some}
 use Rattle.sets.specs.Sets.{has}
 use Rattle.bools.proofs.BoolLaws.{and-l, and-r, and-i, same-test}
 use Rattle.sets.proofs.UptoLaws.{every-at, every-of, some-at, some-of}
-use Rattle.sets.proofs.SetLaws.{has-within}
 use Rattle.quorums.specs.declared.Kind.{Kind}
 use Rattle.quorums.specs.declared.Kind.the-variants.{Read, Write}
 use Rattle.fields.specs.declared.Laid.{Laid}
+use Rattle.fields.specs.Layout.{isEmpty}
 use Rattle.protocol.specs.Lists.{listQuorum, listChoice}
-use Rattle.protocol.specs.Polls.{Poll, highestEpoch, inForce, goodVersion, good, current, quorumHeld, ownTry, workedOn}
-use Rattle.protocol.proofs.ListLaws.{inhabited, reads, grows}
-use Rattle.protocol.proofs.PollLaws.{Leads, epoch-le, leads, version-le, version-under, good-at, good-of, current-good, current-desired, current-of, cut-in}
+use Rattle.protocol.specs.Polls.{Poll, listed, highestEpoch, inForce, goodVersion, good, current, quorumHeld, ownTry, workedOn}
+use Rattle.protocol.proofs.ListLaws.{inhabited, reads, grows, has-list}
+use Rattle.protocol.proofs.PollLaws.{Leads, listed-of, epoch-le, leads, version-le, version-under, good-at, good-of, current-good, current-desired, current-of, cut-in}
 use Rattle.history.specs.Book.{Book, order, nameIn, hasAll, holdsQuorum, someHasAll, writeSet}
 
 -- the version that a row has, or that it desires where it is marked
 unfoldable pub aim : Poll → ℕ → ℕ
 aim p i = cond (p .stale i) (p .desired i) (p .version i)
 
--- membership: e is the highest epoch, the rows that have it have the list in force, and that list has no other row
+-- membership: e is the highest epoch; the rows that have it, and have a list, have the list in force, and that list has no other row
 pub record Epochs (n : ℕ) (order : List ℕ) (epoch : ℕ → ℕ) (list : ℕ → Laid) (force : Laid) (own : ℕ → Laid) (e : ℕ) : Type 0 where
   pub below : (i : ℕ) → Within n i → epoch i ≤ e
-  pub inside : (i : ℕ) → Within n i → has (force .members) i ≡ true → epoch i ≡ e
-  pub forced : (i : ℕ) → Within n i → epoch i ≡ e → list i ≡ force
+  pub inside : (i : ℕ) → Within n i → has (force .members) i ≡ true → (epoch i ≡ e) × (list i ≡ force)
+  pub forced : (i : ℕ) → Within n i → isEmpty (list i) ≡ false → epoch i ≡ e → list i ≡ force
+  -- a row without a list is of no epoch yet
+  pub bare : (i : ℕ) → Within n i → isEmpty (list i) ≡ true → epoch i ≡ 0
   pub owned : (i : ℕ) → Within n i → own i ≡ list i
   pub bound : force .members < 2 ^ n
   -- the paper's Lemma 1: rows of no higher epoch than that of a row left behind hold no read quorum of its list
@@ -73,32 +75,37 @@ module _ (n : ℕ) (p : Poll) (c : ℕ → List ℕ) (b : Book) (e : ℕ) (few :
       go true z = absurd (omega (arith, I .versions i u .wants z))
       go false z = z
 
-  listed : (i : ℕ) → has (b .inForce .members) i ≡ true → Within n i
-  listed i h = has-within n (b .inForce .members) i (I .epochs .bound) h
+  -- a row of the list in force has a list
+  member-list : (i : ℕ) → Within n i → has (b .inForce .members) i ≡ true → isEmpty (p .list i) ≡ false
+  member-list i u h = rw (I .epochs .inside i u h .1) (has-list (b .inForce) i h)
 
   -- ---- a set of used rows
   module _ (s : ℕ → Bool) (ins : (i : ℕ) → s i ≡ true → Within n i) where
     place : (i : ℕ) → s i ≡ true → Within 64 i
     place i m = omega (arith, ins i m)
 
-    someone : (kind : Kind) → holdsQuorum b kind s ≡ true → some 64 s ≡ true
+    -- where it holds a quorum of the list in force, a row of it has a list
+    pub someone : (kind : Kind) → holdsQuorum b kind s ≡ true → some 64 (listed p s) ≡ true
     unfolding holdsQuorum
-    someone kind h = let w = inhabited (order b) (b .inForce) kind s h in some-of 64 s (w .0) (place (w .0) (w .2)) (w .2)
+    someone kind h =
+        let w = inhabited (order b) (b .inForce) kind s h in
+        some-of 64 (listed p s) (w .0) (place (w .0) (w .2)) (listed-of p s (w .0) (w .2) (member-list (w .0) (ins (w .0) (w .2)) (w .1)))
 
     -- where it holds a quorum of the list in force, its highest epoch is e and V is that list
     pub in-force : holdsQuorum b Read s ≡ true → (highestEpoch p s ≡ e) × (inForce p s ≡ b .inForce)
     unfolding holdsQuorum
     in-force h =
         let w = inhabited (order b) (b .inForce) Read s h in
-        let l = leads p s (some-of 64 s (w .0) (place (w .0) (w .2)) (w .2)) in
+        let u = ins (w .0) (w .2) in
+        let l = leads p s (someone Read h) in
         let t : highestEpoch p s ≡ e =
-        omega (arith, l .1 .highest, epoch-le p s (w .0) (place (w .0) (w .2)) (w .2), I .epochs .inside (w .0) (ins (w .0) (w .2)) (w .1), I .epochs .below (l .0) (ins (l .0) (l .1 .inside))) in
-        (t, sym (l .1 .list) ∙ I .epochs .forced (l .0) (ins (l .0) (l .1 .inside)) (l .1 .highest ∙ t))
+        omega (arith, l .1 .highest, epoch-le p s (w .0) (place (w .0) (w .2)) (w .2) (member-list (w .0) u (w .1)), I .epochs .inside (w .0) u (w .1) .0, I .epochs .below (l .0) (ins (l .0) (l .1 .inside))) in
+        (t, sym (l .1 .list) ∙ I .epochs .forced (l .0) (ins (l .0) (l .1 .inside)) (l .1 .has-list) (l .1 .highest ∙ t))
 
     -- question 6 is the book's quorum
     pub quorum-is : (kind : Kind) → quorumHeld kind (order b) p s ≡ holdsQuorum b kind s
     unfolding quorumHeld holdsQuorum
-    quorum-is kind = same-test _ _ (λ h. there (leads p s (and-l _ _ h)) (and-r (some 64 s) _ h)) back
+    quorum-is kind = same-test _ _ (λ h. there (leads p s (and-l _ _ h)) (and-r (some 64 (listed p s)) _ h)) back
       where
         there : (i : ℕ) × Leads p s i → listQuorum kind (order b) (inForce p s) s ≡ true → listQuorum kind (order b) (b .inForce) s ≡ true
         there (i, l) h = go (ℕ-discrete (p .epoch i) e)
@@ -106,13 +113,17 @@ module _ (n : ℕ) (p : Poll) (c : ℕ → List ℕ) (b : Book) (e : ℕ) (few :
             u : Within n i
             u = ins i (l .inside)
 
+            lower : (j : ℕ) → Within n j → s j ≡ true → (x : Bool) → isEmpty (p .list j) ≡ x → p .epoch j ≤ p .epoch i
+            lower j v m true z = omega (arith, I .epochs .bare j v z)
+            lower j v m false z = omega (arith, l .highest, epoch-le p s j (place j m) m z)
+
             go : Dec (p .epoch i ≡ e) → listQuorum kind (order b) (b .inForce) s ≡ true
-            go (yes t) = subst (λ (v : Laid). listQuorum kind (order b) v s ≡ true) (sym (l .list) ∙ I .epochs .forced i u t) h
+            go (yes t) = subst (λ (v : Laid). listQuorum kind (order b) v s ≡ true) (sym (l .list) ∙ I .epochs .forced i u (l .has-list) t) h
             go (no d) = absurd (I .epochs .dead i u (omega (arith, I .epochs .below i u)) s
-                (λ j v m. omega (arith, l .highest, epoch-le p s j (place j m) m))
+                (λ j v m. lower j v m (isEmpty (p .list j)) refl)
                 (subst (λ (v : Laid). listQuorum Read (order b) v s ≡ true) (sym (l .list)) (reads (order b) (inForce p s) kind s h)))
 
-        back : listQuorum kind (order b) (b .inForce) s ≡ true → (some 64 s && listQuorum kind (order b) (inForce p s) s) ≡ true
+        back : listQuorum kind (order b) (b .inForce) s ≡ true → (some 64 (listed p s) && listQuorum kind (order b) (inForce p s) s) ≡ true
         back h = and-i _ _ (someone kind h) (subst (λ (v : Laid). listQuorum kind (order b) v s ≡ true) (sym (in-force (reads (order b) (b .inForce) kind s h) .1)) h)
 
     -- ---- that holds a read quorum of the list in force

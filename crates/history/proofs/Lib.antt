@@ -2,6 +2,7 @@ pub mod Invariant
 pub mod Steps
 pub mod State
 pub mod Answers
+pub mod Joined
 pub mod Next
 pub mod Founded
 pub mod Theorems

@@ -1,30 +1,39 @@
 -- The table after a call against the book after it.
 use mathlib.Core.Path.{_≡_, refl, sym, _∙_, ap, subst}
 use mathlib.Core.Bool.{Bool, true, false}
+use mathlib.Core.Logic.{⊎-elim, inr}
 use mathlib.Core.List.{List}
 use Prim.Native.Nat.{ℕ, suc, _+_, _-_, _<_}
 use native.Mathlib.Omega.{arith}
 use lib.Dec.{eqb}
 use lib.ListN.{length, getD}
 use borrow.Author.Tests.{eqb-false, ne-eqb}
-use Rattle.sets.specs.Upto.{Within, upward}
+use Rattle.sets.specs.Upto.{Within}
 use Rattle.sets.specs.Sets.{has}
 use Rattle.quorums.specs.declared.Kind.the-variants.{Write}
-use Rattle.fields.specs.Layout.{get, mark, version, desired, contents, rowBytes, usedOf, staleOf, versionOf, desiredOf, contentsOf, epochOf}
+use Rattle.fields.specs.Layout.{get, mark, version, desired, epoch, list, contents, rowBytes, usedOf, nameOf, staleOf, versionOf, desiredOf, contentsOf, epochOf, listOf}
 use Rattle.table.specs.WellFormed.{limit}
+use Rattle.bytes.specs.Bytes.{zeros}
 use Rattle.bytes.proofs.ByteLaws.{length-put}
 use Rattle.table.proofs.FormLaws.{Formed}
 use Rattle.fields.specs.declared.Laid.{Laid}
+use Rattle.joining.specs.Joining.{joined}
+use Rattle.joining.specs.Claims.{OneMore}
+use Rattle.joining.proofs.FrameLaws.{joined-alters}
+use Rattle.joining.proofs.RowLaws.{more-used, file-kept, kept, contents-kept, list-kept, new-says, more-chain, more-formed}
+use Rattle.joining.proofs.OrderLaws.{Joined}
+use Rattle.sets.proofs.UptoLaws.{last}
 use Rattle.protocol.specs.Polls.{polled, highestEpoch, inForce, goodVersion, good, current}
-use Rattle.protocol.specs.Calls.{Writing, Sending, Checking, answers, workSet}
+use Rattle.protocol.specs.Calls.{Joining, Writing, Sending, Checking, answers, workSet}
 use Rattle.protocol.proofs.RowLaws.{fieldAt, fieldsOf, changed, relisted}
-use Rattle.protocol.proofs.FrameLaws.{Frame, same-used, same-file, same-order}
-use Rattle.protocol.proofs.QuestionLaws.{WriteYes, SendYes, CheckYes}
+use Rattle.protocol.proofs.FrameLaws.{Frame, same-used, same-file}
+use Rattle.protocol.proofs.QuestionLaws.{JoinYes, WriteYes, SendYes, CheckYes}
 use Rattle.protocol.proofs.DoneLaws.{RowBecomes, writeTable, write-leaves, write-taken, write-marked, sendTable, send-leaves, send-target, checkTable, check-leaves, check-taken, check-marked}
 use Rattle.protocol.proofs.KeepLaws.{write-formed, write-membership, send-formed, send-membership, check-formed, check-membership}
-use Rattle.history.specs.Book.{Book, order, nameIn, holdsQuorum, writeSet, written, passedOn, agreed}
+use Rattle.history.specs.Book.{Book, nameIn, holdsQuorum, writeSet, written, passedOn, agreed, admitted}
 use Rattle.history.proofs.Invariant.{Inv, set-is}
 use Rattle.history.proofs.Steps.{Is, Stays, Wrote, keep-write, Sent, keep-send, Checked, keep-list, keep-check}
+use Rattle.history.proofs.Joined.{names-more, old-name, new-name, Grown, keep-join}
 use Rattle.history.proofs.State.{whole, State, few, epoch-whole, good-whole, six-check, force-check, version-whole, current-whole, answered, work-is, work-sub, work-used, work-quorum}
 use Rattle.history.proofs.Answers.{current-all}
 
@@ -50,16 +59,64 @@ stays-of t u i e = record {
 
 -- the frame of the book is that of the table before and after
 framed : {t u : List ℕ} {b b′ : Book} {e e′ : ℕ} → State t b e → Frame t u → Formed u → b′ .names ≡ b .names → length (b′ .file) ≡ length (b .file)
-    → Inv (usedOf t) (whole u) (contentsOf u) b′ e′ → State u b′ e′
-unfolding order nameIn
-framed {t} {u} {b} {b′} {e} {e′} S f w n l I = record {
+    → (b′ .writes ≡ 0 → b′ .file ≡ zeros (length (b′ .file))) → Inv (usedOf t) (whole u) (contentsOf u) b′ e′ → State u b′ e′
+unfolding nameIn
+framed {t} {u} {b} {b′} {e} {e′} S f w n l z I = record {
   formed = w;
   used = same-used f ∙ S .used ∙ sym (ap length n);
-  chain = same-order f ∙ S .chain ∙ ap (λ (x : List ℕ). upward (length x) 1) (sym n);
   names = rw (same-used f) (λ i u. ap (λ (g : ℕ → ℕ). g i) (f .names) ∙ S .names i u ∙ ap (λ (x : List ℕ). getD x (i - 1) 0) (sym n));
   file = l ∙ S .file ∙ sym (same-file f);
+  blank = z;
   inv = rw (same-used f) I;
 }
+
+-- ---- a done joining
+module _ (t : List ℕ) (b : Book) (e : ℕ) (S : State t b e) (a : Joining) (y : JoinYes t a) where
+  ju : List ℕ
+  ju = joined t (a .name)
+
+  more : OneMore t ju (a .name)
+  unfolding ju
+  more = joined-alters t (y .formed) (a .name) (y .room)
+
+  grown : Grown (usedOf t) (whole t) (contentsOf t) b e (S .inv) (whole ju) (contentsOf ju) (a .name)
+  unfolding whole polled staleOf versionOf desiredOf contentsOf epochOf listOf mark version desired epoch
+  grown =
+      let n = new-says t ju (a .name) (y .formed) (y .room) more in
+      let same = kept t ju (a .name) (y .formed) (y .room) more in
+      record {
+        epoch = same epoch (inr (omega arith));
+        list = list-kept t ju (a .name) (y .formed) (y .room) more;
+        old = λ i v. record {
+          stale = ap (λ (x : ℕ). eqb x 1) (same mark (inr (omega arith)) i v);
+          version = same version (inr (omega arith)) i v;
+          desired = same desired (inr (omega arith)) i v;
+          contents = contents-kept t ju (a .name) (y .formed) (y .room) more i v;
+        };
+        new-epoch = n .epoch;
+        new-list = n .list;
+        new = record { stale = ap (λ (x : ℕ). eqb x 1) (n .mark); version = n .version; desired = n .desired; contents = n .contents ∙ ap zeros (sym (S .file)) };
+      }
+
+  pub next-join : State (joined t (a .name)) (admitted b (a .name)) e
+  unfolding ju whole polled listOf list admitted
+  next-join = record {
+    formed = more-formed t ju (a .name) (y .formed) (y .room) more (y .named) (y .free);
+    used = counted ∙ ap suc (S .used) ∙ sym (names-more b (a .name));
+    names = rw (counted) (λ i v. ⊎-elim
+        (λ q. ap (nameOf ju) q ∙ chain .new ∙ sym (new-name b (a .name)) ∙ ap (nameIn (admitted b (a .name))) (sym (q ∙ ap suc (S .used))))
+        (λ w. chain .names i w ∙ S .names i w ∙ sym (old-name b (a .name) i (rw (← S .used) w)))
+        (last (usedOf t) i v));
+    file = S .file ∙ sym (file-kept t ju (a .name) (y .formed) (y .room) more);
+    blank = S .blank;
+    inv = rw (counted) (keep-join (usedOf t) (whole t) (contentsOf t) b e (S .inv) (whole ju) (contentsOf ju) (a .name) grown (S .used) (λ i v. S .formed .rows i v .only) (S .blank));
+  }
+    where
+      counted : usedOf ju ≡ suc (usedOf t)
+      counted = more-used t ju (a .name) (y .formed) (y .room) more
+
+      chain : Joined t ju (a .name)
+      chain = more-chain t ju (a .name) (y .formed) (y .room) more (y .named) (y .free)
 
 -- ---- a done write
 module _ (t : List ℕ) (b : Book) (e : ℕ) (S : State t b e) (a : Writing) (y : WriteYes t a) where
@@ -93,7 +150,7 @@ module _ (t : List ℕ) (b : Book) (e : ℕ) (S : State t b e) (a : Writing) (y 
 
   pub next-write : State (writeTable t a y) (written b (writeSet b (a .c) (a .r)) (a .offset) (a .patch)) e
   unfolding u s written
-  next-write = framed S (write-leaves t a y .frame) (write-formed t a y) refl (length-put (b .file) (a .offset) (a .patch) (omega (arith, S .file, y .range)))
+  next-write = framed S (write-leaves t a y .frame) (write-formed t a y) refl (length-put (b .file) (a .offset) (a .patch) (omega (arith, S .file, y .range))) (λ z. absurd (omega arith))
       (subst (λ (x : ℕ → Bool). Inv (usedOf t) (whole u) (contentsOf u) (written b x (a .offset) (a .patch)) e) set
       (keep-write (usedOf t) (whole t) (contentsOf t) b e (few t b e S (a .r)) (S .inv) (whole u) (contentsOf u) s (a .offset) (a .patch)
       (work-used t b e S (a .r) Write (a .c) (y .first)) (work-quorum t b e S (a .r) Write (a .c) (y .first) (y .quorum)) (current-all t b e S Write (a .c) (a .r) (y .first) (y .quorum) (y .current)) wrote))
@@ -118,7 +175,7 @@ module _ (t : List ℕ) (b : Book) (e : ℕ) (S : State t b e) (a : Sending) (y 
 
   pub next-send : State (sendTable t a y) (passedOn b (a .f) (a .t)) e
   unfolding su passedOn whole polled
-  next-send = framed S (send-leaves t a y .frame) (send-formed t a y) refl refl
+  next-send = framed S (send-leaves t a y .frame) (send-formed t a y) refl refl (S .blank)
       (keep-send (usedOf t) (whole t) (contentsOf t) b e (few t b e S (a .r)) (S .inv) (whole su) (contentsOf su) (a .f) (a .t) (y .from-used) (y .to-used) (y .mark) (y .enough) sent)
 
 -- ---- a done check
@@ -134,13 +191,13 @@ module _ (t : List ℕ) (b : Book) (e : ℕ) (S : State t b e) (a : Checking) (y
   force-is = force-check t b e S (a .c) (a .r) (y .first) check-quorum
 
   pub next-same : a .r ≡ inForce (answers t (a .r)) (has (a .r)) .members → State t (agreed b (a .r)) e
-  unfolding agreed order nameIn
+  unfolding agreed nameIn
   next-same z = record {
     formed = S .formed;
     used = S .used;
-    chain = S .chain;
     names = S .names;
     file = S .file;
+    blank = S .blank;
     inv = keep-list (usedOf t) (whole t) (contentsOf t) b e (few t b e S (a .r)) (S .inv) (whole t) (contentsOf t) (a .r) (y .first .rows) check-quorum (z ∙ ap (λ (v : Laid). v .members) (force-is .1));
   }
 
@@ -164,6 +221,6 @@ module _ (t : List ℕ) (b : Book) (e : ℕ) (S : State t b e) (a : Checking) (y
 
     pub next-check : State (checkTable t a y room) (agreed b (a .r)) (suc e)
     unfolding cu agreed
-    next-check = framed S (check-leaves t a y room .frame) (check-formed t a y room cur fresh) refl refl
+    next-check = framed S (check-leaves t a y room .frame) (check-formed t a y room cur fresh) refl refl (S .blank)
         (keep-check (usedOf t) (whole t) (contentsOf t) b e (few t b e S (a .r)) (S .inv) (whole cu) (contentsOf cu) (a .r) (y .first .rows) check-quorum
         (sym (current-whole t b e S (a .r) (has (a .r)) all) ∙ cur) checked)

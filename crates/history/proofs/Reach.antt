@@ -8,13 +8,14 @@ use native.Mathlib.Omega.{arith}
 use lib.Dec.{eqb}
 use lib.ListN.{length, replicate}
 use borrow.Author.Tests.{eq-eqb, lt-ltb}
-use Rattle.sets.specs.Upto.{Within, every, upward}
+use Rattle.sets.specs.Upto.{Within, every}
+use Rattle.linking.specs.Linking.{inserted, byName}
 use Rattle.sets.specs.Sets.{has, cutTo}
 use Rattle.bools.proofs.BoolLaws.{and-l, and-r, or-l, or-r}
 use Rattle.sets.proofs.UptoLaws.{every-at, every-of, some-at, some-of}
 use Rattle.sets.proofs.SetLaws.{has-within}
 use Rattle.quorums.specs.declared.Kind.the-variants.{Write}
-use Rattle.bytes.proofs.ByteLaws.{length-put}
+use Rattle.bytes.proofs.ByteLaws.{length-put, length-zeros}
 use Rattle.fields.specs.Layout.{stride, usedOf, fileLengthOf}
 use Rattle.table.specs.Chain.{orderOf}
 use Rattle.table.specs.WellFormed.{between, limit, onlyRows}
@@ -22,10 +23,10 @@ use Rattle.table.proofs.FormLaws.{well-formed-of}
 use Rattle.protocol.specs.Lists.{laidNow, listChoice}
 use Rattle.protocol.specs.Polls.{goodVersion, current, quorumHeld}
 use Rattle.asking.specs.Asking.{firstNo, before}
-use Rattle.protocol.specs.Calls.{Founding, Writing, founding, write, isUsed, inFile, byCoordinator, questions, outcome, answers, workSet, namesIn, namesRising, zeros}
+use Rattle.bytes.specs.Bytes.{zeros}
+use Rattle.protocol.specs.Calls.{Founding, Writing, founding, write, isUsed, inFile, byCoordinator, questions, outcome, answers, workSet, namesIn, namesRising}
 use Rattle.protocol.proofs.ListLaws.{one-holds}
 use Rattle.protocol.proofs.PollLaws.{cut-in}
-use Rattle.protocol.proofs.FoundedLaws.{length-zeros}
 use Rattle.protocol.proofs.QuestionLaws.{refusal-is, ByCoordinator}
 use Rattle.history.specs.Book.{Book, opened, order, nameIn, hasAll, holdsQuorum, someHasAll, writeSet, written, entered}
 use Rattle.history.specs.Claims.{tableAfter, bookAfter, after, aWrite, LimitReached}
@@ -46,7 +47,7 @@ record Lone (b : Book) : Type 0 where
 
 module _ (b : Book) (L : Lone b) where
   holds : holdsQuorum b Write (has 1) ≡ true
-  unfolding holdsQuorum order upward
+  unfolding holdsQuorum order byName inserted
   holds = rw (L .names, L .list) one-holds
 
   someone : someHasAll b (has 1) ≡ true

@@ -11,10 +11,13 @@ use Rattle.quorums.specs.declared.Kind.{Kind}
 use Rattle.quorums.specs.declared.Kind.the-variants.{Read, Write}
 use Rattle.fields.specs.Layout.{usedOf, fileLengthOf, nameOf, contentsOf}
 use Rattle.table.specs.Chain.{orderOf}
-use Rattle.table.proofs.FormLaws.{Formed, header-facts}
-use Rattle.protocol.specs.Polls.{Poll, polled, highestEpoch, inForce, goodVersion, good, current, quorumHeld, workedOn}
+use Rattle.table.proofs.FormLaws.{Formed, well-formed-of, header-facts}
+use Rattle.protocol.specs.Polls.{Poll, polled, listed, highestEpoch, inForce, goodVersion, good, current, quorumHeld, workedOn}
 use Rattle.protocol.specs.Calls.{answers, workSet}
-use Rattle.sets.proofs.UptoLaws.{some-of}
+use Rattle.bytes.specs.Bytes.{zeros}
+use Rattle.bools.proofs.BoolLaws.{and-l}
+use Rattle.linking.specs.Linking.{byName}
+use Rattle.linking.proofs.NameLaws.{by-name-same, chain-by-name}
 use Rattle.protocol.proofs.ListLaws.{reads}
 use Rattle.protocol.proofs.PollLaws.{Agree, agree-less, epoch-same, list-same, version-same, good-same, current-same, quorum-same, worked-same, worked-in}
 use Rattle.protocol.proofs.QuestionLaws.{ByCoordinator, answered-used}
@@ -28,10 +31,18 @@ whole t = polled t (λ i. true)
 pub record State (t : List ℕ) (b : Book) (e : ℕ) : Type 0 where
   pub formed : Formed t
   pub used : usedOf t ≡ length (b .names)
-  pub chain : orderOf t ≡ order b
   pub names : (i : ℕ) → Within (usedOf t) i → nameOf t i ≡ nameIn b i
   pub file : length (b .file) ≡ fileLengthOf t
+  -- before the first write the file is as the founding left it
+  pub blank : b .writes ≡ 0 → b .file ≡ zeros (length (b .file))
   pub inv : Inv (usedOf t) (whole t) (contentsOf t) b e
+
+-- the chain order is that of the names, and so is the book's
+pub chain-is : (t : List ℕ) (b : Book) (e : ℕ) → State t b e → orderOf t ≡ order b
+unfolding order
+chain-is t b e S =
+    chain-by-name t (well-formed-of t (S .formed)) ∙ sym (by-name-same (nameOf t) (nameIn b) (usedOf t) (λ j w. sym (S .names j w)))
+    ∙ ap (byName (nameIn b)) (S .used)
 
 -- the poll of R says of R what all rows say
 masked : (t : List ℕ) (r : ℕ) → Agree (answers t r) (whole t) (has r)
@@ -54,12 +65,12 @@ module _ (t : List ℕ) (b : Book) (e : ℕ) (S : State t b e) (r : ℕ) where
     agree = agree-less (answers t r) (whole t) s (has r) sub (masked t r)
 
     pub quorum-whole : (kind : Kind) → quorumHeld kind (orderOf t) (answers t r) s ≡ quorumHeld kind (order b) (whole t) s
-    quorum-whole kind = quorum-same (answers t r) (whole t) s agree kind (orderOf t) ∙ ap (λ (o : List ℕ). quorumHeld kind o (whole t) s) (S .chain)
+    quorum-whole kind = quorum-same (answers t r) (whole t) s agree kind (orderOf t) ∙ ap (λ (o : List ℕ). quorumHeld kind o (whole t) s) (chain-is t b e S)
 
     pub epoch-whole : highestEpoch (answers t r) s ≡ highestEpoch (whole t) s
     epoch-whole = epoch-same (answers t r) (whole t) s agree
 
-    pub list-whole : some 64 s ≡ true → inForce (answers t r) s ≡ inForce (whole t) s
+    pub list-whole : some 64 (listed (answers t r) s) ≡ true → inForce (answers t r) s ≡ inForce (whole t) s
     list-whole h = list-same (answers t r) (whole t) s agree h
 
     pub current-whole : current (answers t r) s ≡ current (whole t) s
@@ -80,7 +91,7 @@ module _ (t : List ℕ) (b : Book) (e : ℕ) (S : State t b e) (r : ℕ) where
     unfolding workSet
     work-is =
         worked-same kind (orderOf t) (answers t r) (whole t) c (nameOf t c) (has r) (B .answered) (masked t r)
-        ∙ ap₂ (λ (o : List ℕ) (a : ℕ). workedOn kind o (whole t) c a (has r)) (S .chain) (S .names c (B .coordinator))
+        ∙ ap₂ (λ (o : List ℕ) (a : ℕ). workedOn kind o (whole t) c a (has r)) (chain-is t b e S) (S .names c (B .coordinator))
 
     pub work-sub : (i : ℕ) → workSet kind t c r i ≡ true → has r i ≡ true
     unfolding workSet
@@ -125,10 +136,11 @@ module _ (t : List ℕ) (b : Book) (e : ℕ) (S : State t b e) (c r : ℕ) (B : 
     check-reads = reads (order b) (b .inForce) Write (has r) q
 
     pub force-check : (highestEpoch (answers t r) (has r) ≡ e) × (inForce (answers t r) (has r) ≡ b .inForce)
+    unfolding quorumHeld
     force-check =
         let f = in-force (usedOf t) (whole t) (contentsOf t) b e (few t b e S r) (S .inv) (has r) ins check-reads in (
           epoch-whole t b e S r (has r) all ∙ f .0,
-          list-whole t b e S r (has r) all (some-of 64 (has r) c (omega (arith, few t b e S r, B .coordinator)) (B .answered)) ∙ f .1,
+          list-whole t b e S r (has r) all (and-l _ _ (six-check ∙ q)) ∙ f .1,
         )
 
     pub seven-check : (inForce (answers t r) (has r) ≡ b .inForce) × (current (answers t r) (has r) ≡ someHasAll b (has r))

@@ -15,11 +15,12 @@ use Rattle.sets.proofs.SetLaws.{has-within}
 use Rattle.quorums.specs.declared.Kind.the-variants.{Read, Write}
 use Rattle.bytes.specs.Bytes.{put}
 use Rattle.fields.specs.declared.Laid.{Laid}
+use Rattle.fields.specs.Layout.{isEmpty}
 use Rattle.protocol.specs.Lists.{laidNow, listQuorum}
 use Rattle.protocol.specs.Polls.{Poll, highestEpoch, inForce, goodVersion, good, current}
-use Rattle.protocol.proofs.ListLaws.{laid-again, shared, inhabited, reads}
+use Rattle.protocol.proofs.ListLaws.{laid-again, shared, inhabited, reads, has-list}
 use Rattle.protocol.proofs.PollLaws.{good-at, good-of}
-use Rattle.history.specs.Book.{Book, order, hasAll, holdsQuorum, written, passedOn, agreed}
+use Rattle.history.specs.Book.{Book, order, nameIn, hasAll, holdsQuorum, written, passedOn, agreed}
 use Rattle.history.proofs.Invariant.{aim, Epochs, Versions, Inv, clean, in-force, version-is, good-is}
 
 -- what a row says, and its contents
@@ -33,11 +34,11 @@ pub record Is (p : Poll) (c : ℕ → List ℕ) (i : ℕ) (z : Bool) (v d : ℕ)
 abbrev pub Stays : Poll → (ℕ → List ℕ) → Poll → (ℕ → List ℕ) → ℕ → Type 0
 Stays p c p′ c′ i = Is p′ c′ i (p .stale i) (p .version i) (p .desired i) (c i)
 
-versions-of : {p′ : Poll} {c′ : ℕ → List ℕ} {i : ℕ} {z : Bool} {v d : ℕ} {l : List ℕ} {writes : ℕ} {file : List ℕ} {h : ℕ → Bool}
+pub versions-of : {p′ : Poll} {c′ : ℕ → List ℕ} {i : ℕ} {z : Bool} {v d : ℕ} {l : List ℕ} {writes : ℕ} {file : List ℕ} {h : ℕ → Bool}
     → Is p′ c′ i z v d l → Versions z v d l writes file h → Versions (p′ .stale i) (p′ .version i) (p′ .desired i) (c′ i) writes file h
 versions-of q r = rw (q .stale, q .version, q .desired, q .contents) r
 
-aim-of : {p′ : Poll} {c′ : ℕ → List ℕ} {i : ℕ} {z : Bool} {v d : ℕ} {l : List ℕ} → Is p′ c′ i z v d l → aim p′ i ≡ cond z d v
+pub aim-of : {p′ : Poll} {c′ : ℕ → List ℕ} {i : ℕ} {z : Bool} {v d : ℕ} {l : List ℕ} → Is p′ c′ i z v d l → aim p′ i ≡ cond z d v
 unfolding aim
 aim-of q = rw (q .stale, q .version, q .desired)
 
@@ -46,7 +47,8 @@ epochs-of : {n : ℕ} {order : List ℕ} {f f′ : ℕ → ℕ} {g g′ : ℕ �
     → ((i : ℕ) → Within n i → f′ i ≡ f i) → ((i : ℕ) → Within n i → g′ i ≡ g i) → Epochs n order f g force own e → Epochs n order f′ g′ force own e
 epochs-of {n} {order} {f} {f′} {g} {g′} {force} {own} {e} q m E = record {
   below = λ i u. rw (q i u) (E .below i u);
-  inside = λ i u. rw (q i u) (E .inside i u);
+  inside = λ i u. rw (q i u, m i u) (E .inside i u);
+  bare = λ i u. rw (q i u, m i u) (E .bare i u);
   forced = λ i u. rw (q i u, m i u) (E .forced i u);
   owned = λ i u. rw (m i u) (E .owned i u);
   bound = E .bound;
@@ -135,7 +137,7 @@ module _ (n : ℕ) (p : Poll) (c : ℕ → List ℕ) (b : Book) (e : ℕ) (few :
         go i m false g = aim-of (w .marked i (ins i m) m g) ∙ ap (λ (x : ℕ). x + 1) now
 
     pub keep-write : Inv n p′ c′ (written b s offset patch) e
-    unfolding written order
+    unfolding written order nameIn
     keep-write = record { epochs = epochs-of (w .epoch) (w .list) (I .epochs); versions = wrote-versions; live = wrote-live }
 
   -- ---- the rows after a send from f to t
@@ -183,7 +185,7 @@ module _ (n : ℕ) (p : Poll) (c : ℕ → List ℕ) (b : Book) (e : ℕ) (few :
         go i u a false q = aim-of (w .out i u q) ∙ a
 
     pub keep-send : Inv n p′ c′ (passedOn b f t) e
-    unfolding passedOn order
+    unfolding passedOn order nameIn
     keep-send = record { epochs = epochs-of (w .epoch) (w .list) (I .epochs); versions = sent-versions; live = sent-live }
 
   -- ---- the rows after a check over r that makes epoch x
@@ -204,12 +206,13 @@ module _ (n : ℕ) (p : Poll) (c : ℕ → List ℕ) (b : Book) (e : ℕ) (few :
 
     -- that changes nothing
     pub keep-list : r ≡ b .inForce .members → Inv n p c (agreed b r) e
-    unfolding agreed order
+    unfolding agreed order nameIn
     keep-list z = record {
       epochs = record {
         below = I .epochs .below;
         inside = rw same (I .epochs .inside);
         forced = rw same (I .epochs .forced);
+        bare = I .epochs .bare;
         owned = λ i u. go i u (has r i) refl;
         bound = rw same (I .epochs .bound);
         dead = I .epochs .dead;
@@ -222,7 +225,7 @@ module _ (n : ℕ) (p : Poll) (c : ℕ → List ℕ) (b : Book) (e : ℕ) (few :
         same = ap laidNow z ∙ laid-again (b .inForce)
 
         go : (i : ℕ) → Within n i → (x : Bool) → has r i ≡ x → cond x (laidNow r) (b .own i) ≡ p .list i
-        go i u true m = same ∙ sym (I .epochs .forced i u (I .epochs .inside i u (rw (← z) m)))
+        go i u true m = same ∙ sym (I .epochs .inside i u (rw (← z) m) .1)
         go i u false m = I .epochs .owned i u
 
     -- that makes a new epoch
@@ -237,8 +240,9 @@ module _ (n : ℕ) (p : Poll) (c : ℕ → List ℕ) (b : Book) (e : ℕ) (few :
       unfolding holdsQuorum laidNow
       new-epochs = record {
         below = λ i u. below i u (has r i);
-        inside = λ i u m. rw m;
+        inside = λ i u m. rw m (refl, refl);
         forced = λ i u. forced i u (has r i);
+        bare = λ i u. bare i u (has r i) refl;
         owned = λ i u. ap (λ (x : Laid). cond (has r i) (laidNow r) x) (I .epochs .owned i u);
         bound = us;
         dead = λ i u. dead i u (has r i);
@@ -248,9 +252,13 @@ module _ (n : ℕ) (p : Poll) (c : ℕ → List ℕ) (b : Book) (e : ℕ) (few :
           below i u true = omega arith
           below i u false = omega (arith, I .epochs .below i u)
 
-          forced : (i : ℕ) → Within n i → (x : Bool) → cond x (suc e) (p .epoch i) ≡ suc e → cond x (laidNow r) (p .list i) ≡ laidNow r
-          forced i u true h = refl
-          forced i u false h = absurd (omega (arith, I .epochs .below i u))
+          forced : (i : ℕ) → Within n i → (x : Bool) → isEmpty (cond x (laidNow r) (p .list i)) ≡ false → cond x (suc e) (p .epoch i) ≡ suc e → cond x (laidNow r) (p .list i) ≡ laidNow r
+          forced i u true l h = refl
+          forced i u false l h = absurd (omega (arith, I .epochs .below i u))
+
+          bare : (i : ℕ) → Within n i → (x : Bool) → has r i ≡ x → isEmpty (cond x (laidNow r) (p .list i)) ≡ true → cond x (suc e) (p .epoch i) ≡ 0
+          bare i u true m l = absurd (clash (sym (has-list (laidNow r) i m) ∙ l))
+          bare i u false m l = I .epochs .bare i u l
 
           under : (i j : ℕ) (x : Bool) → p .epoch i ≤ e → cond x (suc e) (p .epoch j) ≤ p .epoch i → p .epoch j ≤ p .epoch i
           under i j true l h = absurd (omega arith)
@@ -264,7 +272,8 @@ module _ (n : ℕ) (p : Poll) (c : ℕ → List ℕ) (b : Book) (e : ℕ) (few :
             where
               go : Dec (p .epoch i ≡ e) → ⊥
               go (yes z) =
-                  let m = shared (order b) (b .inForce) s (has r) (rw (I .epochs .forced i u z) at h) q in
+                  let w = inhabited (order b) (p .list i) Read s h in
+                  let m = shared (order b) (b .inForce) s (has r) (rw (I .epochs .forced i u (has-list (p .list i) (w .0) (w .1)) z) at h) q in
                   let g : suc e ≤ p .epoch i = rw (m .3) at (f (m .0) (ins (m .0) (m .3)) (m .2)) in
                   omega arith
               go (no d) = I .epochs .dead i u (omega (arith, I .epochs .below i u)) s (λ j v m. under i j (has r j) (I .epochs .below i u) (f j v m)) h
@@ -298,7 +307,7 @@ module _ (n : ℕ) (p : Poll) (c : ℕ → List ℕ) (b : Book) (e : ℕ) (few :
           go i m false g = aim-of (w .marked i (ins i m) m g) ∙ new
 
       pub keep-check : Inv n p′ c′ (agreed b r) (suc e)
-      unfolding agreed order
+      unfolding agreed order nameIn
       keep-check = record {
         epochs = epochs-of (λ i u. w .epoch i u ∙ ap (λ (x : ℕ). cond (has r i) x (p .epoch i)) next) (w .list) new-epochs;
         versions = new-versions;

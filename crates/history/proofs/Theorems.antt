@@ -15,9 +15,9 @@ use Rattle.table.specs.WellFormed.{limit, onlyRows, wellFormed}
 use Rattle.table.proofs.FormLaws.{well-formed-of}
 use Rattle.protocol.specs.Polls.{highestEpoch, inForce, current, quorumHeld}
 use Rattle.asking.specs.Asking.{firstNo, before}
-use Rattle.protocol.specs.Calls.{Founding, Checking, Call, founding, read, write, send, check, isUsed, byCoordinator, questions, done, outcome, answers}
+use Rattle.protocol.specs.Calls.{Founding, Checking, Call, founding, join, read, write, send, check, isUsed, byCoordinator, questions, done, outcome, answers}
 use Rattle.asking.proofs.AskingLaws.{yes-first}
-use Rattle.protocol.proofs.QuestionLaws.{ByCoordinator, passed-first, refusal-is, when-done, when-refused, write-yes, send-yes, CheckYes, check-yes}
+use Rattle.protocol.proofs.QuestionLaws.{ByCoordinator, passed-first, refusal-is, when-done, when-refused, join-yes, write-yes, send-yes, CheckYes, check-yes}
 use Rattle.protocol.proofs.FoundedLaws.{founds-of}
 use Rattle.protocol.proofs.DoneLaws.{writeTable, sendTable, checkTable}
 use Rattle.history.specs.Book.{Book, opened, holdsQuorum, someHasAll, entered, agreed}
@@ -25,7 +25,7 @@ use Rattle.history.specs.Demand3.{verdict, RefusedRight, Right, AllRight
 use Rattle.history.specs.Claims.{tableAfter, bookAfter, Reached, after, AlwaysWellFormed, ChecksByBook, Asks, aRead, aWrite, BelowTheLimit, AtTheLimit}
 use Rattle.history.proofs.State.{State, six-check, seven-check}
 use Rattle.history.proofs.Answers.{read-refused, write-full, right}
-use Rattle.history.proofs.Next.{next-write, next-send, next-same, next-check}
+use Rattle.history.proofs.Next.{next-join, next-write, next-send, next-same, next-check}
 use Rattle.history.proofs.Founded.{founded-state}
 
 -- ---- one call
@@ -34,6 +34,7 @@ module _ (t : List ℕ) (b : Book) (e : ℕ) (S : State t b e) where
   next-done : (k : Call) → firstNo (questions t k) ≡ 0 → (e′ : ℕ) × State (done t k .table) (entered b k true) e′
   unfolding done entered writeTable sendTable checkTable
   next-done (founding a) h = (0, founded-state a (founds-of t a h))
+  next-done (join a) h = (e, next-join t b e S a (join-yes t a h))
   next-done (read a) h = (e, S)
   next-done (write a) h = (e, next-write t b e S a (write-yes t a h))
   next-done (send a) h = (e, next-send t b e S a (send-yes t a h))

@@ -1,20 +1,22 @@
 -- "The plain book": fed each call's arguments and whether it was done. Nothing comes from the table.
-use mathlib.Core.Bool.{Bool, true, false, cond, _&&_, _||_}
-use mathlib.Core.List.{List}
-use Prim.Native.Nat.{ℕ, _+_, _-_, _^_}
+use mathlib.Core.Bool.{Bool, true, false, not, cond, _&&_, _||_}
+use mathlib.Core.List.{List, [], _∷_, _++_}
+use Prim.Native.Nat.{ℕ, suc, _+_, _-_, _^_}
 use lib.Dec.{eqb}
 use lib.ListN.{length, getD}
-use Rattle.sets.specs.Upto.{every, some, upward}
+use Rattle.sets.specs.Upto.{every, some}
 use Rattle.sets.specs.Sets.{has, cutTo}
 use Rattle.quorums.specs.declared.Kind.{Kind}
 use Rattle.quorums.specs.declared.Kind.the-variants.{Write}
-use Rattle.bytes.specs.Bytes.{put}
+use Rattle.bytes.specs.Bytes.{put, zeros}
 use Rattle.fields.specs.declared.Laid.{Laid}
+use Rattle.fields.specs.Layout.{noList}
+use Rattle.linking.specs.Linking.{byName}
 use Rattle.protocol.specs.Lists.{laidNow, listQuorum, listChoice}
-use Rattle.protocol.specs.Calls.{Founding, Call, founding, read, write, send, check, namesIn, zeros}
+use Rattle.protocol.specs.Calls.{Founding, Call, founding, join, read, write, send, check, namesIn}
 
 pub record Book : Type 0 where
-  -- the names of rows 1 upward, from the founding's arguments
+  -- the names of rows 1 upward, from the arguments of the founding and of joinings
   pub names : List ℕ
   -- "a file of L zero bytes", and how many writes were done
   pub file : List ℕ
@@ -25,12 +27,12 @@ pub record Book : Type 0 where
   -- row i has done write k, the first being write 1
   pub hasWrite : ℕ → ℕ → Bool
 
--- the rows in the order of their names: names rise, so it is that of their indexes
-unfoldable pub order : Book → List ℕ
-order b = upward (length (b .names)) 1
-
 unfoldable pub nameIn : Book → ℕ → ℕ
 nameIn b i = getD (b .names) (i - 1) 0
+
+-- the rows in the order of their names
+unfoldable pub order : Book → List ℕ
+order b = byName (nameIn b) (length (b .names))
 
 -- "A done founding opens it with a file of L zero bytes and no writes. The list in force, and each row's own list, is all used rows."
 unfoldable pub opened : Founding → Book
@@ -97,10 +99,24 @@ agreed b r = record {
   hasWrite = b .hasWrite;
 }
 
+-- "the book gives the new row an empty own list"; it has no write
+unfoldable pub admitted : Book → ℕ → Book
+admitted b x =
+    let new = suc (length (b .names)) in
+    record {
+      names = b .names ++ (x ∷ []);
+      file = b .file;
+      writes = b .writes;
+      inForce = b .inForce;
+      own = λ i. cond (eqb i new) noList (b .own i);
+      hasWrite = λ i k. b .hasWrite i k && not (eqb i new);
+    }
+
 -- the book after a call, and whether that was done; "A read, or any refused call: nothing."
 unfoldable pub entered : Book → Call → Bool → Book
 entered b k false = b
 entered b (founding a) true = opened a
+entered b (join a) true = admitted b (a .name)
 entered b (read a) true = b
 entered b (write a) true = written b (writeSet b (a .c) (a .r)) (a .offset) (a .patch)
 entered b (send a) true = passedOn b (a .f) (a .t)

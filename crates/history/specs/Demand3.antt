@@ -9,7 +9,7 @@ use Rattle.quorums.specs.declared.Kind.{Kind}
 use Rattle.quorums.specs.declared.Kind.the-variants.{Read, Write}
 use Rattle.bytes.specs.Bytes.{part}
 use Rattle.asking.specs.Asking.{firstNo, before}
-use Rattle.protocol.specs.Calls.{Founding, Reading, Call, founding, read, write, send, check, Outcome, questions, outcome}
+use Rattle.protocol.specs.Calls.{Founding, Reading, Call, founding, join, read, write, send, check, Outcome, questions, outcome}
 use Rattle.history.specs.Book.{Book, opened, holdsQuorum, someHasAll, entered}
 
 -- "The refusals in demand 3 are by 6 where the quorum is wanting, and by 7 where it is held and no row of R has every done write."
@@ -30,6 +30,7 @@ unfoldable pub Right : List ℕ → Book → Call → Outcome → Type 0
 Right t b (read a) o = (o .refusal ≡ 0 → ReadGives b a o) × RefusedRight t b (read a) Read (a .r) o
 Right t b (write a) o = RefusedRight t b (write a) Write (a .r) o
 Right t b (founding a) o = Unit {0}
+Right t b (join a) o = Unit {0}
 Right t b (send a) o = Unit {0}
 Right t b (check a) o = Unit {0}
 
@@ -40,7 +41,7 @@ AllRight t b (k ∷ ks) =
     let o = outcome t k in
     Right t b k o × AllRight (o .table) (entered b k (eqb (o .refusal) 0)) ks
 
--- Further foundings may stand in the list: a done one opens the book anew.
+-- "Demand 3's list of calls may contain joinings." Further foundings may stand in it too: a done one opens the book anew.
 unfoldable pub Demand3 : Type 0
 Demand3 = (t : List ℕ) (a : Founding) (ks : List Call)
     → let o = outcome t (founding a) in

@@ -8,28 +8,18 @@ use native.Mathlib.Numerals.{add-one}
 use native.Mathlib.Omega.{arith}
 use lib.Dec.{eqb}
 use lib.Pow.{pow-mono, ones-lt}
-use lib.ListN.{length, getD, take, drop, length-append, replicate-append-replicate}
+use lib.ListN.{length, getD, take, drop, length-append}
 use lib.Seq.{take-at, drop-at, take-all, take-suc, length-take-le}
 use Rattle.sets.specs.Sets.{has, firstRows}
 use Rattle.sets.proofs.SetLaws.{has-first, same-members}
-use Rattle.bytes.specs.Bytes.{bytesOf, put}
+use Rattle.bytes.specs.Bytes.{bytesOf, put, zeros}
 use Rattle.fields.specs.Layout.{store, form, formValue, bodyLength, stride, capacity, used, first, fileLength, name, link, members, storeList}
-use Rattle.bytes.proofs.ByteLaws.{length-put}
+use Rattle.bytes.proofs.ByteLaws.{length-put, length-zeros, split-zeros, bytes-zero}
 use Rattle.bytes.proofs.CodeLaws.{part-length, part-back}
 use Rattle.fields.specs.declared.Laid.{Laid}
 use Rattle.protocol.specs.Lists.{laidNow}
-use Rattle.protocol.specs.Calls.{zeros, foundedHeader, foundedRow, foundedRows, founded}
-use Rattle.protocol.proofs.FoundedLaws.{length-zeros, length-header, length-rows}
-
--- ---- zeros
-pub bytes-zero : (k : ℕ) → bytesOf k 0 ≡ zeros k
-unfolding bytesOf zeros
-bytes-zero zero = refl
-bytes-zero (suc k) = ap (λ (l : List ℕ). 0 ∷ l) (bytes-zero k)
-
-split-zeros : (a b : ℕ) → zeros (a + b) ≡ zeros a ++ zeros b
-unfolding zeros
-split-zeros a b = sym (replicate-append-replicate a b 0)
+use Rattle.protocol.specs.Calls.{foundedHeader, foundedRow, foundedRows, founded}
+use Rattle.protocol.proofs.FoundedLaws.{length-header, length-rows}
 
 -- ---- the header and a row, stored into zeros
 header-computed : (c n file : ℕ) (l : List ℕ) → c % 256 ≡ c → n % 256 ≡ n

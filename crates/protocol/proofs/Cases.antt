@@ -5,10 +5,10 @@ use Prim.Native.Nat.{ℕ, _+_, _-_, _*_}
 use lib.Dec.{eqb}
 use lib.ListN.{take, replicate}
 use Rattle.sets.specs.Upto.{upward}
-use Rattle.bytes.specs.Bytes.{bytesOf, put}
+use Rattle.bytes.specs.Bytes.{bytesOf, put, zeros}
 use Rattle.fields.specs.Layout.{Field, get, mark, version, desired, epoch, members, rowBytes, contentsOf}
-use Rattle.protocol.specs.Calls.{Call, outcome, zeros}
-use Rattle.protocol.proofs.Histories.{fo, rd, wr, ck, Made, same, stepsHold}
+use Rattle.protocol.specs.Calls.{Call, outcome}
+use Rattle.protocol.proofs.Histories.{fo, jn, rd, wr, ck, Made, same, stepsHold}
 
 -- on these bytes a call has this refusal, value and buffer
 pub data Case : Type 0 where
@@ -50,6 +50,14 @@ single capacity fileLength =
 -- pair with a third row, at an epoch; its list is itself
 unfoldable pub third : ℕ → List ℕ
 third e = set 2 1 3 (set (row2 + 2) 1 3 (set row3 2 30 (set (row3 + 12) 4 e (set (row3 + 16) 8 4 pair))))
+
+-- pair with row 2's list empty, at an epoch
+unfoldable pub unlisted : ℕ → List ℕ
+unlisted e = set (row2 + 12) 4 e (set (row2 + 16) 8 0 pair)
+
+-- both lists empty
+unfoldable pub nobody : List ℕ
+nobody = set (row1 + 16) 8 0 (unlisted 0)
 
 -- ---- calls
 -- a check by row 0: refused by 1, or by 2 where question 1 is passed
@@ -132,6 +140,11 @@ cases =
     ∷ malformed (set (row2 + 16) 8 1 pair)
     ∷ formed (set (row2 + 16) 8 2 pair)
     ∷ malformed (set (row1 + 12) 4 0 pair)
+    -- an empty list: the own row need not be in it, nor need it be that of its epoch, whichever row comes first; all lists empty
+    ∷ formed (unlisted 0)
+    ∷ formed (unlisted 1)
+    ∷ formed (set (row1 + 12) 4 0 (set (row1 + 16) 8 0 pair))
+    ∷ formed nobody
     -- zeros of a row; its contents; an unused row
     ∷ malformed (set (row1 + 24) 1 1 pair)
     ∷ malformed (set (row2 + 31) 1 1 pair)
@@ -140,6 +153,26 @@ cases =
     ∷ malformed (set (row3 + 32) 1 1 pair)
     -- ---- a read copies from the good row of lowest index
     ∷ On (set (row2 + 32) 1 6 pair) (rd 2 3 0 1 (9 ∷ [])) 0 0 (5 ∷ [])
+    -- ---- a row with an empty list is passed over, whatever its epoch; with such rows alone question 6 is no
+    ∷ On (unlisted 900_000) (ck 1 3) 0 2 []
+    ∷ On (unlisted 900_000) (ck 1 1) 0 1 []
+    ∷ On (unlisted 1) (rd 2 3 0 1 (9 ∷ [])) 0 0 (5 ∷ [])
+    ∷ On (unlisted 900_000) (rd 2 2 0 1 (9 ∷ [])) 6 0 (9 ∷ [])
+    ∷ On nobody (rd 1 3 0 1 (9 ∷ [])) 6 0 (9 ∷ [])
+    ∷ On nobody (wr 1 3 0 (7 ∷ [])) 6 0 []
+    ∷ On nobody (ck 1 3) 6 0 []
+    -- ---- joining: 1, then 13 (name 0, above 65,535, in use), then 14
+    ∷ On pair (jn 15) 0 3 []
+    ∷ On pair (jn 1) 0 3 []
+    ∷ On pair (jn 65_535) 0 3 []
+    ∷ On pair (jn 0) 13 0 []
+    ∷ On pair (jn 65_536) 13 0 []
+    ∷ On pair (jn 20) 13 0 []
+    ∷ On (set 0 1 0 pair) (jn 0) 1 0 []
+    ∷ On (set 1 1 2 (take 82 pair)) (jn 10) 13 0 []
+    ∷ On (set 1 1 2 (take 82 pair)) (jn 15) 14 0 []
+    ∷ formed (outcome pair (jn 15) .table)
+    ∷ formed (outcome nobody (jn 1) .table)
     -- ---- question 8, of a write and of a check that changes the list; one that does not is done
     ∷ On (set (row1 + 4) 4 999_999 pair) (wr 1 1 0 (7 ∷ [])) 0 1_000_000 []
     ∷ On (set (row1 + 4) 4 1_000_000 pair) (wr 1 1 0 (7 ∷ [])) 8 0 []

@@ -13,14 +13,16 @@ use Rattle.bytes.specs.Bytes.{part}
 use Rattle.fields.specs.Layout.{usedOf, nameOf, versionOf, rowsEnd}
 use Rattle.table.specs.Chain.{orderOf}
 use Rattle.table.specs.WellFormed.{limit, wellFormed}
-use Rattle.table.proofs.FormLaws.{formed, well-formed-of}
+use Rattle.table.proofs.FormLaws.{formed, well-formed-of, header-facts}
 use Rattle.protocol.specs.Polls.{highestEpoch, inForce}
 use Rattle.protocol.specs.Calls
 use Rattle.asking.specs.Asking.{firstNo}
-use Rattle.protocol.specs.Calls.{Checking, Call, founding, read, write, send, check, questions, done, outcome, answers, workSet}
+use Rattle.protocol.specs.Calls.{Checking, Call, founding, join, read, write, send, check, questions, done, outcome, answers, workSet}
 use Rattle.protocol.specs.Claims
+use Rattle.joining.proofs.FrameLaws.{joined-alters}
+use Rattle.joining.proofs.RowLaws.{more-formed}
 use Rattle.protocol.proofs.PollLaws.{worked-in}
-use Rattle.protocol.proofs.QuestionLaws.{result-refusal, result-value, refusal-is, when-done, when-refused, read-yes, write-yes, send-yes, CheckYes, check-yes}
+use Rattle.protocol.proofs.QuestionLaws.{result-refusal, result-value, refusal-is, when-done, when-refused, join-yes, read-yes, write-yes, send-yes, CheckYes, check-yes}
 use Rattle.protocol.proofs.DoneLaws.{version-small, epoch-small, Leaves, writeTable, write-leaves, sendTable, send-leaves, checkTable, check-leaves}
 use Rattle.protocol.proofs.KeepLaws.{write-formed, send-formed}
 use Rattle.protocol.proofs.FoundedLaws.{founds-of, founded-formed}
@@ -29,6 +31,7 @@ use Rattle.protocol.proofs.FoundedLaws.{founds-of, founded-formed}
 pub put-in-order : Claims.PutInOrder
 unfolding Claims.PutInOrder Claims.numbersPut questions Calls.byCoordinator
 put-in-order t (founding a) = refl
+put-in-order t (join a) = refl
 put-in-order t (read a) = refl
 put-in-order t (write a) = refl
 put-in-order t (send a) = refl
@@ -38,6 +41,7 @@ put-in-order t (check a) = refl
 small-done : (t : List ℕ) (k : Call) → firstNo (questions t k) ≡ 0 → done t k .value ≤ limit
 unfolding done limit workSet versionOf
 small-done t (founding a) h = let f = founds-of t a h in omega (arith, f .room, f .most)
+small-done t (join a) h = let y = join-yes t a h in omega (arith, y .room, header-facts t (formed t (y .formed) .header) .capacity)
 small-done t (read a) h =
     version-small t (a .c) (a .r) (read-yes t a h .first) (workSet Read t (a .c) (a .r)) (worked-in Read (orderOf t) (answers t (a .r)) (a .c) (nameOf t (a .c)) (has (a .r)))
 small-done t (write a) h = omega (arith, write-yes t a h .room)
@@ -106,6 +110,7 @@ formed-done : (t : List ℕ) (k : Call) → Claims.NoCheck k → wellFormed t �
 unfolding done writeTable sendTable
 formed-done t (founding a) Claims.aFounding w h =
     well-formed-of _ (founded-formed a (founds-of t a h))
+formed-done t (join a) Claims.aJoin w h = let y = join-yes t a h in well-formed-of _ (more-formed t _ (a .name) w (y .room) (joined-alters t w (a .name) (y .room)) (y .named) (y .free))
 formed-done t (read a) Claims.aRead w h = w
 formed-done t (write a) Claims.aWrite w h = well-formed-of _ (write-formed t a (write-yes t a h))
 formed-done t (send a) Claims.aSend w h = well-formed-of _ (send-formed t a (send-yes t a h))

@@ -13,17 +13,17 @@ use Rattle.sets.specs.Upto.{Within}
 use Rattle.sets.specs.Sets.{has}
 use Rattle.quorums.specs.declared.Kind.the-variants.{Write}
 use Rattle.bytes.specs.Bytes.{put}
-use Rattle.fields.specs.Layout.{get, name, link, contents, rowLength, rowBytes, usedOf, nameOf, epochOf, versionOf, contentsOf}
+use Rattle.fields.specs.Layout.{get, name, link, contents, rowLength, rowBytes, usedOf, nameOf, epochOf, versionOf, contentsOf, withRow, withRows}
 use Rattle.table.specs.Chain.{orderOf}
 use Rattle.table.specs.WellFormed.{limit}
 use Rattle.fields.proofs.FieldLaws.{contents-room}
 use Rattle.table.proofs.FormLaws.{RowFacts, Formed, formed, header-facts, rows-room}
 use Rattle.protocol.specs.Polls.{Poll, polled, highestEpoch, goodVersion, good}
 use Rattle.protocol.specs.Lists.{laidNow}
-use Rattle.protocol.specs.Rows.{refreshedRow, withRow, withRows, wroteRow, checkedRow}
+use Rattle.protocol.specs.Rows.{refreshedRow, wroteRow, checkedRow}
 use Rattle.protocol.specs.Calls.{Writing, Sending, Checking, answers, workSet}
 use Rattle.protocol.proofs.RowLaws.{fieldAt, Becomes, fieldsOf, changed, relisted, unchanged, marked-row, patched-row, then-enrolled, refreshed-row}
-use Rattle.protocol.proofs.TableLaws.{row-long, Changed, one-row, many-rows}
+use Rattle.table.proofs.TableLaws.{row-long, Changed, one-row, many-rows}
 use Rattle.protocol.proofs.PollLaws.{worked-in, version-under, epoch-under}
 use Rattle.protocol.proofs.FrameLaws.{Frame, frame-of}
 use Rattle.protocol.proofs.QuestionLaws.{ByCoordinator, answered-used, WriteYes, SendYes, CheckYes}

@@ -9,19 +9,19 @@ use native.Mathlib.Decide.{ℕ-discrete}
 use native.Mathlib.Omega.{arith}
 use lib.Dec.{eqb, leb, ltb}
 use lib.Pow.{pow-mono, ones-lt}
-use lib.ListN.{length, getD, take, drop, length-append, length-replicate}
+use lib.ListN.{length, getD, take, drop, length-append}
 use lib.Seq.{take-at, drop-at, drop-drop}
 use borrow.Author.Tests.{eq-eqb, ne-eqb, ltb-true, leb-true}
 use Rattle.sets.specs.Upto.{Within, upward}
 use Rattle.bools.proofs.BoolLaws.{and-l, and-r, and-i, or-l, or-r, clash}
 use Rattle.sets.proofs.UptoLaws.{every-of}
 use Rattle.sets.proofs.SetLaws.{has-all}
-use Rattle.bytes.specs.Bytes.{number, bytesOf, part, allZero}
+use Rattle.bytes.specs.Bytes.{number, bytesOf, part, zeros, allZero}
 use Rattle.blocks.specs.Blocks.{block}
 use Rattle.fields.specs.Layout.{get, form, formValue, capacity, used, first, fileLength, name, link, mark, version, desired, epoch, members, list, reserved, contents, bodyLength, stride, rowLength, rowsEnd, rowBytes, capacityOf, usedOf, firstOf, fileLengthOf, nameOf, linkOf}
 use Rattle.table.specs.Chain.{chain, orderOf, among, risesFrom}
 use Rattle.table.specs.WellFormed.{between, limit, headerValues, lengthRight, visitsEach, namesRise, unusedZero}
-use Rattle.bytes.proofs.ByteLaws.{length-bytes, number-bytes}
+use Rattle.bytes.proofs.ByteLaws.{length-bytes, number-bytes, length-zeros, zeros-zero, first-zeros}
 use Rattle.fields.proofs.FieldLaws.{body-room, contents-part, list-is}
 use Rattle.table.proofs.FormLaws.{between-is, is-between, RowFacts, Formed}
 use Rattle.protocol.specs.Lists.{laidNow}
@@ -54,23 +54,8 @@ founds-of t a h =
     }
 
 -- ---- the pieces
-pub length-zeros : (n : ℕ) → length (Calls.zeros n) ≡ n
-unfolding Calls.zeros
-length-zeros n = length-replicate {A = ℕ} n 0
-
-pub zeros-zero : (n : ℕ) → allZero (Calls.zeros n) ≡ true
-unfolding allZero Calls.zeros
-zeros-zero zero = refl
-zeros-zero (suc n) = zeros-zero n
-
-first-zeros : (m n : ℕ) → m ≤ n → take m (Calls.zeros n) ≡ Calls.zeros m
-unfolding Calls.zeros
-first-zeros zero n h = refl
-first-zeros (suc m) zero h = absurd (not-suc-le-zero h)
-first-zeros (suc m) (suc n) h = ap (λ (l : List ℕ). 0 ∷ l) (first-zeros m n (le-of-suc-le-suc h))
-
 pub length-header : (c n file : ℕ) → length (Calls.foundedHeader c n file) ≡ 16
-unfolding Calls.foundedHeader Calls.zeros bytesOf
+unfolding Calls.foundedHeader zeros bytesOf
 length-header c n file = refl
 
 length-row : (n body i x : ℕ) → length (Calls.foundedRow n body i x) ≡ 32 + body
@@ -123,7 +108,7 @@ module _ (a : Calls.Founding) (f : Founds a) where
   t = Calls.founded c file names
 
   tail : List ℕ
-  tail = Calls.zeros ((c - length names) * stride file)
+  tail = zeros ((c - length names) * stride file)
 
   rows : List ℕ
   rows = Calls.foundedRows (length names) body 1 names
@@ -134,27 +119,27 @@ module _ (a : Calls.Founding) (f : Founds a) where
 
   -- ---- the header
   pub founded-capacity : capacityOf (Calls.founded c file names) ≡ c
-  unfolding Calls.founded Calls.foundedHeader capacityOf get capacity part number bytesOf Calls.zeros
+  unfolding Calls.founded Calls.foundedHeader capacityOf get capacity part number bytesOf zeros
   founded-capacity = omega arith
 
   pub founded-used : usedOf (Calls.founded c file names) ≡ length names
-  unfolding Calls.founded Calls.foundedHeader usedOf get used part number bytesOf Calls.zeros
+  unfolding Calls.founded Calls.foundedHeader usedOf get used part number bytesOf zeros
   founded-used = omega arith
 
   pub founded-first : firstOf (Calls.founded c file names) ≡ 1
-  unfolding Calls.founded Calls.foundedHeader firstOf get first part number bytesOf Calls.zeros
+  unfolding Calls.founded Calls.foundedHeader firstOf get first part number bytesOf zeros
   founded-first = refl
 
   pub founded-file : fileLengthOf (Calls.founded c file names) ≡ file
-  unfolding Calls.founded Calls.foundedHeader fileLengthOf get fileLength part Calls.zeros bytesOf
+  unfolding Calls.founded Calls.foundedHeader fileLengthOf get fileLength part zeros bytesOf
   founded-file = number-bytes 2 file (omega (arith, f .bytes))
 
   header-form : get form (Calls.founded c file names) ≡ formValue
-  unfolding Calls.founded Calls.foundedHeader get form formValue part number bytesOf Calls.zeros
+  unfolding Calls.founded Calls.foundedHeader get form formValue part number bytesOf zeros
   header-form = refl
 
   header-rest : allZero (part 6 10 (Calls.founded c file names)) ≡ true
-  unfolding Calls.founded Calls.foundedHeader part allZero bytesOf Calls.zeros
+  unfolding Calls.founded Calls.foundedHeader part allZero bytesOf zeros
   header-rest = refl
 
   founded-bytes : length (Calls.founded c file names) ≡ 16 + c * stride file
@@ -178,7 +163,7 @@ module _ (a : Calls.Founding) (f : Founds a) where
   founded-row k h =
       ap (λ (m : ℕ). take m (drop (16 + k * m) (Calls.founded c file names))) founded-length
       ∙ ap (take (stride file)) (sym (drop-drop (k * stride file) 16 (Calls.founded c file names)) ∙ ap (drop (k * stride file)) after-header)
-      ∙ rows-at (length names) body names 1 k (Calls.zeros ((c - length names) * stride file)) h
+      ∙ rows-at (length names) body names 1 k (zeros ((c - length names) * stride file)) h
       ∙ ap (λ (j : ℕ). Calls.foundedRow (length names) body j (getD names k 0)) (one-add k)
 
   -- each name is one of 1 to 65,535
@@ -203,15 +188,15 @@ module _ (a : Calls.Founding) (f : Founds a) where
     row = Calls.foundedRow (length names) body i x
 
     row-name : get name (Calls.foundedRow (length names) body i x) ≡ x
-    unfolding Calls.foundedRow get name part Calls.zeros bytesOf
+    unfolding Calls.foundedRow get name part zeros bytesOf
     row-name = number-bytes 2 x (omega arith)
 
     row-link : get link (Calls.foundedRow (length names) body i x) ≡ cond (eqb i (length names)) 0 (i + 1)
-    unfolding Calls.foundedRow get link part number Calls.zeros bytesOf
+    unfolding Calls.foundedRow get link part number zeros bytesOf
     row-link = omega arith
 
     row-members : get members (Calls.foundedRow (length names) body i x) ≡ 2 ^ length names - 1
-    unfolding Calls.foundedRow laidNow get members part Calls.zeros bytesOf
+    unfolding Calls.foundedRow laidNow get members part zeros bytesOf
     row-members = number-bytes 8 (2 ^ length names - 1) list-fits
 
     pub row-list : list (Calls.foundedRow (length names) body i x) ≡ laidNow (2 ^ length names - 1)
@@ -219,27 +204,27 @@ module _ (a : Calls.Founding) (f : Founds a) where
     row-list = list-is _ _ row-members
 
     pub zero-mark : get mark (Calls.foundedRow (length names) body i x) ≡ 0
-    unfolding Calls.foundedRow get mark part number Calls.zeros bytesOf
+    unfolding Calls.foundedRow get mark part number zeros bytesOf
     zero-mark = refl
 
     pub zero-version : get version (Calls.foundedRow (length names) body i x) ≡ 0
-    unfolding Calls.foundedRow get version part number Calls.zeros bytesOf
+    unfolding Calls.foundedRow get version part number zeros bytesOf
     zero-version = refl
 
     pub zero-desired : get desired (Calls.foundedRow (length names) body i x) ≡ 0
-    unfolding Calls.foundedRow get desired part number Calls.zeros bytesOf
+    unfolding Calls.foundedRow get desired part number zeros bytesOf
     zero-desired = refl
 
     pub zero-epoch : get epoch (Calls.foundedRow (length names) body i x) ≡ 0
-    unfolding Calls.foundedRow get epoch part number Calls.zeros bytesOf
+    unfolding Calls.foundedRow get epoch part number zeros bytesOf
     zero-epoch = refl
 
     spare-zero : allZero (reserved (Calls.foundedRow (length names) body i x)) ≡ true
-    unfolding Calls.foundedRow reserved part allZero Calls.zeros bytesOf
+    unfolding Calls.foundedRow reserved part allZero zeros bytesOf
     spare-zero = refl
 
-    pub row-contents : contents (Calls.foundedRow (length names) body i x) ≡ Calls.zeros file
-    unfolding Calls.foundedRow part Calls.zeros bytesOf stride
+    pub row-contents : contents (Calls.foundedRow (length names) body i x) ≡ zeros file
+    unfolding Calls.foundedRow part zeros bytesOf stride
     row-contents = contents-part (Calls.foundedRow (length names) body i x) file (length-row (length names) body i x) ∙ first-zeros file body (body-room file)
 
     row-facts : RowFacts (length names) i (Calls.foundedRow (length names) body i x)
@@ -255,7 +240,7 @@ module _ (a : Calls.Founding) (f : Founds a) where
       behind = λ e. absurd (clash (rw zero-mark at e));
       level = λ e. zero-desired;
       only = rw row-members (ones-lt (length names));
-      own = rw row-members (has-all (length names) i w);
+      own = λ e. rw row-members (has-all (length names) i w);
     }
       where
         go : Dec (i ≡ length names) → cond (eqb i (length names)) 0 (i + 1) ≤ length names
@@ -370,7 +355,7 @@ module _ (a : Calls.Founding) (f : Founds a) where
       founded-rest : allZero (part 6 10 (Calls.founded c file names)) ≡ true
       founded-rest = header-rest
 
-  founded-tail : drop (rowsEnd (Calls.founded c file names) (length names)) (Calls.founded c file names) ≡ Calls.zeros ((c - length names) * stride file)
+  founded-tail : drop (rowsEnd (Calls.founded c file names) (length names)) (Calls.founded c file names) ≡ zeros ((c - length names) * stride file)
   unfolding t rows tail stride
   founded-tail =
       ap (λ (a : ℕ). drop a (Calls.founded c file names)) (founded-end (length names))
@@ -389,6 +374,7 @@ module _ (a : Calls.Founding) (f : Founds a) where
   listed = at-row (λ i r. get members r ≡ 2 ^ length names - 1) row-members
 
   pub founded-formed : Formed (Calls.founded c file names)
+  unfolding list
   founded-formed = record {
     header = founded-header;
     long = founded-long;
@@ -396,5 +382,5 @@ module _ (a : Calls.Founding) (f : Founds a) where
     visits = founded-visits;
     rise = founded-rise;
     zero = founded-zero;
-    agree = rw founded-used (λ i j u v e. listed i u ∙ sym (listed j v));
+    agree = rw founded-used (λ i j u v p q e. list-is _ _ (listed i u ∙ sym (listed j v)));
   }

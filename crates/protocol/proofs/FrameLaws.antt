@@ -12,7 +12,7 @@ use Rattle.fields.specs.Layout.{get, form, capacity, used, first, fileLength, n
 use Rattle.table.specs.Chain.{orderOf}
 use Rattle.table.specs.WellFormed.{headerValues, lengthRight, visitsEach, namesRise, unusedZero}
 use Rattle.blocks.specs.Blocks.{block}
-use Rattle.protocol.proofs.TableLaws.{Like, like-get, like-end, Changed, behind}
+use Rattle.table.proofs.TableLaws.{Like, like-get, like-end, Changed, behind}
 
 pub record Frame (t u : List ℕ) : Type 0 where
   pub like : Like t u

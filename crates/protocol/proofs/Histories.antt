@@ -1,15 +1,19 @@
 -- The walk of document 01 and short histories that expose wrong readings: what each call gives, and heads and contents of some rows between calls.
 use mathlib.Core.Bool.{Bool, true, false, _&&_}
-use mathlib.Core.List.{List, [], _∷_}
+use mathlib.Core.List.{List, [], _∷_, _++_}
 use Prim.Native.Nat.{ℕ, _+_, _*_}
 use lib.Dec.{eqb}
 use lib.ListN.{take, replicate}
+use Rattle.bytes.specs.Bytes.{zeros}
 use Rattle.fields.specs.Layout.{stride, rowBytes, contentsOf}
-use Rattle.protocol.specs.Calls.{Call, founding, read, write, send, check, outcome}
+use Rattle.protocol.specs.Calls.{Call, founding, join, read, write, send, check, outcome}
 
 -- ---- calls by their arguments, in the order of their fields
 unfoldable pub fo : (capacity fileLength : ℕ) (names : List ℕ) → Call
 fo capacity fileLength names = founding (record { capacity = capacity; fileLength = fileLength; names = names })
+
+unfoldable pub jn : (name : ℕ) → Call
+jn name = join (record { name = name })
 
 unfoldable pub rd : (c r offset count : ℕ) (buffer : List ℕ) → Call
 rd c r offset count buffer = read (record { c = c; r = r; offset = offset; count = count; buffer = buffer })
@@ -246,6 +250,65 @@ histories =
           Made (ck 1 3) 6 0 [] ∷
           Made (rd 1 3 0 1 (9 ∷ [])) 0 0 (0 ∷ []) ∷
           Made (ck 1 7) 0 1 [] ∷
+          [];
+    }
+    -- a row joins in the middle of the chain: the list that it is checked into is laid in chain order, and so is a choice made
+    ∷ record {
+      capacity = 5;
+      fileLength = 1;
+      names = 10 ∷ 0 ∷ 30 ∷ 0 ∷ 40 ∷ 0 ∷ [];
+      steps =
+          Made (jn 20) 0 4 [] ∷
+          Head 1 ((10 ∷ 0 ∷ 4 ∷ zeros 13) ++ (7 ∷ zeros 15)) ∷
+          Head 2 ((30 ∷ 0 ∷ 3 ∷ zeros 13) ++ (7 ∷ zeros 15)) ∷
+          Head 4 (20 ∷ 0 ∷ 2 ∷ zeros 29) ∷
+          Made (jn 20) 13 0 [] ∷
+          Made (jn 5) 0 5 [] ∷
+          Head 5 (5 ∷ 0 ∷ 1 ∷ zeros 29) ∷
+          Made (jn 40) 13 0 [] ∷
+          Made (jn 50) 14 0 [] ∷
+          Made (ck 1 15) 0 1 [] ∷
+          Made (rd 1 3 0 1 (0 ∷ [])) 6 0 (0 ∷ []) ∷
+          Made (rd 1 9 0 1 (1 ∷ [])) 0 0 (0 ∷ []) ∷
+          Made (wr 4 15 0 (7 ∷ [])) 0 1 [] ∷
+          Contents 1 (7 ∷ []) ∷
+          Contents 2 (7 ∷ []) ∷
+          Contents 3 (0 ∷ []) ∷
+          Contents 4 (7 ∷ []) ∷
+          Made (rd 5 16 0 1 (0 ∷ [])) 6 0 (0 ∷ []) ∷
+          Made (rd 5 25 0 1 (0 ∷ [])) 0 1 (7 ∷ []) ∷
+          [];
+    }
+    -- a row that joins before the first write takes it, and counts in no quorum
+    ∷ record {
+      capacity = 3;
+      fileLength = 1;
+      names = 10 ∷ 0 ∷ 20 ∷ 0 ∷ [];
+      steps =
+          Made (jn 15) 0 3 [] ∷
+          Made (wr 3 5 0 (6 ∷ [])) 6 0 [] ∷
+          Made (wr 3 7 0 (6 ∷ [])) 0 1 [] ∷
+          Head 3 ((15 ∷ 0 ∷ 2 ∷ 0 ∷ 1 ∷ zeros 11) ++ zeros 16) ∷
+          Contents 3 (6 ∷ []) ∷
+          [];
+    }
+    -- a row that joins later is marked by a write, sent to, and checked in
+    ∷ record {
+      capacity = 3;
+      fileLength = 1;
+      names = 10 ∷ 0 ∷ 20 ∷ 0 ∷ [];
+      steps =
+          Made (wr 1 3 0 (1 ∷ [])) 0 1 [] ∷
+          Made (jn 30) 0 3 [] ∷
+          Made (sn 1 3 5) 10 0 [] ∷
+          Made (wr 3 7 0 (2 ∷ [])) 0 2 [] ∷
+          Head 3 ((30 ∷ 0 ∷ 0 ∷ 1 ∷ 0 ∷ 0 ∷ 0 ∷ 0 ∷ 2 ∷ zeros 7) ++ zeros 16) ∷
+          Contents 3 (0 ∷ []) ∷
+          Made (sn 1 3 5) 0 2 [] ∷
+          Head 3 ((30 ∷ 0 ∷ 0 ∷ 0 ∷ 2 ∷ zeros 11) ++ zeros 16) ∷
+          Contents 3 (2 ∷ []) ∷
+          Made (ck 3 7) 0 1 [] ∷
+          Head 3 ((30 ∷ 0 ∷ 0 ∷ 0 ∷ 2 ∷ zeros 7) ++ ((1 ∷ 0 ∷ 0 ∷ 0 ∷ []) ++ (7 ∷ zeros 15))) ∷
           [];
     }
     ∷ []

@@ -12,8 +12,7 @@ use Rattle.sets.specs.Sets.{has}
 use Rattle.bools.proofs.BoolLaws.{clash}
 use Rattle.quorums.specs.declared.Kind.the-variants.{Write}
 use Rattle.fields.specs.declared.Laid.{Laid}
-use Rattle.fields.specs.Layout.{get, name, link, desired, epoch, list, rowBytes, usedOf, epochOf, listOf, staleOf, versionOf, desiredOf}
-use Rattle.fields.proofs.FieldLaws.{list-is}
+use Rattle.fields.specs.Layout.{get, name, link, desired, epoch, list, isEmpty, rowBytes, usedOf, epochOf, listOf, staleOf, versionOf, desiredOf}
 use Rattle.protocol.specs.Lists.{laidNow}
 use Rattle.table.specs.WellFormed.{limit}
 use Rattle.table.proofs.FormLaws.{RowFacts, Formed, formed, header-facts}
@@ -34,10 +33,10 @@ record Fields (n i : ℕ) (f : ℕ → ℕ) : Type 0 where
   behind : eqb (f 3) 1 ≡ true → f 4 < f 5
   level : eqb (f 3) 1 ≡ false → f 5 ≡ 0
   only : f 7 < 2 ^ n
-  own : has (f 7) i ≡ true
+  own : eqb (f 7) 0 ≡ false → has (f 7) i ≡ true
 
 facts-after : {n i : ℕ} {row new c : List ℕ} {f : ℕ → ℕ} → RowFacts n i row → Becomes row new f c → f 1 ≡ get name row → f 2 ≡ get link row → Fields n i f → RowFacts n i new
-unfolding fieldAt
+unfolding fieldAt isEmpty list
 facts-after {n} {i} {row} {new} {c} {f} r b e1 e2 g = record {
   named = rw (b .fields 1 (omega arith), e1) (r .named);
   linked = rw (b .fields 2 (omega arith), e2) (r .linked);
@@ -52,17 +51,27 @@ facts-after {n} {i} {row} {new} {c} {f} r b e1 e2 g = record {
   own = rw (b .fields 7 (omega arith)) (g .own);
 }
 
--- used rows of one epoch have one list
-one-list : {t : List ℕ} → Formed t → (i j : ℕ) → Within (usedOf t) i → Within (usedOf t) j → epochOf t i ≡ epochOf t j → listOf t i ≡ listOf t j
-unfolding epochOf listOf list
-one-list w i j u v e = list-is _ _ (w .agree i j u v e)
+-- those of rows 1 to n that have a list, and one epoch, have one list
+abbrev Agreed : List ℕ → ℕ → Type 0
+Agreed t n = (i j : ℕ) → Within n i → Within n j → isEmpty (listOf t i) ≡ false → isEmpty (listOf t j) ≡ false → epochOf t i ≡ epochOf t j → listOf t i ≡ listOf t j
+
+one-list : {t : List ℕ} → Formed t → Agreed t (usedOf t)
+unfolding epochOf listOf
+one-list w = w .agree
+
+-- where epochs and lists stay
+still-agreed : {t : List ℕ} (u : List ℕ) → Formed t → ((i : ℕ) → Within (usedOf t) i → (epochOf u i ≡ epochOf t i) × (listOf u i ≡ listOf t i)) → Agreed u (usedOf t)
+still-agreed n w stay i j u v a b e =
+    let x = stay i u in
+    let y = stay j v in
+    x .1 ∙ one-list w i j u v (rw (x .1) at a) (rw (y .1) at b) (sym (x .0) ∙ e ∙ y .0) ∙ sym (y .1)
 
 -- a table whose changed rows are right, and whose rows agree on lists, is well formed
 keep-formed : {t u : List ℕ} {s : ℕ → Bool} → Formed t → Leaves t u s
     → ((i : ℕ) → Within (usedOf t) i → s i ≡ true → RowFacts (usedOf t) i (rowBytes u i))
-    → ((i j : ℕ) → Within (usedOf t) i → Within (usedOf t) j → epochOf u i ≡ epochOf u j → listOf u i ≡ listOf u j)
+    → Agreed u (usedOf t)
     → Formed u
-unfolding epochOf listOf list
+unfolding epochOf listOf
 keep-formed {t} {u} {s} w l facts agree = record {
   header = same-header (l .frame) ∙ w .header;
   long = same-long (l .frame) ∙ w .long;
@@ -70,7 +79,7 @@ keep-formed {t} {u} {s} w l facts agree = record {
   visits = same-visits (l .frame) ∙ w .visits;
   rise = same-rise (l .frame) ∙ w .rise;
   zero = zero-stays (l .change) refl (same-used (l .frame)) ∙ w .zero;
-  agree = rw (same-used (l .frame)) (λ i j v x e. ap (λ (z : Laid). z .members) (agree i j v x e));
+  agree = rw (same-used (l .frame)) agree;
 }
   where
     go : (i : ℕ) → Within (usedOf t) i → (b : Bool) → s i ≡ b → RowFacts (usedOf t) i (rowBytes u i)
@@ -122,7 +131,7 @@ module _ (t : List ℕ) (a : Writing) (y : WriteYes t a) where
   write-sub i m = worked-in Write _ (answers t (a .r)) (a .c) _ (has (a .r)) i m
 
   write-facts : (i : ℕ) → Within (usedOf t) i → workSet Write t (a .c) (a .r) i ≡ true → RowFacts (usedOf t) i (rowBytes (writeTable t a y) i)
-  unfolding changed fieldsOf fieldAt staleOf versionOf
+  unfolding changed fieldsOf fieldAt staleOf versionOf isEmpty list
   write-facts i u m = go (good (answers t (a .r)) (workSet Write t (a .c) (a .r)) i) refl
     where
       f : RowFacts (usedOf t) i (rowBytes t i)
@@ -170,10 +179,7 @@ module _ (t : List ℕ) (a : Writing) (y : WriteYes t a) where
       go true m false g = let e = write-marked t a y i u m g in (e .fields 6 (omega arith), becomes-list e)
 
   pub write-formed : Formed (writeTable t a y)
-  write-formed = keep-formed ww (write-leaves t a y) write-facts (λ i j u v e.
-      let x = write-membership i u in
-      let b = write-membership j v in
-      x .1 ∙ one-list ww i j u v (sym (x .0) ∙ e ∙ b .0) ∙ sym (b .1))
+  write-formed = keep-formed ww (write-leaves t a y) write-facts (still-agreed _ ww write-membership)
 
 -- ---- a send
 module _ (t : List ℕ) (a : Sending) (y : SendYes t a) where
@@ -181,7 +187,7 @@ module _ (t : List ℕ) (a : Sending) (y : SendYes t a) where
   sw = formed t (y .formed)
 
   send-facts : (i : ℕ) → Within (usedOf t) i → eqb (a .t) i ≡ true → RowFacts (usedOf t) i (rowBytes (sendTable t a y) i)
-  unfolding changed fieldsOf fieldAt versionOf limit
+  unfolding changed fieldsOf fieldAt versionOf limit isEmpty list
   send-facts i u m = subst (λ (x : ℕ). RowFacts (usedOf t) x (rowBytes (sendTable t a y) x)) (eqb-true (a .t) i m)
       (facts-after (sw .rows (a .t) (y .to-used)) (send-target t a y) refl refl (record {
         flag = omega arith;
@@ -206,10 +212,7 @@ module _ (t : List ℕ) (a : Sending) (y : SendYes t a) where
           (let e = send-target t a y in (e .fields 6 (omega arith), becomes-list e))
 
   pub send-formed : Formed (sendTable t a y)
-  send-formed = keep-formed sw (send-leaves t a y) send-facts (λ i j u v e.
-      let x = send-membership i u in
-      let b = send-membership j v in
-      x .1 ∙ one-list sw i j u v (sym (x .0) ∙ e ∙ b .0) ∙ sym (b .1))
+  send-formed = keep-formed sw (send-leaves t a y) send-facts (still-agreed _ sw send-membership)
 
 -- ---- a check that changes the list
 module _ (t : List ℕ) (a : Checking) (y : CheckYes t a) (room : highestEpoch (answers t (a .r)) (has (a .r)) < limit) (cur : current (answers t (a .r)) (has (a .r)) ≡ true) where
@@ -220,7 +223,7 @@ module _ (t : List ℕ) (a : Checking) (y : CheckYes t a) (room : highestEpoch (
   check-used = answered-used t (a .c) (a .r) [] (y .first)
 
   check-facts : (i : ℕ) → Within (usedOf t) i → has (a .r) i ≡ true → RowFacts (usedOf t) i (rowBytes (checkTable t a y room) i)
-  unfolding laidNow relisted changed fieldsOf fieldAt versionOf
+  unfolding laidNow relisted changed fieldsOf fieldAt versionOf isEmpty list
   check-facts i u m = go (good (answers t (a .r)) (has (a .r)) i) refl
     where
       f : RowFacts (usedOf t) i (rowBytes t i)
@@ -235,7 +238,7 @@ module _ (t : List ℕ) (a : Checking) (y : CheckYes t a) (room : highestEpoch (
         behind = f .behind;
         level = f .level;
         only = y .first .rows;
-        own = m;
+        own = λ e. m;
       })
       go false g =
           let l = version-less t (a .r) (has (a .r)) chw (λ j h. h) check-used cur i m g in
@@ -247,7 +250,7 @@ module _ (t : List ℕ) (a : Checking) (y : CheckYes t a) (room : highestEpoch (
             behind = λ e. l;
             level = λ e. absurd (clash (sym e));
             only = y .first .rows;
-            own = m;
+            own = λ e. m;
           })
 
   -- rows that answered have the new epoch and list, the others keep theirs
@@ -267,15 +270,16 @@ module _ (t : List ℕ) (a : Checking) (y : CheckYes t a) (room : highestEpoch (
 
   -- where no used row outside R has the new epoch already
   pub check-formed : ((i : ℕ) → Within (usedOf t) i → has (a .r) i ≡ false → epochOf t i ≡ highestEpoch (answers t (a .r)) (has (a .r)) + 1 → ⊥) → Formed (checkTable t a y room)
-  check-formed new = keep-formed chw (check-leaves t a y room) check-facts (λ i j u v e.
+  check-formed new = keep-formed chw (check-leaves t a y room) check-facts (λ i j u v f g e.
       let x = check-membership i u in
       let b = check-membership j v in
-      x .1 ∙ go i j u v (has (a .r) i) refl (has (a .r) j) refl (sym (x .0) ∙ e ∙ b .0) ∙ sym (b .1))
+      x .1 ∙ go i j u v (has (a .r) i) refl (has (a .r) j) refl (rw (x .1) at f) (rw (b .1) at g) (sym (x .0) ∙ e ∙ b .0) ∙ sym (b .1))
     where
       go : (i j : ℕ) → Within (usedOf t) i → Within (usedOf t) j → (x : Bool) → has (a .r) i ≡ x → (y : Bool) → has (a .r) j ≡ y
+          → isEmpty (cond x (laidNow (a .r)) (listOf t i)) ≡ false → isEmpty (cond y (laidNow (a .r)) (listOf t j)) ≡ false
           → cond x (highestEpoch (answers t (a .r)) (has (a .r)) + 1) (epochOf t i) ≡ cond y (highestEpoch (answers t (a .r)) (has (a .r)) + 1) (epochOf t j)
           → cond x (laidNow (a .r)) (listOf t i) ≡ cond y (laidNow (a .r)) (listOf t j)
-      go i j u v true ex true ey e = refl
-      go i j u v true ex false ey e = absurd (new j v ey (sym e))
-      go i j u v false ex true ey e = absurd (new i u ex e)
-      go i j u v false ex false ey e = one-list chw i j u v e
+      go i j u v true ex true ey f g e = refl
+      go i j u v true ex false ey f g e = absurd (new j v ey (sym e))
+      go i j u v false ex true ey f g e = absurd (new i u ex e)
+      go i j u v false ex false ey f g e = one-list chw i j u v f g e

@@ -1,13 +1,13 @@
 pub mod ListLaws
 pub mod PollLaws
 pub mod RowLaws
-pub mod TableLaws
 pub mod QuestionLaws
 pub mod FrameLaws
 pub mod DoneLaws
 pub mod KeepLaws
 pub mod FoundedLaws
 pub mod Claimed
+pub mod JoinClaimed
 pub mod Unanswered
 pub mod Histories
 pub mod Cases

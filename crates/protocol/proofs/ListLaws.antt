@@ -1,23 +1,27 @@
 -- The laws by which everything above knows the quorums of a level, and of a list. Nothing after this opens them.
-use mathlib.Core.Path.{_≡_, refl}
-use mathlib.Core.Bool.{Bool, true, _&&_}
+use mathlib.Core.Path.{_≡_, refl, sym, _∙_, ap}
+use mathlib.Core.Bool.{Bool, true, false, _&&_}
 use mathlib.Core.List.{List, [], _∷_}
 use Prim.Native.Nat.{ℕ, _-_, _≤_}
 use native.Mathlib.Omega.{arith}
-use lib.Dec.{leb}
+use lib.Dec.{leb, eqb}
 use lib.ListN.{length, getD}
-use borrow.Author.Tests.{leb-true}
+use borrow.Author.Tests.{leb-true, ne-eqb}
 use Rattle.sets.specs.Upto.{every, some, count, keep}
 use Rattle.sets.specs.Sets.{has}
 use Rattle.sets.proofs.KeepLaws.{kept}
-use Rattle.bools.proofs.BoolLaws.{and-l, and-r, and-i}
+use Rattle.sets.proofs.SetLaws.{empty-at}
+use Rattle.bools.proofs.BoolLaws.{and-l, and-r, and-i, clash}
 use Rattle.quorums.specs.declared.Kind.{Kind}
 use Rattle.quorums.specs.declared.Kind.the-variants.{Read, Write}
 use Rattle.grid.specs.Sizes.{root, rootUp, published, columnOf}
-use Rattle.quorums.specs.Quorums.{touches, covers, readQuorum, writeQuorum, quorum}
+use Rattle.quorums.specs.Quorums.{touches, covers, readQuorum, writeQuorum, quorum, choice}
 use Rattle.quorums.proofs.QuorumLaws as Q
+use Rattle.linking.specs.Linking.{inserted}
+use Rattle.linking.proofs.InsertLaws.{inserted-keep}
 use Rattle.fields.specs.declared.Laid.{Laid}
-use Rattle.protocol.specs.Lists.{laidNow, seats, atSeat, level, listQuorum}
+use Rattle.fields.specs.Layout.{isEmpty}
+use Rattle.protocol.specs.Lists.{laidNow, seats, atSeat, level, levelChoice, listQuorum, listChoice}
 
 -- ---- of a level: those that pass p
 module _ (order : List ℕ) (p : ℕ → Bool) where
@@ -80,10 +84,29 @@ module _ (order : List ℕ) (v : Laid) where
   unfolding listQuorum
   grows = level-grows order (has (v .members))
 
+-- a list that has a member is not empty
+pub has-list : (l : Laid) (i : ℕ) → has (l .members) i ≡ true → isEmpty l ≡ false
+unfolding isEmpty
+has-list l i m = ne-eqb (l .members) 0 (λ z. clash (sym (empty-at i) ∙ rw z at m))
+
 -- the members of a list, laid again, are that list
 pub laid-again : (l : Laid) → laidNow (l .members) ≡ l
 unfolding laidNow
 laid-again l = refl
+
+-- ---- a row more in the order that the list does not have: seats, quorums and choices stay
+module _ (f : ℕ → ℕ) (x w : ℕ) (order : List ℕ) (v : Laid) (out : has (v .members) w ≡ false) where
+  pub seats-more : seats (inserted f x w order) (has (v .members)) ≡ seats order (has (v .members))
+  unfolding seats
+  seats-more = inserted-keep f x w (has (v .members)) out order
+
+  pub quorum-more : (kind : Kind) (s : ℕ → Bool) → listQuorum kind (inserted f x w order) v s ≡ listQuorum kind order v s
+  unfolding listQuorum level
+  quorum-more kind s = let N = count 64 (has (v .members)) in ap (λ (rows : List ℕ). quorum kind (published N) N (atSeat rows s)) seats-more
+
+  pub choice-more : (kind : Kind) (a i : ℕ) → listChoice kind (inserted f x w order) v a i ≡ listChoice kind order v a i
+  unfolding listChoice levelChoice
+  choice-more kind a i = let N = count 64 (has (v .members)) in ap (λ (rows : List ℕ). some N (λ k. choice kind (published N) N a k && atSeat rows (eqb i) k)) seats-more
 
 -- a list of one row, which is there
 pub one-holds : listQuorum Write (1 ∷ []) (laidNow 1) (has 1) ≡ true

@@ -9,16 +9,18 @@ use borrow.Author.Tests.{eqb-true, eq-eqb, not-true, ltb-false, le-ltb}
 use Rattle.sets.specs.Upto.{Within, some, lowest, most}
 use Rattle.sets.specs.Sets.{cutTo}
 use Rattle.bools.proofs.BoolLaws.{and-l, and-r, and-i, clash}
-use Rattle.sets.proofs.UptoLaws.{some-at, some-of, some-none, some-ext, most-le, most-at, most-under, most-ext, lowest-at, lowest-ext}
+use Rattle.sets.proofs.UptoLaws.{some-at, some-of, some-none, some-ext, most-le, most-at, most-under, most-ext, lowest-at, lowest-none, lowest-ext}
 use Rattle.quorums.specs.declared.Kind.{Kind}
 use Rattle.fields.specs.declared.Laid.{Laid}
+use Rattle.fields.specs.Layout.{isEmpty}
 use Rattle.protocol.specs.Lists.{listQuorum, listChoice}
-use Rattle.protocol.specs.Polls.{Poll, highestEpoch, inForce, unmarked, marked, goodVersion, good, current, quorumHeld, ownTry, workedOn}
+use Rattle.protocol.specs.Polls.{Poll, listed, highestEpoch, inForce, unmarked, marked, goodVersion, good, current, quorumHeld, ownTry, workedOn}
 
 -- the row whose list is in force
 pub record Leads (p : Poll) (s : ℕ → Bool) (i : ℕ) : Type 0 where
   pub place : Within 64 i
   pub inside : s i ≡ true
+  pub has-list : isEmpty (p .list i) ≡ false
   pub highest : p .epoch i ≡ highestEpoch p s
   pub list : p .list i ≡ inForce p s
 
@@ -28,28 +30,55 @@ pub record Good (p : Poll) (s : ℕ → Bool) (i : ℕ) : Type 0 where
   pub newest : p .version i ≡ goodVersion p s
 
 module _ (p : Poll) (s : ℕ → Bool) where
-  pub epoch-le : (i : ℕ) → Within 64 i → s i ≡ true → p .epoch i ≤ highestEpoch p s
+  -- the rows of S that have a list
+  pub listed-at : (i : ℕ) → listed p s i ≡ true → (s i ≡ true) × (isEmpty (p .list i) ≡ false)
+  unfolding listed
+  listed-at i h = (and-l _ _ h, not-true _ (and-r (s i) _ h))
+
+  pub listed-of : (i : ℕ) → s i ≡ true → isEmpty (p .list i) ≡ false → listed p s i ≡ true
+  unfolding listed
+  listed-of i m l = rw (m, l)
+
+  -- of any poll: no row of S that has a list is of a higher epoch; one that has none is passed over, whatever its epoch
+  pub epoch-le : (i : ℕ) → Within 64 i → s i ≡ true → isEmpty (p .list i) ≡ false → p .epoch i ≤ highestEpoch p s
   unfolding highestEpoch
-  epoch-le = most-le 64 s (p .epoch)
+  epoch-le i w m l = most-le 64 (listed p s) (p .epoch) i w (listed-of i m l)
 
   pub epoch-under : (c : ℕ) → ((i : ℕ) → s i ≡ true → p .epoch i ≤ c) → highestEpoch p s ≤ c
   unfolding highestEpoch
-  epoch-under c f = most-under 64 s (p .epoch) c (λ i w h. f i h)
+  epoch-under c f = most-under 64 (listed p s) (p .epoch) c (λ i w h. f i (listed-at i h .0))
 
   -- the lowest row of the highest epoch
   leader : ℕ
-  leader = lowest 64 (λ i. s i && eqb (p .epoch i) (highestEpoch p s))
+  leader = lowest 64 (λ i. listed p s i && eqb (p .epoch i) (highestEpoch p s))
 
-  lead-is : some 64 s ≡ true → Leads p s leader
+  lead-is : some 64 (listed p s) ≡ true → Leads p s leader
   unfolding highestEpoch inForce leader
   lead-is h =
-      let m = most-at 64 s (p .epoch) h in
-      let test : ℕ → Bool = λ i. s i && eqb (p .epoch i) (most 64 s (p .epoch)) in
-      let f = lowest-at 64 test (some-of 64 test (m .0) (m .1) (and-i (s (m .0)) _ (m .2) (eq-eqb _ _ (m .3)))) in
-      record { place = f .0; inside = and-l _ _ (f .1); highest = eqb-true _ _ (and-r (s (lowest 64 test)) _ (f .1)); list = refl }
+      let m = most-at 64 (listed p s) (p .epoch) h in
+      let test : ℕ → Bool = λ i. listed p s i && eqb (p .epoch i) (most 64 (listed p s) (p .epoch)) in
+      let f = lowest-at 64 test (some-of 64 test (m .0) (m .1) (and-i (listed p s (m .0)) _ (m .2) (eq-eqb _ _ (m .3)))) in
+      let l = listed-at (lowest 64 test) (and-l _ _ (f .1)) in
+      record { place = f .0; inside = l .0; has-list = l .1; highest = eqb-true _ _ (and-r (listed p s (lowest 64 test)) _ (f .1)); list = refl }
 
-  pub leads : some 64 s ≡ true → (i : ℕ) × Leads p s i
+  pub leads : some 64 (listed p s) ≡ true → (i : ℕ) × Leads p s i
   leads h = (leader, lead-is h)
+
+  pub lead-none : some 64 (listed p s) ≡ false → inForce p s ≡ p .list 0
+  unfolding inForce
+  lead-none h = ap (p .list) (lowest-none 64 _ (λ i w. go i w (listed p s i) refl))
+    where
+      go : (i : ℕ) → Within 64 i → (b : Bool) → listed p s i ≡ b → (b && eqb (p .epoch i) (highestEpoch p s)) ≡ false
+      go i w true m = absurd (clash (sym h ∙ some-of 64 (listed p s) i w m))
+      go i w false m = refl
+
+  -- the list in force is empty only where no row of S has a list; place 0 is no row's
+  pub held-list : isEmpty (p .list 0) ≡ true → some 64 (listed p s) ≡ not (isEmpty (inForce p s))
+  held-list none = go (some 64 (listed p s)) refl
+    where
+      go : (b : Bool) → some 64 (listed p s) ≡ b → b ≡ not (isEmpty (inForce p s))
+      go true h = let l = lead-is h in rw (← l .list, l .has-list)
+      go false h = rw (lead-none h, none)
 
   pub version-le : (i : ℕ) → Within 64 i → s i ≡ true → p .stale i ≡ false → p .version i ≤ goodVersion p s
   unfolding goodVersion unmarked
@@ -119,17 +148,21 @@ within s a b f i = go (s i) refl
     go false e = refl
 
 module _ (p q : Poll) (s : ℕ → Bool) (g : Agree p q s) where
+  pub listed-same : listed p s ≡ listed q s
+  unfolding listed
+  listed-same = fun-ext (within s _ _ (λ i m. ap (λ (l : Laid). not (isEmpty l)) (g .list i m)))
+
   pub epoch-same : highestEpoch p s ≡ highestEpoch q s
   unfolding highestEpoch
-  epoch-same = most-ext 64 s s (p .epoch) (q .epoch) (λ i w. refl) (λ i w. g .epoch i)
+  epoch-same = most-ext 64 (listed p s) (listed q s) (p .epoch) (q .epoch) (λ i w. ap (λ (t : ℕ → Bool). t i) listed-same) (λ i w m. g .epoch i (listed-at q s i m .0))
 
-  pub list-same : some 64 s ≡ true → inForce p s ≡ inForce q s
+  pub list-same : some 64 (listed p s) ≡ true → inForce p s ≡ inForce q s
   unfolding inForce leader
   list-same h =
-      let here : (i : ℕ) → s i ≡ true → eqb (p .epoch i) (highestEpoch p s) ≡ eqb (q .epoch i) (highestEpoch q s) =
-      λ i m. ap₂ eqb (g .epoch i m) epoch-same in
-      let e : leader p s ≡ leader q s = lowest-ext 64 _ _ (λ i w. within s _ _ here i) in
-      ap (p .list) e ∙ g .list (leader q s) (lead-is q s h .inside)
+      let here : (i : ℕ) → listed p s i ≡ true → eqb (p .epoch i) (highestEpoch p s) ≡ eqb (q .epoch i) (highestEpoch q s) =
+      λ i m. ap₂ eqb (g .epoch i (listed-at p s i m .0)) epoch-same in
+      let e : leader p s ≡ leader q s = lowest-ext 64 _ _ (λ i w. within (listed p s) _ _ here i ∙ ap (λ (t : ℕ → Bool). t i && eqb (q .epoch i) (highestEpoch q s)) listed-same) in
+      ap (p .list) e ∙ g .list (leader q s) (lead-is q s (rw (← listed-same) h) .inside)
 
   unmarked-same : (i : ℕ) → unmarked p s i ≡ unmarked q s i
   unfolding unmarked
@@ -157,9 +190,9 @@ module _ (p q : Poll) (s : ℕ → Bool) (g : Agree p q s) where
 
   pub quorum-same : (kind : Kind) (order : List ℕ) → quorumHeld kind order p s ≡ quorumHeld kind order q s
   unfolding quorumHeld
-  quorum-same kind order = go (some 64 s) refl
+  quorum-same kind order = rw (← listed-same) (go (some 64 (listed p s)) refl)
     where
-      go : (x : Bool) → some 64 s ≡ x → (x && listQuorum kind order (inForce p s) s) ≡ (x && listQuorum kind order (inForce q s) s)
+      go : (x : Bool) → some 64 (listed p s) ≡ x → (x && listQuorum kind order (inForce p s) s) ≡ (x && listQuorum kind order (inForce q s) s)
       go true e = rw (list-same e)
       go false e = refl
 

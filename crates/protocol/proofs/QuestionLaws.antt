@@ -8,14 +8,15 @@ use lib.Dec.{eqb, leb, ltb, eqb·suc-zero}
 use lib.ListN.{length}
 use lib.Pow.{high, low}
 use borrow.Author.Tests.{eqb-false, eq-eqb, ltb-true, leb-true, not-true}
-use Rattle.sets.specs.Upto.{Within}
+use Rattle.sets.specs.Upto.{Within, some}
 use Rattle.sets.specs.Sets.{has}
-use Rattle.bools.proofs.BoolLaws.{and-l, and-r}
+use Rattle.bools.proofs.BoolLaws.{and-l, and-r, clash}
+use Rattle.sets.proofs.UptoLaws.{some-of}
 use Rattle.sets.proofs.SetLaws.{has-within}
 use Rattle.quorums.specs.declared.Kind.the-variants.{Read, Write}
-use Rattle.fields.specs.Layout.{usedOf, fileLengthOf, staleOf, versionOf, desiredOf}
+use Rattle.fields.specs.Layout.{capacityOf, usedOf, nameOf, fileLengthOf, staleOf, versionOf, desiredOf}
 use Rattle.table.specs.Chain.{orderOf}
-use Rattle.table.specs.WellFormed.{limit, onlyRows, wellFormed}
+use Rattle.table.specs.WellFormed.{between, limit, onlyRows, wellFormed}
 use Rattle.table.proofs.FormLaws.{between-is}
 use Rattle.protocol.specs.Polls.{highestEpoch, inForce, goodVersion, current, quorumHeld}
 use Rattle.asking.specs.Asking.{Question, firstNo, before}
@@ -35,6 +36,7 @@ result-value o h = low (o .refusal) 32 h
 done-zero : (t : List ℕ) (k : Calls.Call) → Calls.done t k .refusal ≡ 0
 unfolding Calls.done
 done-zero t (Calls.founding a) = refl
+done-zero t (Calls.join a) = refl
 done-zero t (Calls.read a) = refl
 done-zero t (Calls.write a) = refl
 done-zero t (Calls.send a) = refl
@@ -111,6 +113,26 @@ module _ (t : List ℕ) (c r : ℕ) (qs : List Question) where
 pub early-passed : (t : List ℕ) (c r : ℕ) (qs : List Question) (n : ℕ) → 3 < n → firstNo (before n (Calls.byCoordinator t c r qs)) ≡ 0
     → ByCoordinator t c r × (firstNo (before n qs) ≡ 0) × (firstNo (Calls.byCoordinator t c r qs) ≡ firstNo qs)
 early-passed t c r qs n l h = let a = passed-first t c r (before n qs) (rw (early-is t c r qs n l) at h) in (a .0, a .1, a .2 qs)
+
+pub record JoinYes (t : List ℕ) (a : Calls.Joining) : Type 0 where
+  pub formed : wellFormed t ≡ true
+  pub named : Within 65_535 (a .name)
+  pub free : (i : ℕ) → Within (usedOf t) i → nameOf t i ≡ a .name → ⊥
+  pub room : usedOf t < capacityOf t
+
+pub join-yes : (t : List ℕ) (a : Calls.Joining) → firstNo (Calls.questions t (Calls.join a)) ≡ 0 → JoinYes t a
+unfolding Calls.questions
+join-yes t a h =
+    let x = yes-first 0 (wellFormed t) _ h in
+    let b = yes-first 12 (between 1 (a .name) 65_535 && not (some (usedOf t) (λ i. eqb (nameOf t i) (a .name)))) _ (x .1) in
+    let d = yes-first 13 (ltb (usedOf t) (capacityOf t)) _ (b .1) in
+    let none : some (usedOf t) (λ i. eqb (nameOf t i) (a .name)) ≡ false = not-true _ (and-r (between 1 (a .name) 65_535) _ (b .0)) in
+    record {
+      formed = x .0;
+      named = between-is 1 (a .name) 65_535 (and-l _ _ (b .0));
+      free = λ i w q. clash (sym none ∙ some-of (usedOf t) _ i w (eq-eqb _ _ q));
+      room = ltb-true _ _ (d .0);
+    }
 
 pub record ReadYes (t : List ℕ) (a : Calls.Reading) : Type 0 where
   pub first : ByCoordinator t (a .c) (a .r)

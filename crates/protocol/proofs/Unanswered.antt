@@ -26,7 +26,7 @@ use Rattle.protocol.specs.Rows.{wroteRow, checkedRow, refreshedRow}
 use Rattle.asking.specs.Asking.{Question, firstNo}
 use Rattle.protocol.specs.Calls.{Reading, Writing, Sending, Checking, Call, read, write, send, check, byCoordinator, isUsed, inFile, questions, done, outcome, answers, workSet}
 use Rattle.protocol.specs.Claims.{Answering, byRead, byWrite, bySend, byCheck, EqualIn, SameFor, UnansweredHaveNoPart}
-use Rattle.protocol.proofs.TableLaws.{Changed}
+use Rattle.table.proofs.TableLaws.{Changed}
 use Rattle.protocol.proofs.PollLaws.{lowest-good, worked-in}
 use Rattle.protocol.proofs.QuestionLaws.{refusal-is, when-done, when-refused, answered-used, ReadYes, read-yes, WriteYes, write-yes, SendYes, send-yes, CheckYes, check-yes}
 use Rattle.protocol.proofs.DoneLaws.{writeTable, write-rows, sendTable, send-changed, checkTable, check-rows}
@@ -55,26 +55,26 @@ module _ {r : ℕ} {t u : List ℕ} (E : EqualIn r t u) where
   fu : Formed u
   fu = formed u (E .formed-too)
 
-  header : (a n : ℕ) → a + n ≤ 16 → part a n u ≡ part a n t
+  pub header : (a n : ℕ) → a + n ≤ 16 → part a n u ≡ part a n t
   header a n h = sym (head-part a n u h) ∙ ap (part a n) (sym (E .header)) ∙ head-part a n t h
 
-  get-same : (f : Layout.Field) → f .place + f .width ≤ 16 → get f u ≡ get f t
+  pub get-same : (f : Layout.Field) → f .place + f .width ≤ 16 → get f u ≡ get f t
   unfolding get
   get-same f h = ap number (header (f .place) (f .width) h)
 
-  used-same : usedOf u ≡ usedOf t
+  pub used-same : usedOf u ≡ usedOf t
   unfolding usedOf Layout.used
   used-same = get-same Layout.used (omega arith)
 
-  file-same : fileLengthOf u ≡ fileLengthOf t
+  pub file-same : fileLengthOf u ≡ fileLengthOf t
   unfolding fileLengthOf Layout.fileLength
   file-same = get-same Layout.fileLength (omega arith)
 
-  first-same : firstOf u ≡ firstOf t
+  pub first-same : firstOf u ≡ firstOf t
   unfolding firstOf Layout.first
   first-same = get-same Layout.first (omega arith)
 
-  order-same : orderOf u ≡ orderOf t
+  pub order-same : orderOf u ≡ orderOf t
   unfolding orderOf linkOf
   order-same =
       let h = header-facts t (ft .header) in

@@ -3,19 +3,20 @@ use mathlib.Core.Bool.{Bool, true, not, cond, _&&_, _||_}
 use mathlib.Core.List.{List, [], _∷_, _++_}
 use Prim.Native.Nat.{ℕ, suc, _+_, _-_, _*_, _%_, _^_}
 use lib.Dec.{eqb, leb, ltb}
-use lib.ListN.{length, replicate}
-use Rattle.sets.specs.Upto.{lowest}
+use lib.ListN.{length}
+use Rattle.sets.specs.Upto.{some, lowest}
 use Rattle.sets.specs.Sets.{has}
 use Rattle.quorums.specs.declared.Kind.{Kind}
 use Rattle.quorums.specs.declared.Kind.the-variants.{Read, Write}
-use Rattle.bytes.specs.Bytes.{bytesOf, part}
-use Rattle.fields.specs.Layout.{formValue, bodyLength, stride, usedOf, fileLengthOf, nameOf, staleOf, versionOf, desiredOf, contentsOf, rowBytes}
+use Rattle.bytes.specs.Bytes.{bytesOf, part, zeros}
+use Rattle.fields.specs.Layout.{formValue, bodyLength, stride, capacityOf, usedOf, fileLengthOf, nameOf, staleOf, versionOf, desiredOf, contentsOf, rowBytes, withRow, withRows}
 use Rattle.table.specs.Chain.{orderOf}
 use Rattle.table.specs.WellFormed.{between, limit, onlyRows, wellFormed}
 use Rattle.asking.specs.Asking.{Question, firstNo}
 use Rattle.protocol.specs.Lists.{laidNow}
 use Rattle.protocol.specs.Polls.{Poll, polled, highestEpoch, inForce, goodVersion, good, current, quorumHeld, workedOn}
-use Rattle.protocol.specs.Rows.{refreshedRow, withRow, withRows, wroteRow, checkedRow}
+use Rattle.protocol.specs.Rows.{refreshedRow, wroteRow, checkedRow}
+use Rattle.joining.specs.Joining.{joined}
 
 -- ---- the arguments of each call: "Coordinator c, answering set R (bit i − 1 for row i); c, f and t are row indexes."
 pub record Founding : Type 0 where
@@ -48,8 +49,12 @@ pub record Checking : Type 0 where
   pub c : ℕ
   pub r : ℕ
 
+pub record Joining : Type 0 where
+  pub name : ℕ
+
 pub data Call : Type 0 where
   founding : Founding → Call
+  join : Joining → Call
   read : Reading → Call
   write : Writing → Call
   send : Sending → Call
@@ -65,6 +70,7 @@ pub record Outcome : Type 0 where
 -- the read buffer that a call is lent
 unfoldable pub lent : Call → List ℕ
 lent (founding a) = []
+lent (join a) = []
 lent (read a) = a .buffer
 lent (write a) = []
 lent (send a) = []
@@ -109,15 +115,11 @@ unfoldable pub namesRising : ℕ → List ℕ → Bool
 namesRising a [] = true
 namesRising a (x ∷ l) = ltb a x && leb x 65_535 && namesRising x l
 
--- "contents, versions, epochs, marks .. become 0": n zero bytes
-unfoldable pub zeros : ℕ → List ℕ
-zeros n = replicate n 0
-
 -- "16 bytes: form, capacity, rows used, first row, file length; the rest 0"
 unfoldable pub foundedHeader : ℕ → ℕ → ℕ → List ℕ
 foundedHeader capacity n fileLength = formValue ∷ capacity ∷ n ∷ 1 ∷ (bytesOf 2 fileLength ++ zeros 10)
 
--- row i of n: its name, the next row (0 after the last), the list of all used rows, and all else 0, with a body of so many bytes
+-- row i of n: its name, the next row (0 after the last), the list of all used rows; "contents, versions, epochs, marks .. become 0", with a body of so many bytes
 unfoldable pub foundedRow : ℕ → ℕ → ℕ → ℕ → List ℕ
 foundedRow n body i x = bytesOf 2 x ++ (cond (eqb i n) 0 (i + 1) ∷ (zeros 13 ++ (bytesOf 8 (laidNow (2 ^ n - 1) .members) ++ (zeros 8 ++ zeros body))))
 
@@ -146,6 +148,12 @@ questions t (founding a) =
     let n = length (namesIn (a .names)) in
     record { ask = 11; yes = eqb (length (a .names) % 2) 0 && between 1 n 64 && namesRising 0 (namesIn (a .names)) }
     ∷ record { ask = 12; yes = between 1 (a .capacity) 64 && leb n (a .capacity) && between 1 (a .fileLength) 4_096 && eqb (length t) (16 + a .capacity * stride (a .fileLength)) }
+    ∷ []
+-- "Questions 2 and 3 are not put to it. .. after question 1, joining gives 13 for name 0 or a name in use, then 14 when no unused row is left."
+questions t (join a) =
+    record { ask = 1; yes = wellFormed t }
+    ∷ record { ask = 13; yes = between 1 (a .name) 65_535 && not (some (usedOf t) (λ i. eqb (nameOf t i) (a .name))) }
+    ∷ record { ask = 14; yes = ltb (usedOf t) (capacityOf t) }
     ∷ []
 questions t (read a) =
     let p = answers t (a .r) in
@@ -184,6 +192,8 @@ questions t (check a) =
 -- ---- what a done call leaves
 unfoldable pub done : List ℕ → Call → Outcome
 done t (founding a) = leaves (founding a) 0 (length (namesIn (a .names))) (founded (a .capacity) (a .fileLength) (namesIn (a .names)))
+-- "its value is the new index"
+done t (join a) = leaves (join a) 0 (suc (usedOf t)) (joined t (a .name))
 -- "copies the range from the good row of lowest index. Value: its version."
 done t (read a) =
     let p = answers t (a .r) in

@@ -1,19 +1,27 @@
 -- What is claimed of every call, as statements; the proofs are in proofs/.
 use mathlib.Core.Path.{_≡_}
-use mathlib.Core.Bool.{true, false}
+use mathlib.Core.Bool.{Bool, true, false}
 use mathlib.Core.List.{List, [], _∷_, map}
-use Prim.Native.Nat.{ℕ, _/_, _%_, _^_, _<_}
+use Prim.Native.Nat.{ℕ, suc, _/_, _%_, _^_, _<_}
 use lib.ListN.{length, take, drop}
 use Rattle.sets.specs.Upto.{Within}
-use Rattle.sets.specs.Sets.{has}
-use Rattle.fields.specs.Layout.{usedOf, nameOf, linkOf, rowsEnd, rowBytes}
+use Rattle.sets.specs.Sets.{has, losing}
+use Rattle.quorums.specs.declared.Kind.{Kind}
+use Rattle.fields.specs.declared.Laid.{Laid}
+use Rattle.fields.specs.Layout.{isEmpty, usedOf, nameOf, linkOf, rowsEnd, rowBytes}
+use Rattle.table.specs.Chain.{orderOf}
 use Rattle.table.specs.WellFormed.{wellFormed}
+use Rattle.linking.specs.Linking.{inserted}
+use Rattle.joining.specs.Claims.{OneMore}
 use Rattle.asking.specs.Asking.{Question}
-use Rattle.protocol.specs.Calls.{Founding, Reading, Writing, Sending, Checking, Call, founding, read, write, send, check, Outcome, resultOf, questions, lent, outcome}
+use Rattle.protocol.specs.Lists.{seats, listQuorum, listChoice}
+use Rattle.protocol.specs.Polls.{Poll, highestEpoch, inForce, quorumHeld, workedOn}
+use Rattle.protocol.specs.Calls.{Founding, Reading, Writing, Sending, Checking, Joining, Call, founding, join, read, write, send, check, Outcome, resultOf, questions, lent, outcome}
 
--- "In this order, each to the calls it names (2 and 3 to all but founding)": the numbers of the questions put to a call
+-- "In this order, each to the calls it names (2 and 3 to all but founding)" and joining: the numbers of the questions put to a call
 unfoldable pub numbersPut : Call → List ℕ
 numbersPut (founding a) = 11 ∷ 12 ∷ []
+numbersPut (join a) = 1 ∷ 13 ∷ 14 ∷ []
 numbersPut (read a) = 1 ∷ 2 ∷ 3 ∷ 4 ∷ 5 ∷ 6 ∷ 7 ∷ []
 numbersPut (write a) = 1 ∷ 2 ∷ 3 ∷ 4 ∷ 6 ∷ 7 ∷ 8 ∷ []
 numbersPut (send a) = 1 ∷ 2 ∷ 3 ∷ 9 ∷ 10 ∷ []
@@ -40,7 +48,7 @@ pub record Untouched (t : List ℕ) (k : Call) (o : Outcome) : Type 0 where
 unfoldable pub RefusalAltersNothing : Type 0
 RefusalAltersNothing = (t : List ℕ) (k : Call) → (outcome t k .refusal ≡ 0 → ⊥) → Untouched t k (outcome t k)
 
--- the call has an answering set R: every call but founding
+-- the call has an answering set R: every call but founding and joining
 pub data Answering : Call → ℕ → Type 0 where
   byRead : {a : Reading} → Answering (read a) (a .r)
   byWrite : {a : Writing} → Answering (write a) (a .r)
@@ -54,7 +62,7 @@ pub record OnlyRowsOf (r : ℕ) (t u : List ℕ) : Type 0 where
   pub rows : (i : ℕ) → Within (usedOf t) i → has r i ≡ false → rowBytes u i ≡ rowBytes t i
   pub rest : drop (rowsEnd t (usedOf t)) u ≡ drop (rowsEnd t (usedOf t)) t
 
--- "A done call, founding aside, alters only rows of machines that answered."
+-- "A done call, founding aside" and joining, "alters only rows of machines that answered."
 unfoldable pub AltersOnlyAnswered : Type 0
 AltersOnlyAnswered = (t : List ℕ) (k : Call) (r : ℕ) → Answering k r → outcome t k .refusal ≡ 0 → OnlyRowsOf r t (outcome t k .table)
 
@@ -80,12 +88,55 @@ UnansweredHaveNoPart = (t u : List ℕ) (k : Call) (r : ℕ) → Answering k r �
 -- "A check on a well-formed table that no founding leads to may leave one that question 1 turns down"; no other call may
 pub data NoCheck : Call → Type 0 where
   aFounding : {a : Founding} → NoCheck (founding a)
+  aJoin : {a : Joining} → NoCheck (join a)
   aRead : {a : Reading} → NoCheck (read a)
   aWrite : {a : Writing} → NoCheck (write a)
   aSend : {a : Sending} → NoCheck (send a)
 
 unfoldable pub StaysWellFormed : Type 0
 StaysWellFormed = (t : List ℕ) (k : Call) → NoCheck k → wellFormed t ≡ true → wellFormed (outcome t k .table) ≡ true
+
+-- ---- a row with an empty list
+-- it "is passed over in finding the highest epoch", whatever its own epoch says: of any poll, S without it has the same highest epoch and V
+unfoldable pub EmptyPassedOver : Type 0
+EmptyPassedOver = (p : Poll) (s : ℕ → Bool) (i : ℕ) → isEmpty (p .list i) ≡ true
+    → (highestEpoch p (losing s i) ≡ highestEpoch p s) × (inForce p (losing s i) ≡ inForce p s)
+
+-- it "has no choice, so its calls work on R"
+unfoldable pub EmptyWorksOnR : Type 0
+EmptyWorksOnR = (kind : Kind) (order : List ℕ) (p : Poll) (c a : ℕ) (r : ℕ → Bool) → isEmpty (p .list c) ≡ true → workedOn kind order p c a r ≡ r
+
+-- "If S has only such rows, question 6 is answered no."
+unfoldable pub OnlyEmptyRefused : Type 0
+OnlyEmptyRefused = (kind : Kind) (order : List ℕ) (p : Poll) (s : ℕ → Bool) → ((i : ℕ) → s i ≡ true → isEmpty (p .list i) ≡ true) → quorumHeld kind order p s ≡ false
+
+-- ---- joining
+-- what a done joining alters, byte for byte
+unfoldable pub JoinAlters : Type 0
+JoinAlters = (t : List ℕ) (a : Joining) → outcome t (join a) .refusal ≡ 0 → OneMore t (outcome t (join a) .table) (a .name)
+
+-- "is linked in name order": the chain is the old one with the new row before the next higher name; and so every list of rows that were used before
+-- keeps its positions, quorums and choices
+pub record KeepsLists (t u : List ℕ) (x : ℕ) : Type 0 where
+  pub order : orderOf u ≡ inserted (nameOf t) x (suc (usedOf t)) (orderOf t)
+  pub positions : (l : Laid) → l .members < 2 ^ usedOf t → seats (orderOf u) (has (l .members)) ≡ seats (orderOf t) (has (l .members))
+  pub quorums : (l : Laid) → l .members < 2 ^ usedOf t → (kind : Kind) (s : ℕ → Bool) → listQuorum kind (orderOf u) l s ≡ listQuorum kind (orderOf t) l s
+  pub choices : (l : Laid) → l .members < 2 ^ usedOf t → (kind : Kind) (a i : ℕ) → listChoice kind (orderOf u) l a i ≡ listChoice kind (orderOf t) l a i
+
+unfoldable pub JoinKeepsLists : Type 0
+JoinKeepsLists = (t : List ℕ) (a : Joining) → outcome t (join a) .refusal ≡ 0 → KeepsLists t (outcome t (join a) .table) (a .name)
+
+-- a joining sees header, names and links alone: two well-formed tables that are equal in these give it the same result, header, links and new row
+pub record JoinsAlike (t : List ℕ) (o p : Outcome) : Type 0 where
+  pub refusal : o .refusal ≡ p .refusal
+  pub value : o .value ≡ p .value
+  pub header : take 16 (o .table) ≡ take 16 (p .table)
+  pub names : (i : ℕ) → Within (usedOf (o .table)) i → nameOf (o .table) i ≡ nameOf (p .table) i
+  pub links : (i : ℕ) → Within (usedOf (o .table)) i → linkOf (o .table) i ≡ linkOf (p .table) i
+  pub new : o .refusal ≡ 0 → rowBytes (o .table) (suc (usedOf t)) ≡ rowBytes (p .table) (suc (usedOf t))
+
+unfoldable pub JoinSees : Type 0
+JoinSees = (t u : List ℕ) (a : Joining) → EqualIn 0 t u → JoinsAlike t (outcome t (join a)) (outcome u (join a))
 
 -- a founding's outcome does not hang on what lay in the table
 unfoldable pub FoundsOnAnything : Type 0

@@ -7,7 +7,7 @@ use Rattle.sets.specs.Upto.{some, lowest, most}
 use Rattle.sets.specs.Sets.{cutTo}
 use Rattle.quorums.specs.declared.Kind.{Kind}
 use Rattle.fields.specs.declared.Laid.{Laid}
-use Rattle.fields.specs.Layout.{noList, epochOf, listOf, staleOf, versionOf, desiredOf}
+use Rattle.fields.specs.Layout.{noList, isEmpty, epochOf, listOf, staleOf, versionOf, desiredOf}
 use Rattle.protocol.specs.Lists.{listQuorum, listChoice}
 
 -- "The state gathered by a poll is one value, with a place for each of the 64 rows."
@@ -30,13 +30,17 @@ polled t s = record {
 
 -- ---- of a set S of rows, by a poll
 module _ (p : Poll) (s : ℕ → Bool) where
+  -- the rows of S that have a list: "A row with an empty list is passed over in finding the highest epoch"
+  unfoldable pub listed : ℕ → Bool
+  listed i = s i && not (isEmpty (p .list i))
+
   -- "the highest epoch in S"
   unfoldable pub highestEpoch : ℕ
-  highestEpoch = most 64 s (p .epoch)
+  highestEpoch = most 64 listed (p .epoch)
 
   -- "V the list of the highest epoch in S": that of the lowest row that has it
   unfoldable pub inForce : Laid
-  inForce = p .list (lowest 64 (λ i. s i && eqb (p .epoch i) highestEpoch))
+  inForce = p .list (lowest 64 (λ i. listed i && eqb (p .epoch i) highestEpoch))
 
   unfoldable pub unmarked : ℕ → Bool
   unmarked i = s i && not (p .stale i)
@@ -58,9 +62,10 @@ module _ (p : Poll) (s : ℕ → Bool) where
 
 -- ---- questions 6 and 7, and the set worked on, for a chain order and a poll
 module _ (kind : Kind) (order : List ℕ) (p : Poll) where
-  -- "does S hold a read quorum of V; write, check: a write quorum?"; "For an empty P the answer to question 6 is no."
+  -- "does S hold a read quorum of V; write, check: a write quorum?"; "For an empty P the answer to question 6 is no", and "if S has only such
+  -- rows" as have an empty list
   unfoldable pub quorumHeld : (ℕ → Bool) → Bool
-  quorumHeld s = some 64 s && listQuorum kind order (inForce p s) s
+  quorumHeld s = some 64 (listed p s) && listQuorum kind order (inForce p s) s
 
   -- "P: c's own choice over c's own list, cut down to R", by c's name a
   unfoldable pub ownTry : ℕ → ℕ → (ℕ → Bool) → ℕ → Bool

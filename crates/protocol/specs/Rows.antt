@@ -1,10 +1,9 @@
--- Rows after a call: which fields of a row change, and which rows of the table.
+-- Rows after a call: which fields of a row change.
 use mathlib.Core.Bool.{Bool, cond}
 use mathlib.Core.List.{List}
 use Prim.Native.Nat.{ℕ}
-use Rattle.blocks.specs.Blocks.{withBlock, withBlocks}
 use Rattle.fields.specs.declared.Laid.{Laid}
-use Rattle.fields.specs.Layout.{get, store, mark, version, desired, epoch, storeList, contents, storeContents, rowLength}
+use Rattle.fields.specs.Layout.{get, store, mark, version, desired, epoch, storeList, contents, storeContents}
 
 -- "is marked and desires the new version"
 unfoldable pub markedRow : ℕ → List ℕ → List ℕ
@@ -21,14 +20,6 @@ enrolledRow e l row = storeList l (store epoch e row)
 -- "t takes f's contents and version; mark and desired become 0"
 unfoldable pub refreshedRow : List ℕ → List ℕ → List ℕ
 refreshedRow source row = storeContents 0 (contents source) (store desired 0 (store version (get version source) (store mark 0 row)))
-
--- the table with row i changed by f, and no other byte
-unfoldable pub withRow : List ℕ → ℕ → (List ℕ → List ℕ) → List ℕ
-withRow t i f = withBlock 16 (rowLength t) i f t
-
--- the table with each row i of s among 1 to n changed by f i, and no other byte
-unfoldable pub withRows : List ℕ → (ℕ → Bool) → (ℕ → List ℕ → List ℕ) → ℕ → List ℕ
-withRows t s f n = withBlocks 16 (rowLength t) s f n t
 
 -- "in each good row ..; every other row of S is marked and desires the new version"
 unfoldable pub wroteRow : (ℕ → Bool) → ℕ → ℕ → List ℕ → ℕ → List ℕ → List ℕ

@@ -12,14 +12,14 @@ use lib.Seq.{getD-drop, paste, paste-zero, paste-suc}
 use Rattle.sets.specs.Upto.{Within}
 use Rattle.bytes.specs.Bytes.{part, put}
 use Rattle.blocks.specs.Blocks.{withBlock}
-use Rattle.fields.specs.Layout.{get, store, mark, version, desired, contents, storeContents, usedOf, fileLengthOf, rowLength, rowsEnd, rowBytes}
+use Rattle.fields.specs.Layout.{get, store, mark, version, desired, contents, storeContents, usedOf, fileLengthOf, rowLength, rowsEnd, rowBytes, withRow}
 use Rattle.table.specs.Contracts.{Sized}
 use Rattle.bytes.proofs.ByteLaws.{length-part, part-part, length-put, put-before, put-after, part-apart, put-put}
 use Rattle.bytes.proofs.CodeLaws.{part-back, part-is, part-length}
 use Rattle.fields.proofs.FieldLaws.{contents-room, contents-part}
 use Rattle.table.proofs.WellFormedLaws.{row-in, row-part, length-row}
-use Rattle.protocol.specs.Rows.{refreshedRow, withRow}
-use Rattle.protocol.proofs.TableLaws.{end-le}
+use Rattle.protocol.specs.Rows.{refreshedRow}
+use Rattle.table.proofs.TableLaws.{end-le}
 
 -- ---- the first j bytes copied
 module _ (d : List ℕ) (from to n : ℕ) (hf : from + n ≤ length d) (ht : to + n ≤ length d) where

@@ -5,9 +5,9 @@ ghost use Prim.Native.Nat.{_+_, _≤_};
 ghost use lib.ListN.{length};
 ghost use Rattle.sets.specs.Upto.{Within};
 ghost use Rattle.bytes.specs.Bytes.{part, put};
-ghost use Rattle.fields.specs.Layout.{store, mark, version, desired, usedOf, rowBytes};
+ghost use Rattle.fields.specs.Layout.{store, mark, version, desired, usedOf, rowBytes, withRow};
 ghost use Rattle.table.specs.Contracts.{Sized};
-ghost use Rattle.protocol.specs.Rows.{refreshedRow, withRow};
+ghost use Rattle.protocol.specs.Rows.{refreshedRow};
 
 // A row is unmarked, has a version and desires none.
 fn renew_row(row: &mut [u8], v: u32)

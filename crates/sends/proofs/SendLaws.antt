@@ -7,10 +7,10 @@ use lib.Dec.{eqb, leb}
 use Rattle.sets.specs.Upto.{Within}
 use Rattle.sets.specs.Sets.{has}
 use Rattle.bools.proofs.BoolLaws.{and-l, and-r}
-use Rattle.fields.specs.Layout.{get, version, usedOf, staleOf, versionOf, desiredOf, rowBytes}
+use Rattle.fields.specs.Layout.{get, version, usedOf, staleOf, versionOf, desiredOf, rowBytes, withRow}
 use Rattle.table.specs.WellFormed.{between, onlyRows, wellFormed}
 use Rattle.table.proofs.FormLaws.{between-is}
-use Rattle.protocol.specs.Rows.{withRow, refreshedRow}
+use Rattle.protocol.specs.Rows.{refreshedRow}
 use Rattle.asking.specs.Asking.{firstNo}
 use Rattle.protocol.specs.Calls.{Sending, Outcome, send, questions, isUsed, done, outcome, resultOf}
 use Rattle.protocol.proofs.QuestionLaws.{refusal-is, when-done}

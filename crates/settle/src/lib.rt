@@ -8,12 +8,11 @@ use verdicts::judged;
 use verdicts::quorum_held;
 use verdicts::told;
 ghost use mathlib.Core.Path.{_≡_};
-ghost use mathlib.Core.Bool.{true, cond, _&&_};
+ghost use mathlib.Core.Bool.{true, not, cond, _&&_};
 ghost use Prim.Native.Nat.{_^_, _<_};
 ghost use lib.ListN.{take};
-ghost use Rattle.sets.specs.Upto.{some};
 ghost use Rattle.sets.specs.Sets.{has};
-ghost use Rattle.fields.specs.Layout.{usedOf};
+ghost use Rattle.fields.specs.Layout.{isEmpty, usedOf};
 ghost use Rattle.table.specs.WellFormed.{wellFormed};
 ghost use Rattle.table.specs.Contracts.{Listed, Ordered};
 ghost use Rattle.protocol.specs.Lists.{listQuorum};
@@ -49,8 +48,8 @@ fn passes(
     current: bool,
     sure: bool,
 ) -> bool
-    requires { ⌜ Listed count (now order) count × (current ≡ true → sure ≡ true → (some 64 (has (s .bits)) && listQuorum kind (take count (now order)) list (has (s .bits))) ≡ true) ⌝ }
-    ensures { λ r. ⌜ r ≡ (current && (some 64 (has (s .bits)) && listQuorum kind (take count (now (order .entry))) list (has (s .bits)))) ⌝ }
+    requires { ⌜ Listed count (now order) count × (current ≡ true → sure ≡ true → (not (isEmpty list) && listQuorum kind (take count (now order)) list (has (s .bits))) ≡ true) ⌝ }
+    ensures { λ r. ⌜ r ≡ (current && (not (isEmpty list) && listQuorum kind (take count (now (order .entry))) list (has (s .bits)))) ⌝ }
 {
     if !current {
         return false;
@@ -64,7 +63,7 @@ fn passes(
 // All rows that answered are worked on, with what questions 6 and 7 say of them.
 fn on_all(kind: Kind, order: &[u8; 64], count: usize, answering: RowSet, whole: Verdict) -> Settled
     requires { ⌜ Listed count (now order) count ⌝ }
-    ensures { λ r. ⌜ r ≡ record { rows = answering; refusal = cond (some 64 (has (answering .bits)) && listQuorum kind (take count (now (order .entry))) (whole .list) (has (answering .bits))) (cond (whole .current) 0 7) 6; good = whole .good; version = whole .version } ⌝ }
+    ensures { λ r. ⌜ r ≡ record { rows = answering; refusal = cond (not (isEmpty (whole .list)) && listQuorum kind (take count (now (order .entry))) (whole .list) (has (answering .bits))) (cond (whole .current) 0 7) 6; good = whole .good; version = whole .version } ⌝ }
 {
     let no = asked(kind, order, count, whole.list, answering, whole.current);
     settled_on(answering, no, whole)

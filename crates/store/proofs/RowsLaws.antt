@@ -16,10 +16,9 @@ use Rattle.bytes.specs.Bytes.{part, put}
 use Rattle.bytes.proofs.CodeLaws.{part-back, part-is, part-length}
 use Rattle.blocks.specs.Blocks.{block, withBlock, withBlocks}
 use Rattle.blocks.proofs.BlockLaws.{ends, Altered, blocks-changed, none-changed, one-more}
-use Rattle.fields.specs.Layout.{usedOf, rowLength, rowsEnd, rowBytes}
+use Rattle.fields.specs.Layout.{usedOf, rowLength, rowsEnd, rowBytes, withRows}
 use Rattle.table.specs.Contracts.{Sized}
 use Rattle.table.proofs.WellFormedLaws.{header, rows-in}
-use Rattle.protocol.specs.Rows.{withRows}
 
 -- u is t with the used rows of p changed by f, each as long as before
 pub record Done (t : List ℕ) (f : ℕ → List ℕ → List ℕ) (size : ℕ) (p : ℕ → Bool) (u : List ℕ) : Type 0 where

@@ -6,9 +6,9 @@ ghost use Prim.Native.Nat.{ℕ, _+_, _≤_};
 ghost use lib.ListN.{length};
 ghost use Rattle.sets.specs.Upto.{Within};
 ghost use Rattle.sets.specs.Sets.{has};
-ghost use Rattle.fields.specs.Layout.{usedOf, rowLength};
+ghost use Rattle.fields.specs.Layout.{usedOf, rowLength, withRows};
 ghost use Rattle.table.specs.Contracts.{Sized};
-ghost use Rattle.protocol.specs.Rows.{markedRow, patchedRow, withRows, wroteRow};
+ghost use Rattle.protocol.specs.Rows.{markedRow, patchedRow, wroteRow};
 
 // A row is marked and desires a version.
 pub fn mark_row(row: &mut [u8], desired: u32)

@@ -48,11 +48,15 @@ module _ (t : List ℕ) (e : wellFormed t ≡ true) where
   visits = search (and-l, and-r)
 
   -- it is the whole chain
-  order-path : orderOf t ≡ chain (linkOf t) (suc (usedOf t)) (firstOf t)
+  pub order-path : orderOf t ≡ chain (linkOf t) (suc (usedOf t)) (firstOf t)
   unfolding orderOf visitsEach
   order-path =
       let n : length (chain (linkOf t) (suc (usedOf t)) (firstOf t)) ≡ usedOf t = eqb-true _ _ (and-l _ _ visits) in
       chain-start (linkOf t) (usedOf t) (firstOf t) ∙ take-all (usedOf t) (chain (linkOf t) (suc (usedOf t)) (firstOf t)) (omega arith)
+
+  pub order-length : length (orderOf t) ≡ usedOf t
+  unfolding visitsEach
+  order-length = ap length order-path ∙ eqb-true _ _ (and-l _ _ visits)
 
   pub order-each : (i : ℕ) → Within (usedOf t) i → among (orderOf t) i ≡ true
   unfolding visitsEach

@@ -5,7 +5,7 @@ use Prim.Native.Nat.{ℕ}
 use lib.Dec.{eqb, ltb}
 use Rattle.sets.specs.Upto.{some, most}
 use Rattle.sets.specs.Sets.{has, cutTo, leftOf}
-use Rattle.protocol.specs.Polls.{Poll, highestEpoch, unmarked, marked, goodVersion, good, current}
+use Rattle.protocol.specs.Polls.{Poll, unmarked, marked, goodVersion, good, current}
 use Rattle.polls.specs.declared.Poll as code
 use Rattle.polls.specs.Shows.{Shows}
 use Rattle.places.specs.declared.Top.{Top}
@@ -44,19 +44,13 @@ module _ (q : code.Poll) (p : Poll) (shown : Shows q p) (s : ℕ → Bool) where
         (ap₂ (λ (v : ℕ → Bool) (f : ℕ → ℕ). some 64 (λ (i : ℕ). v i && ltb (b .value) (f i))) (em ∙ marked-is) (shown .desired)
         ∙ ap (λ (x : ℕ). some 64 (λ (i : ℕ). marked p s i && ltb x (p .desired i))) version-is)
 
-    pub tallied : (m : ℕ → Bool) (lacking passed is : Bool) (l : Top) → m ≡ cutTo s (has (q .stale .bits))
+    pub tallied : (m : ℕ → Bool) (lacking passed is : Bool) → m ≡ cutTo s (has (q .stale .bits))
         → passed ≡ some 64 (λ (i : ℕ). m i && ltb (b .value) (placed (q .desired) i))
         → lacking ≡ not (some 64 (has (b .rows .bits)))
         → is ≡ (not lacking && not passed)
-        → Tops s (placed (q .epochs)) l
-        → Tallied p s (record { good = b .rows; version = b .value; current = is; epoch = l .value; leaders = l .rows })
-    unfolding highestEpoch
-    tallied m lacking passed is l em ep el ei latest =
-        let epoch : l .value ≡ highestEpoch p s = latest .value ∙ ap (most 64 s) (shown .epochs) in
-        record {
-          good = good-is;
-          version = version-is;
-          current = ei ∙ ap₂ (λ (x y : Bool). not x && not y) el ep ∙ current-is m em;
-          epoch = epoch;
-          leaders = latest .rows ∙ ap₂ {C = ℕ → Bool} (λ (f : ℕ → ℕ) (n : ℕ) (i : ℕ). s i && eqb (f i) n) (shown .epochs) epoch;
-        }
+        → Tallied p s (record { good = b .rows; version = b .value; current = is })
+    tallied m lacking passed is em ep el ei = record {
+      good = good-is;
+      version = version-is;
+      current = ei ∙ ap₂ (λ (x y : Bool). not x && not y) el ep ∙ current-is m em;
+    }

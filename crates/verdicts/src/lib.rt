@@ -4,29 +4,35 @@ use fields::Laid;
 use quorums::Kind;
 use rows::RowSet;
 ghost use mathlib.Core.Path.{_≡_};
-ghost use mathlib.Core.Bool.{true, cond, _&&_};
+ghost use mathlib.Core.Bool.{true, not, cond, _&&_};
+ghost use mathlib.Core.List.{List};
 ghost use Prim.Native.Nat.{ℕ, _^_, _<_};
 ghost use lib.ListN.{take};
-ghost use Rattle.sets.specs.Upto.{Within, some, lowest};
+ghost use Rattle.sets.specs.Upto.{Within, lowest};
 ghost use Rattle.sets.specs.Sets.{has};
-ghost use Rattle.fields.specs.Layout.{usedOf, listOf};
+ghost use Rattle.fields.specs.Layout.{isEmpty, usedOf, listOf};
 ghost use Rattle.table.specs.Contracts.{Sized, Listed};
 ghost use Rattle.protocol.specs.Lists.{listQuorum};
 ghost use Rattle.protocol.specs.Polls.{Poll};
 ghost use Rattle.protocol.specs.Calls.{answers};
+ghost use Rattle.places.specs.Places.{placed};
 ghost use Rattle.polls.specs.Shows.{Shows};
-ghost use Rattle.verdicts.specs.Judged.{pollOf, Tallied, Judged};
+ghost use Rattle.verdicts.specs.Judged.{pollOf, withLists, Tallied, Led, Forced, Judged};
 
-// Of a set, by a poll: its good rows, their version, is it current, the highest epoch, the rows that have it.
+// Of a set, by a poll: its good rows, their version, is it current.
 struct Tally {
     good: RowSet,
     version: u32,
     current: bool,
-    epoch: u32,
-    leaders: RowSet,
 }
 
-// The same with the list in force, V.
+// Of a set: the highest epoch of its rows that have a list, and the list in force, V.
+struct Force {
+    epoch: u32,
+    list: Laid,
+}
+
+// Both of a set.
 pub struct Verdict {
     pub good: RowSet,
     pub version: u32,
@@ -36,27 +42,17 @@ pub struct Verdict {
 }
 
 // What a poll says of a set of rows. The arrays are those of the poll.
-fn tally_of<'a>(
-    stale: RowSet,
-    versions: &'a [u32; 64],
-    desired: &'a [u32; 64],
-    epochs: &'a [u32; 64],
-    s: RowSet,
-) -> Tally
-    ensures { λ r. ⌜ ((i : ℕ) → has (r .leaders .bits) i ≡ true → has (s .bits) i ≡ true) × ((p : Poll) → Shows (pollOf stale (now (versions .entry)) (now (desired .entry)) (now (epochs .entry))) p → Tallied p (has (s .bits)) r) ⌝ }
+fn tally_of<'a>(stale: RowSet, versions: &'a [u32; 64], desired: &'a [u32; 64], s: RowSet) -> Tally
+    ensures { λ r. ⌜ ((p : Poll) → (epochs : List ℕ) → Shows (pollOf stale (now (versions .entry)) (now (desired .entry)) epochs) p → Tallied p (has (s .bits)) r) ⌝ }
 {
     let best = places::best(versions, s.outside(stale));
     let passed = places::above(desired, s.cut(stale), best.value);
     let good = best.rows;
     let lacking = good.is_empty();
-    let latest = places::best(epochs, s);
-    let leaders = latest.rows;
     Tally {
         good: good,
         version: best.value,
         current: both(!lacking, !passed),
-        epoch: latest.value,
-        leaders: leaders,
     }
 }
 
@@ -72,6 +68,49 @@ fn list_of(t: &[u8], leaders: RowSet) -> Laid
     fields::list(table::row_of(t, leader))
 }
 
+// The highest epoch of some rows, and the list of the lowest that has it.
+fn lead(t: &[u8], epochs: &[u32; 64], s: RowSet) -> Force
+    requires { ⌜ Sized (now t) × ((i : ℕ) → has (s .bits) i ≡ true → Within (usedOf (now t)) i) ⌝ }
+    ensures { λ r. ⌜ Led (now (t .entry)) (placed (now (epochs .entry))) (has (s .bits)) r ⌝ }
+{
+    let latest = places::best(epochs, s);
+    let leaders = latest.rows;
+    Force {
+        epoch: latest.value,
+        list: list_of(t, leaders),
+    }
+}
+
+// Those of some rows that have a list.
+fn listed(t: &[u8], s: RowSet) -> RowSet
+    requires { ⌜ Sized (now t) × (s .bits < 2 ^ usedOf (now t)) ⌝ }
+    ensures { λ r. ⌜ has (r .bits) ≡ withLists (now (t .entry)) (has (s .bits)) ⌝ }
+{
+    let mut out = RowSet::EMPTY;
+    let mut left = s;
+    while !left.is_empty() {
+        let i = left.lowest();
+        let list = fields::list(table::row_of(t, i));
+        out = out.gain(i, !list.is_empty());
+        left = left.rest();
+    }
+    out
+}
+
+// The list in force among some rows, and its epoch: rows without a list are passed over. Where the row that leads them all has one,
+// it leads those that have a list.
+fn force_of(t: &[u8], epochs: &[u32; 64], s: RowSet) -> Force
+    requires { ⌜ Sized (now t) × (s .bits < 2 ^ usedOf (now t)) ⌝ }
+    ensures { λ r. ⌜ ((a : ℕ) → ((i : ℕ) → has (s .bits) i ≡ true → has a i ≡ true) → placed (now (epochs .entry)) ≡ answers (now (t .entry)) a .epoch → Forced (answers (now (t .entry)) a) (has (s .bits)) r) ⌝ }
+{
+    let force = lead(t, epochs, s);
+    if !force.list.is_empty() {
+        return force;
+    }
+    let rows = listed(t, s);
+    lead(t, epochs, rows)
+}
+
 // What a poll of some rows says of a set of them. The arrays are those of the poll.
 pub fn told<'a>(
     t: &[u8],
@@ -84,15 +123,16 @@ pub fn told<'a>(
     requires { ⌜ Sized (now t) × (s .bits < 2 ^ usedOf (now t)) ⌝ }
     ensures { λ v. ⌜ ((r : ℕ) → ((i : ℕ) → has (s .bits) i ≡ true → has r i ≡ true) → Shows (pollOf stale (now (versions .entry)) (now (desired .entry)) (now (epochs .entry))) (answers (now (t .entry)) r) → Judged (answers (now (t .entry)) r) (has (s .bits)) v) ⌝ }
 {
-    let found = tally_of(stale, versions, desired, epochs, s);
+    let found = tally_of(stale, versions, desired, s);
+    let force = force_of(t, epochs, s);
     let good = found.good;
-    let leaders = found.leaders;
+    let list = force.list;
     Verdict {
         good: good,
         version: found.version,
         current: found.current,
-        epoch: found.epoch,
-        list: list_of(t, leaders),
+        epoch: force.epoch,
+        list: list,
     }
 }
 
@@ -112,12 +152,12 @@ pub fn judged(t: &[u8], s: RowSet) -> Verdict
     )
 }
 
-// Question 6: does a set hold a quorum of a list? An empty one does not.
+// Question 6: does a set hold a quorum of a list? Of an empty one none does.
 pub fn quorum_held(kind: Kind, order: &[u8; 64], count: usize, list: Laid, s: RowSet) -> bool
     requires { ⌜ Listed count (now order) count ⌝ }
-    ensures { λ r. ⌜ r ≡ (some 64 (has (s .bits)) && listQuorum kind (take count (now (order .entry))) list (has (s .bits))) ⌝ }
+    ensures { λ r. ⌜ r ≡ (not (isEmpty list) && listQuorum kind (take count (now (order .entry))) list (has (s .bits))) ⌝ }
 {
-    if s.is_empty() {
+    if list.is_empty() {
         return false;
     }
     lists::quorum(kind, order, count, list, s)
@@ -133,7 +173,7 @@ pub fn asked(
     current: bool,
 ) -> u32
     requires { ⌜ Listed count (now order) count ⌝ }
-    ensures { λ r. ⌜ r ≡ cond (some 64 (has (s .bits)) && listQuorum kind (take count (now (order .entry))) list (has (s .bits))) (cond current 0 7) 6 ⌝ }
+    ensures { λ r. ⌜ r ≡ cond (not (isEmpty list) && listQuorum kind (take count (now (order .entry))) list (has (s .bits))) (cond current 0 7) 6 ⌝ }
 {
     if !quorum_held(kind, order, count, list, s) {
         return 6;

@@ -10,12 +10,12 @@ use Rattle.sets.specs.Upto.{Within}
 use Rattle.sets.specs.Sets.{has}
 use Rattle.sets.proofs.SetLaws.{has-within}
 use Rattle.quorums.specs.declared.Kind.the-variants.{Write}
-use Rattle.fields.specs.Layout.{usedOf, nameOf, rowLength}
+use Rattle.fields.specs.Layout.{usedOf, nameOf, rowLength, withRows}
 use Rattle.fields.proofs.FieldLaws.{contents-room}
 use Rattle.table.specs.Chain.{orderOf}
 use Rattle.table.specs.WellFormed.{limit}
 use Rattle.protocol.specs.Polls.{goodVersion, good, current, quorumHeld}
-use Rattle.protocol.specs.Rows.{withRows, wroteRow}
+use Rattle.protocol.specs.Rows.{wroteRow}
 use Rattle.asking.specs.Asking.{firstNo}
 use Rattle.protocol.specs.Calls.{Writing, Outcome, write, questions, answers, workSet, done, outcome, resultOf}
 use Rattle.protocol.proofs.PollLaws.{worked-in}

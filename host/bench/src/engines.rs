@@ -10,6 +10,7 @@ pub trait Calls {
     fn write(&self, table: &mut [u8], coordinator: u64, answering: u64, offset: u64, patch: &[u8]) -> u64;
     fn send(&self, table: &mut [u8], from: u64, to: u64, answering: u64) -> u64;
     fn check(&self, table: &mut [u8], coordinator: u64, answering: u64) -> u64;
+    fn join(&self, table: &mut [u8], name: u16) -> u64;
 }
 
 pub struct Library;
@@ -53,6 +54,10 @@ impl Calls for Library {
     fn check(&self, table: &mut [u8], coordinator: u64, answering: u64) -> u64 {
         unsafe { raw::grid_check(table.as_mut_ptr(), table.len(), coordinator, answering) }
     }
+
+    fn join(&self, table: &mut [u8], name: u16) -> u64 {
+        unsafe { raw::grid_join(table.as_mut_ptr(), table.len(), name) }
+    }
 }
 
 impl Calls for Engine {
@@ -74,5 +79,9 @@ impl Calls for Engine {
 
     fn check(&self, table: &mut [u8], coordinator: u64, answering: u64) -> u64 {
         Engine::check(self, table, coordinator, answering)
+    }
+
+    fn join(&self, table: &mut [u8], name: u16) -> u64 {
+        Engine::join(self, table, name)
     }
 }

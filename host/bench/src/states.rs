@@ -9,7 +9,9 @@ pub struct State {
     pub title: String,
     pub size: Size,
     pub table: Vec<u8>,
-    /// The rows that answer reads, writes and checks; row 1, which coordinates, is one of them.
+    /// The row that coordinates reads, writes and checks.
+    pub coordinator: u64,
+    /// The rows that answer them, the coordinator's among them.
     pub answering: u64,
     pub tasks: &'static [Task],
 }
@@ -30,17 +32,28 @@ const SIZES: [Size; 3] = [
 const SPARSE: Size = Size { title: "5 of 64 rows used, 4,096 bytes", used: 5, capacity: 64, file_len: 4096 };
 
 const SOME_TASKS: &[Task] = &[Task::Read(16), Task::Write(16), Task::Send, Task::CheckSame];
+const SPARSE_TASKS: &[Task] = &[Task::Read(16), Task::Write(16), Task::Send, Task::CheckSame, Task::Join];
 const READ_AND_WRITE: &[Task] = &[Task::Read(16), Task::Write(16)];
+const READ_WRITE_AND_CHECK: &[Task] = &[Task::Read(16), Task::Write(16), Task::CheckSame];
 
 /// Every state, small tables first.
 pub fn all() -> Vec<State> {
     let mut states: Vec<State> = SIZES
         .into_iter()
         .flat_map(|size| {
-            [founded(size), two_epochs(size), falling_rows(size), partial_list(size), few_answering(size)]
+            [
+                founded(size),
+                two_epochs(size),
+                falling_rows(size),
+                partial_list(size),
+                few_answering(size),
+                one_row_left(size),
+                joined(size),
+                joined_coordinates(size),
+            ]
         })
         .collect();
-    states.push(State { tasks: SOME_TASKS, ..founded(SPARSE) });
+    states.push(State { tasks: SPARSE_TASKS, ..founded(SPARSE) });
     for state in &states {
         assert!(Table::decode(&state.table).is_some(), "{}: malformed", state.title);
     }
@@ -62,14 +75,16 @@ impl Size {
     }
 }
 
-fn name(rank: usize) -> [u8; 2] {
+/// The name of so high a rank, two bytes; between two of them there is room.
+pub fn name(rank: usize) -> [u8; 2] {
     (1000 * rank as u16).to_le_bytes()
 }
 
 fn founded(size: Size) -> State {
     let mut table = vec![0; Table::length(size.capacity, size.file_len)];
     Engine::default().found(&mut table, size.capacity as u64, size.file_len as u64, &size.names());
-    State { title: size.title("founded"), size, table, answering: rows::first(size.used), tasks: &EVERY_TASK }
+    let answering = rows::first(size.used);
+    State { title: size.title("founded"), size, table, coordinator: 1, answering, tasks: &EVERY_TASK }
 }
 
 /// The odd rows are a list of their own with a higher epoch, so that no two neighbours are of one epoch.
@@ -119,4 +134,29 @@ fn few_answering(size: Size) -> State {
         assert!(layout.holds(quorum, answering) && !layout.holds(quorum, choice & answering));
     }
     State { title: size.title("a quorum answers"), answering, tasks: READ_AND_WRITE, ..founded(size) }
+}
+
+/// Founded with one row less than there are.
+fn one_row_left(size: Size) -> State {
+    let size = Size { used: size.used - 1, ..size };
+    State { title: size.title("one row left"), tasks: &[Task::Join], ..founded(size) }
+}
+
+/// A quarter of the machines joined, each behind a founded one, and no check took them in; the list in force answers.
+fn joined(size: Size) -> State {
+    let listed = Size { used: size.used - size.used / 4, ..size };
+    let mut state = founded(listed);
+    for rank in 1..=size.used / 4 {
+        let name = u16::from_le_bytes(name(rank)) + 1;
+        let result = Engine::default().join(&mut state.table, name);
+        assert_eq!(result, (listed.used + rank) as u64, "the joining was refused");
+    }
+    State { title: size.title("a quarter joined"), size, tasks: READ_WRITE_AND_CHECK, ..state }
+}
+
+/// The same table; a joined row coordinates, so that the call works on all that answered, and all do.
+fn joined_coordinates(size: Size) -> State {
+    let title = size.title("a joined row coordinates");
+    let (coordinator, answering) = (size.used as u64, rows::first(size.used));
+    State { title, coordinator, answering, tasks: READ_AND_WRITE, ..joined(size) }
 }

@@ -1,7 +1,7 @@
 //! The calls that are timed.
 
 use crate::engines::Calls;
-use crate::states::State;
+use crate::states::{self, State};
 use reference::rows;
 use std::fmt;
 use std::hint::black_box;
@@ -20,6 +20,8 @@ pub enum Task {
     RefusedSend,
     CheckSame,
     CheckNew,
+    /// In the middle of the chain of a founded table.
+    Join,
 }
 
 pub const EVERY_TASK: [Task; 9] = [
@@ -46,6 +48,7 @@ impl fmt::Display for Task {
             Task::RefusedSend => f.write_str("send, refused"),
             Task::CheckSame => f.write_str("check, same list"),
             Task::CheckNew => f.write_str("check, new list"),
+            Task::Join => f.write_str("join"),
         }
     }
 }
@@ -61,7 +64,7 @@ impl Task {
 
     /// Makes `calls` calls on a fresh copy of the table; gives the time of all, the table and the last result.
     pub fn run(self, engine: &impl Calls, state: &State, calls: u32) -> (Duration, Vec<u8>, u64) {
-        let State { size, answering, .. } = *state;
+        let State { size, coordinator, answering, .. } = *state;
         let mut table = state.table.clone();
         let (all, but_one) = (answering, answering & !rows::only(size.used));
         let names = size.names();
@@ -70,6 +73,8 @@ impl Task {
             _ => Vec::new(),
         };
         let (one, two) = (size.row_at(1), size.row_at(2));
+        let (middle, next) = (size.used / 2, size.used + 1);
+        let name = u16::from_le_bytes(states::name(middle)) + 1;
         if let Task::Send = self {
             // Row 1 has version 1; row 2 is behind it.
             table[one + 4] = 1;
@@ -84,16 +89,21 @@ impl Task {
                     size.file_len as u64,
                     black_box(&names),
                 ),
-                Task::Read(_) => engine.read(black_box(&table), 1, all, 0, black_box(&mut bytes)),
-                Task::Write(_) => engine.write(black_box(&mut table), 1, all, 0, black_box(&bytes)),
+                Task::Read(_) => engine.read(black_box(&table), coordinator, all, 0, black_box(&mut bytes)),
+                Task::Write(_) => engine.write(black_box(&mut table), coordinator, all, 0, black_box(&bytes)),
                 Task::Send => {
                     make_stale(&mut table, two);
                     engine.send(black_box(&mut table), 1, 2, 3)
                 }
                 Task::RefusedSend => engine.send(black_box(&mut table), 1, 2, 3),
-                Task::CheckSame => engine.check(black_box(&mut table), 1, all),
+                Task::CheckSame => engine.check(black_box(&mut table), coordinator, all),
                 Task::CheckNew => {
-                    engine.check(black_box(&mut table), 1, if call % 2 == 0 { but_one } else { all })
+                    let set = if call % 2 == 0 { but_one } else { all };
+                    engine.check(black_box(&mut table), coordinator, set)
+                }
+                Task::Join => {
+                    unjoin(&mut table, size.row_at(middle), size.row_at(next));
+                    engine.join(black_box(&mut table), name)
                 }
             };
             assert!(black_box(result) >> 32 == self.refusal(), "{}: {self} has another refusal", state.title);
@@ -106,4 +116,13 @@ impl Task {
 /// Marks the row that begins here: version 0, desiring version 1.
 fn make_stale(table: &mut [u8], row: usize) {
     table[row + 3..row + 12].copy_from_slice(&[1, 0, 0, 0, 0, 1, 0, 0, 0]);
+}
+
+/// Takes the row that begins at `joined` out of the chain, if it is in; it comes behind the row that begins at `before`.
+fn unjoin(table: &mut [u8], before: usize, joined: usize) {
+    if table[joined + 2] != 0 {
+        table[2] -= 1;
+        table[before + 2] = table[joined + 2];
+        table[joined..joined + 3].fill(0);
+    }
 }

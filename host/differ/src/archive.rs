@@ -29,7 +29,7 @@ impl Archive {
             Call::Found { names, .. } => names,
             Call::Read { buffer, .. } => buffer,
             Call::Write { patch, .. } => patch,
-            Call::Send { .. } | Call::Check { .. } => &[],
+            Call::Send { .. } | Call::Check { .. } | Call::Join { .. } => &[],
         };
         self.table.place(table, self.edge);
         self.list.place(lent, self.edge);
@@ -70,6 +70,7 @@ impl Archive {
                 Call::Check { coordinator, answering } => {
                     raw::grid_check(table, table_len, coordinator, answering)
                 }
+                Call::Join { name } => raw::grid_join(table, table_len, name),
             }
         }
     }

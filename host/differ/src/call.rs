@@ -10,6 +10,7 @@ pub enum Call {
     Write { coordinator: u64, answering: u64, offset: u64, patch: Vec<u8> },
     Send { from: u64, to: u64, answering: u64 },
     Check { coordinator: u64, answering: u64 },
+    Join { name: u16 },
 }
 
 /// What a call gave: its result, and the bytes that its buffer then holds (empty but for a read).
@@ -20,7 +21,7 @@ pub struct Answer {
 }
 
 impl Call {
-    pub const KINDS: [&'static str; 5] = ["found", "read", "write", "send", "check"];
+    pub const KINDS: [&'static str; 6] = ["found", "read", "write", "send", "check", "join"];
 
     /// Its place in `KINDS`.
     pub fn kind(&self) -> usize {
@@ -30,13 +31,14 @@ impl Call {
             Call::Write { .. } => 2,
             Call::Send { .. } => 3,
             Call::Check { .. } => 4,
+            Call::Join { .. } => 5,
         }
     }
 
-    /// The rows that answered; none for a founding.
+    /// The rows that answered; nobody is asked in a founding or a joining.
     pub fn answering(&self) -> Option<u64> {
         match *self {
-            Call::Found { .. } => None,
+            Call::Found { .. } | Call::Join { .. } => None,
             Call::Read { answering, .. }
             | Call::Write { answering, .. }
             | Call::Send { answering, .. }
@@ -47,7 +49,7 @@ impl Call {
     /// Lets only these rows answer.
     pub fn cut_down(&mut self, rows: u64) {
         match self {
-            Call::Found { .. } => {}
+            Call::Found { .. } | Call::Join { .. } => {}
             Call::Read { answering, .. }
             | Call::Write { answering, .. }
             | Call::Send { answering, .. }
@@ -69,6 +71,7 @@ impl Call {
             }
             Call::Send { from, to, answering } => engine.send(table, *from, *to, *answering),
             Call::Check { coordinator, answering } => engine.check(table, *coordinator, *answering),
+            Call::Join { name } => engine.join(table, *name),
         };
         Answer { result, buffer: lent }
     }
@@ -94,6 +97,7 @@ impl fmt::Display for Call {
             Call::Check { coordinator, answering } => {
                 write!(f, "grid_check(coordinator {coordinator}, answering {})", set_shown(*answering))
             }
+            Call::Join { name } => write!(f, "grid_join(name {name})"),
         }
     }
 }

@@ -14,10 +14,11 @@ enum Needs {
     /// A number that is no used row, but has a bit in a list.
     FewerThan64,
     UnusedRow,
+    ThirdRow,
 }
-use Needs::{FewerThan64, Nothing, UnusedRow};
+use Needs::{FewerThan64, Nothing, ThirdRow, UnusedRow};
 
-const RULES: [(&str, Needs, Damage); 32] = [
+const RULES: [(&str, Needs, Damage); 42] = [
     ("empty", Nothing, |bytes, _, _| bytes.clear()),
     ("truncated", Nothing, |bytes, _, random| bytes.truncate(random.between(1, bytes.len() - 2))),
     ("a byte short", Nothing, |bytes, _, _| bytes.truncate(bytes.len() - 1)),
@@ -106,6 +107,50 @@ const RULES: [(&str, Needs, Damage); 32] = [
         put_epoch(bytes, table, one, FREE_EPOCH, table.all_used());
         put_epoch(bytes, table, other, FREE_EPOCH, table.all_used() & !rows::only(one));
     }),
+    ("one epoch, two lists and an empty one", ThirdRow, |bytes, table, random| {
+        let mut rows: Vec<usize> = (1..=table.used).collect();
+        random.shuffle(&mut rows);
+        put_epoch(bytes, table, rows[0], FREE_EPOCH, table.all_used());
+        put_epoch(bytes, table, rows[1], FREE_EPOCH, 0);
+        put_epoch(bytes, table, rows[2], FREE_EPOCH, table.all_used() & !rows::only(rows[1]));
+    }),
+    ("joined row, name 0", Nothing, |bytes, table, random| {
+        let row = unlisted_row(bytes, table, random);
+        put(bytes, table, row, 0, &[0, 0]);
+    }),
+    ("joined row, mark above 1", Nothing, |bytes, table, random| {
+        let row = unlisted_row(bytes, table, random);
+        put(bytes, table, row, 3, &[2]);
+    }),
+    ("joined row, version above the limit", Nothing, |bytes, table, random| {
+        let row = unlisted_row(bytes, table, random);
+        put_numbers(bytes, table, row, 0, LIMIT + 1, 0);
+    }),
+    ("joined row, epoch above the limit", Nothing, |bytes, table, random| {
+        put_epoch(bytes, table, any_row(table, random), LIMIT + 1, 0);
+    }),
+    ("joined row, desired without the mark", Nothing, |bytes, table, random| {
+        let row = unlisted_row(bytes, table, random);
+        put_numbers(bytes, table, row, 0, 0, random.pick(&[1, LIMIT]));
+    }),
+    ("joined row, desired not above the version", Nothing, |bytes, table, random| {
+        let version = random.pick(&[0, 5]);
+        let row = unlisted_row(bytes, table, random);
+        put_numbers(bytes, table, row, 1, version, version);
+    }),
+    ("joined row not zero", Nothing, |bytes, table, random| {
+        let row = unlisted_row(bytes, table, random);
+        put(bytes, table, row, random.between(24, 31), &[1]);
+    }),
+    ("joined row, list of another row", Nothing, |bytes, table, random| {
+        let row = any_row(table, random);
+        let other = random.row(table.all_used() & !rows::only(row));
+        put_epoch(bytes, table, row, random.pick(&[0, FREE_EPOCH]), rows::only(other));
+    }),
+    ("joined row, list of an unused row", FewerThan64, |bytes, table, random| {
+        let unused = random.between(table.used + 1, 64);
+        put_epoch(bytes, table, any_row(table, random), FREE_EPOCH, rows::only(unused));
+    }),
     ("row not zero", Nothing, |bytes, table, random| {
         let value = random.pick(&[1, 128, 255]);
         put(bytes, table, any_row(table, random), random.between(24, 31), &[value]);
@@ -141,14 +186,22 @@ fn damaged_by(random: &mut Random, rule: usize) -> (Picture, Vec<u8>) {
 
 /// In half of the cases every row is used.
 fn size(random: &mut Random, needs: Needs) -> Size {
-    let most = if needs == Nothing { 64 } else { 63 };
-    let used = random.pick(&[2, 3, 4, 7, 15, 40, 63, 64]).min(most);
+    let least = if needs == ThirdRow { 3 } else { 2 };
+    let most = if matches!(needs, FewerThan64 | UnusedRow) { 63 } else { 64 };
+    let used = random.pick(&[2, 3, 4, 7, 15, 40, 63, 64]).clamp(least, most);
     let capacity = match random.between(0, 3) {
         0..=1 if needs != UnusedRow => used,
         2 => (used + 1).min(64),
         _ => random.between((used + 1).min(64), 64),
     };
     Size { used, capacity, file_len: random.pick(&[1, 4, 17]) }
+}
+
+/// Gives some row an empty list, as after a joining.
+fn unlisted_row(bytes: &mut [u8], table: &Picture, random: &mut Random) -> usize {
+    let row = any_row(table, random);
+    put(bytes, table, row, 16, &[0; 8]);
+    row
 }
 
 fn any_row(table: &Picture, random: &mut Random) -> usize {

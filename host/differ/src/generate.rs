@@ -97,8 +97,11 @@ impl Plan {
         if let Some(size) = self.foundings {
             return bad_founding(random, size);
         }
+        let used_before = self.known.as_ref().map(|table| table.all_used());
         self.known = Picture::of(bytes).or(self.known.take());
         let table = self.known.as_ref().expect("founded by now, or known from the start");
+        // Who joined is mostly up.
+        self.up |= random.subset(table.all_used() & !used_before.unwrap_or(u64::MAX), 3, 4);
         if random.chance(1, 8) {
             self.up ^= rows::only(random.between(1, table.used));
         }
@@ -166,24 +169,27 @@ fn edge(random: &mut Random, limit: u64, now: u64) -> u64 {
 
 /// A call that may well be done.
 fn fitting(random: &mut Random, table: &Picture, up: u64) -> Call {
-    let coordinator = random.row(up);
+    let unlisted = table.unlisted() & up;
+    let coordinators = if random.chance(1, 4) && unlisted != 0 { unlisted } else { up };
+    let coordinator = random.row(coordinators);
     match random.between(0, 99) {
-        0..=31 => {
+        0..=29 => {
             let answering = answering(random, table, up, coordinator, Quorum::Read);
             let (offset, length) = range(random, table);
             let buffer = random.bytes(length);
             Call::Read { coordinator: coordinator as u64, answering, offset, length: length as u64, buffer }
         }
-        32..=65 => {
+        30..=61 => {
             let answering = answering(random, table, up, coordinator, Quorum::Write);
             let (offset, length) = range(random, table);
             Call::Write { coordinator: coordinator as u64, answering, offset, patch: random.bytes(length) }
         }
-        66..=83 => send(random, table, up),
-        84..=98 => {
+        62..=78 => send(random, table, up),
+        79..=92 => {
             let answering = answering(random, table, up, coordinator, Quorum::Write);
             Call::Check { coordinator: coordinator as u64, answering }
         }
+        93..=98 => Call::Join { name: joining_name(random, table) },
         _ => {
             let used = random.between(1, table.capacity);
             founding(random, Size { used, capacity: table.capacity, file_len: table.file_len })
@@ -191,12 +197,14 @@ fn fitting(random: &mut Random, table: &Picture, up: u64) -> Call {
     }
 }
 
-/// Who answers the coordinator: by turns all, those up, a quorum and a little less.
+/// Who answers the coordinator: by turns all, those up, a quorum and a little less, and rows without a list.
 fn answering(random: &mut Random, table: &Picture, up: u64, coordinator: usize, quorum: Quorum) -> u64 {
     let own = table.row(coordinator);
-    let newest = table.rows.iter().max_by_key(|row| row.epoch).map_or(0, |row| row.list);
+    let listed = table.rows.iter().filter(|row| row.list != 0);
+    let newest = listed.max_by_key(|row| row.epoch).map_or(0, |row| row.list);
+    let unlisted = table.unlisted();
     let choice = |list, name| Layout::of(list, &table.chain).choice(quorum, name);
-    let set = match random.between(0, 9) {
+    let set = match random.between(0, if unlisted == 0 { 9 } else { 11 }) {
         0 => table.all_used(),
         1..=3 => up,
         4 => up ^ rows::only(random.between(1, table.used)),
@@ -204,7 +212,9 @@ fn answering(random: &mut Random, table: &Picture, up: u64, coordinator: usize, 
         6 => newest,
         7 => newest & !rows::only(random.row(newest)),
         8 => choice(own.list, own.name) | random.subset(up, 1, 4),
-        _ => choice(newest, random.byte().into()) & !rows::only(random.between(1, 64)),
+        9 => choice(newest, random.byte().into()) & !rows::only(random.between(1, 64)),
+        10 => unlisted,
+        _ => newest | random.subset(unlisted, 1, 2),
     };
     let with_coordinator = if random.chance(29, 30) { set | rows::only(coordinator) } else { set };
     if random.chance(1, 60) {
@@ -240,6 +250,25 @@ fn send(random: &mut Random, table: &Picture, up: u64) -> Call {
         _ => ends,
     };
     Call::Send { from: from as u64, to: to as u64, answering }
+}
+
+/// A name to join with: below all names, between two of them or above, mostly; or 0, in use, or any.
+fn joining_name(random: &mut Random, table: &Picture) -> u16 {
+    let name_at = |place: usize| usize::from(table.row(table.at(place)).name);
+    let place = random.between(0, table.used);
+    let before = if place == 0 { 0 } else { name_at(place - 1) };
+    let behind = if place == table.used { 65_536 } else { name_at(place) };
+    let name = match random.between(0, 11) {
+        0 => 0,
+        1 => name_at(random.between(0, table.used - 1)),
+        2 => random.between(0, 65_535),
+        // Side by side with a name in use; neighbours may leave no room.
+        3 => before + 1,
+        4 => behind - 1,
+        _ if before + 1 < behind => random.between(before + 1, behind - 1),
+        _ => before,
+    };
+    name.min(65_535) as u16
 }
 
 /// Gives one argument of the call a value at or beyond its limits.
@@ -278,6 +307,9 @@ fn spoil(random: &mut Random, call: &mut Call, table: &Picture) {
             0 => *coordinator = edge(random, used, *coordinator),
             _ => *answering = bad_set(random, table),
         },
+        Call::Join { name } => {
+            *name = random.pick(&[0, 1, 65_535, *name ^ 1, *name ^ 0x100, table.row(1).name])
+        }
     }
 }
 
@@ -303,4 +335,31 @@ fn resize(random: &mut Random, list: &mut Vec<u8>, file_len: usize) {
         ]),
         0,
     );
+}
+
+#[cfg(test)]
+mod tests {
+    use super::*;
+
+    #[test]
+    fn names_to_join_with_lie_everywhere() {
+        let (mut zero, mut in_use, mut below, mut between, mut above) = (0, 0, 0, 0, 0);
+        for case in 0..2_000 {
+            let mut random = Random::new(6, case);
+            let size = Size::pick(&mut random);
+            let table = Picture::of(&tables::well_formed(&mut random, size)).expect("well formed");
+            let name = joining_name(&mut random, &table);
+            let lower = table.rows.iter().filter(|row| row.name < name).count();
+            let count = match lower {
+                _ if name == 0 => &mut zero,
+                _ if table.rows.iter().any(|row| row.name == name) => &mut in_use,
+                0 => &mut below,
+                lower if lower == table.used => &mut above,
+                _ => &mut between,
+            };
+            *count += 1;
+        }
+        let counts = [zero, in_use, below, between, above];
+        assert!(counts.into_iter().all(|count| count > 50), "{counts:?}");
+    }
 }

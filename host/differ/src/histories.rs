@@ -5,7 +5,7 @@ use crate::call::Call;
 use crate::generate::Plan;
 use crate::guard::Edge;
 use crate::random::Random;
-use crate::tables::names_in_bytes;
+use crate::tables::{names_in_bytes, Picture};
 use crate::trial::{Case, Trial};
 use reference::{rows, Engine, Table};
 
@@ -13,8 +13,8 @@ fn set(members: &[usize]) -> u64 {
     members.iter().fold(0, |set, &row| set | rows::only(row))
 }
 
-fn found(names: &[u16], file_len: usize) -> Call {
-    Call::Found { capacity: names.len() as u64, file_len: file_len as u64, names: names_in_bytes(names) }
+fn found(capacity: usize, names: &[u16], file_len: usize) -> Call {
+    Call::Found { capacity: capacity as u64, file_len: file_len as u64, names: names_in_bytes(names) }
 }
 
 fn read(coordinator: u64, answering: &[usize]) -> Call {
@@ -33,16 +33,25 @@ fn check(coordinator: u64, answering: &[usize]) -> Call {
     Call::Check { coordinator, answering: set(answering) }
 }
 
-fn blank(names: &[u16], file_len: usize) -> Case {
-    Case { table: vec![0; Table::length(names.len(), file_len)], calls: Vec::new(), edge: Edge::End }
+fn join(name: u16) -> Call {
+    Call::Join { name }
+}
+
+fn blank(capacity: usize, file_len: usize) -> Case {
+    Case { table: vec![0; Table::length(capacity, file_len)], calls: Vec::new(), edge: Edge::End }
 }
 
 /// Founds the names and makes the calls; each must give its refusal number and value.
 fn expect(names: &[u16], calls: &[(Call, u64, u64)]) {
+    expect_in(names.len(), names, calls);
+}
+
+/// The same in a table of so many rows.
+fn expect_in(capacity: usize, names: &[u16], calls: &[(Call, u64, u64)]) {
     let mut archive = Archive::new();
-    let mut trial = Trial::new(&mut archive, Engine::default(), &blank(names, 4));
+    let mut trial = Trial::new(&mut archive, Engine::default(), &blank(capacity, 4));
     let mut result = |call: &Call| trial.step(call).map(|step| step.result);
-    assert_eq!(result(&found(names, 4)), Ok(names.len() as u64));
+    assert_eq!(result(&found(capacity, names, 4)), Ok(names.len() as u64));
     for (call, refusal, value) in calls {
         assert_eq!(result(call), Ok((refusal << 32) + value), "{call}");
     }
@@ -125,14 +134,89 @@ fn the_list_in_force_may_answer_and_a_read_still_be_refused() {
 }
 
 #[test]
+fn joinings_are_refused_for_the_name_first() {
+    expect_in(
+        6,
+        &[10, 20, 30, 40],
+        &[
+            (join(0), 13, 0),
+            (join(10), 13, 0),
+            (join(25), 0, 5),
+            (join(25), 13, 0),
+            (join(65_535), 0, 6),
+            (join(0), 13, 0),
+            (join(65_535), 13, 0),
+            (join(1), 14, 0),
+        ],
+    );
+}
+
+#[test]
+fn a_joined_row_counts_once_a_check_takes_it_in() {
+    expect_in(
+        3,
+        &[10, 20],
+        &[
+            (write(1, &[1, 2]), 0, 1),
+            (join(15), 0, 3),
+            (read(3, &[3]), 6, 0),
+            (check(3, &[3]), 6, 0),
+            (write(3, &[1, 3]), 6, 0),
+            (read(3, &[1, 2, 3]), 0, 1),
+            (send(1, 3, &[1, 3]), 10, 0),
+            (check(1, &[1, 2, 3]), 0, 1),
+            // The first row, and the second in name order.
+            (write(1, &[1, 3]), 0, 2),
+            (read(2, &[2, 3]), 7, 0),
+            (send(1, 3, &[1, 3]), 0, 2),
+            (read(2, &[2, 3]), 0, 2),
+        ],
+    );
+}
+
+/// Before the first write the new row has every done write: it takes the first one if it is in its set.
+#[test]
+fn a_joined_row_takes_the_first_write() {
+    expect_in(
+        3,
+        &[10, 20],
+        &[
+            (join(5), 0, 3),
+            (write(3, &[1, 2, 3]), 0, 1),
+            (send(1, 3, &[1, 3]), 10, 0),
+            (send(3, 2, &[2, 3]), 10, 0),
+            (check(3, &[1, 2, 3]), 0, 1),
+            (read(3, &[1, 3]), 0, 1),
+        ],
+    );
+}
+
+/// By its own choice the coordinator leaves the new row out; on all that answered it is marked.
+#[test]
+fn a_write_on_all_that_answered_marks_a_joined_row() {
+    expect_in(
+        3,
+        &[10, 20],
+        &[
+            (write(1, &[1, 2]), 0, 1),
+            (join(30), 0, 3),
+            (write(1, &[1, 2, 3]), 0, 2),
+            (send(1, 3, &[1, 3]), 10, 0),
+            (write(3, &[1, 2, 3]), 0, 3),
+            (send(1, 3, &[1, 3]), 0, 3),
+        ],
+    );
+}
+
+#[test]
 fn every_length_of_range_buffer_and_patch() {
     let names = [7, 70, 700, 7000];
     let file_len = 5;
     let mut archive = Archive::new();
     for edge in [Edge::Start, Edge::End] {
-        let case = Case { edge, ..blank(&names, file_len) };
+        let case = Case { edge, ..blank(names.len(), file_len) };
         let mut trial = Trial::new(&mut archive, Engine::default(), &case);
-        trial.step(&found(&names, file_len)).expect("no difference");
+        trial.step(&found(names.len(), &names, file_len)).expect("no difference");
         let (coordinator, answering) = (1, set(&[1, 2, 3]));
         for (offset, length) in (0..8).flat_map(|offset| (0..8).map(move |length| (offset, length))) {
             let patch = vec![0x5a; length as usize];
@@ -159,8 +243,15 @@ fn gathered_pictures_give_the_same_as_the_whole_table() {
         for _ in 0..plan.calls() {
             let call = plan.next(&mut random, &whole);
             let Some(answering) = call.answering() else {
-                archive.call(&mut whole, &call).expect("no stray write");
-                pictures = vec![whole.clone(); 65];
+                let answer = archive.call(&mut whole, &call).expect("no stray write");
+                if let Call::Join { .. } = call {
+                    // Everybody hears of it.
+                    for picture in &mut pictures {
+                        assert_eq!(archive.call(picture, &call).as_ref(), Ok(&answer), "{call}");
+                    }
+                } else {
+                    pictures = vec![whole.clone(); 65];
+                }
                 continue;
             };
             let picture = &mut pictures[random.row(answering)];
@@ -182,23 +273,23 @@ fn gathered_pictures_give_the_same_as_the_whole_table() {
 /// Every history of so many calls on few machines, reads and refused calls aside: those alter nothing.
 struct Explorer {
     archive: Archive,
-    machines: usize,
     calls: u64,
 }
 
 impl Explorer {
-    /// Founds the machines, and tries all histories of `depth` calls; gives how many calls were made.
-    fn explore(names: &[u16], depth: u8) -> u64 {
-        let mut explorer = Explorer { archive: Archive::new(), machines: names.len(), calls: 0 };
-        let mut trial = Trial::new(&mut explorer.archive, Engine::default(), &blank(names, 1));
-        trial.step(&found(names, 1)).expect("no difference");
+    /// Founds the machines in a table of so many rows, and tries all histories of `depth` calls; gives how many calls were
+    /// made.
+    fn explore(capacity: usize, names: &[u16], depth: u8) -> u64 {
+        let mut explorer = Explorer { archive: Archive::new(), calls: 0 };
+        let mut trial = Trial::new(&mut explorer.archive, Engine::default(), &blank(capacity, 1));
+        trial.step(&found(capacity, names, 1)).expect("no difference");
         let (table, ledger) = trial.into_state();
         explorer.descend(&table, &ledger, depth);
         explorer.calls
     }
 
     fn descend(&mut self, table: &[u8], ledger: &crate::ledger::Ledger, depth: u8) {
-        for call in self.every_call(depth) {
+        for call in every_call(table, depth) {
             let mut trial =
                 Trial::resume(&mut self.archive, Engine::default(), table.to_vec(), ledger.clone());
             trial.step(&call).unwrap_or_else(|what| panic!("{call}: {what}"));
@@ -209,34 +300,49 @@ impl Explorer {
             }
         }
     }
+}
 
-    /// Every read, write, send and check; a write lays down the byte `mark`.
-    fn every_call(&self, mark: u8) -> Vec<Call> {
-        let mut calls = Vec::new();
-        for answering in 1..=rows::first(self.machines) {
-            let first = rows::members(answering).next().unwrap_or(1) as u64;
-            calls.push(Call::Check { coordinator: first, answering });
-            for row in rows::members(answering) {
-                let coordinator = row as u64;
-                calls.push(Call::Read { coordinator, answering, offset: 0, length: 1, buffer: vec![0] });
-                calls.push(Call::Write { coordinator, answering, offset: 0, patch: vec![mark] });
-            }
+/// Every read, write, send and check, and joinings in every gap between names; a write lays down the byte `mark`.
+fn every_call(table: &[u8], mark: u8) -> Vec<Call> {
+    let table = Picture::of(table).expect("a founded history");
+    let mut calls = Vec::new();
+    for answering in 1..=table.all_used() {
+        let first = rows::members(answering).next().unwrap_or(1) as u64;
+        calls.push(Call::Check { coordinator: first, answering });
+        for row in rows::members(answering) {
+            let coordinator = row as u64;
+            calls.push(Call::Read { coordinator, answering, offset: 0, length: 1, buffer: vec![0] });
+            calls.push(Call::Write { coordinator, answering, offset: 0, patch: vec![mark] });
         }
-        for from in 1..=self.machines {
-            for to in (1..=self.machines).filter(|&to| to != from) {
-                calls.push(send(from as u64, to as u64, &[from, to]));
-            }
-        }
-        calls
     }
+    for from in 1..=table.used {
+        for to in (1..=table.used).filter(|&to| to != from) {
+            calls.push(send(from as u64, to as u64, &[from, to]));
+        }
+    }
+    // The name 0, or the one below all, or the one above a name; it may be in use.
+    let lowest = table.row(table.at(0)).name;
+    calls.extend([0, lowest - 1].map(join));
+    calls.extend(table.rows.iter().map(|row| join(row.name + 1)));
+    calls
 }
 
 #[test]
 fn all_short_histories_on_few_machines() {
-    let few: [(&[u16], u8); 4] = [(&[900], 8), (&[5, 6], 8), (&[31, 500, 501], 5), (&[10, 21, 35, 64], 4)];
-    for (names, depth) in few {
-        let calls = Explorer::explore(names, depth);
-        println!("{} machines, {depth} calls deep: {calls} calls", names.len());
+    let few: [(usize, &[u16], u8); 8] = [
+        (1, &[900], 8),
+        (2, &[5, 6], 8),
+        (3, &[31, 500, 501], 5),
+        (4, &[10, 21, 35, 64], 4),
+        // With room to join.
+        (3, &[900], 6),
+        (3, &[5, 7], 6),
+        (4, &[5, 7], 4),
+        (4, &[31, 500, 502], 4),
+    ];
+    for (capacity, names, depth) in few {
+        let calls = Explorer::explore(capacity, names, depth);
+        println!("{} machines, {capacity} rows, {depth} calls deep: {calls} calls", names.len());
         assert!(calls > 0);
     }
 }

@@ -45,7 +45,8 @@ pub struct Failed {
 
 impl Run {
     pub fn new(seed: u64, blunder: Option<Blunder>) -> Run {
-        Run { seed, reference: Engine { blunder }, archive: Archive::new(), counts: Counts::default() }
+        let reference = Engine { blunder, ..Engine::default() };
+        Run { seed, reference, archive: Archive::new(), counts: Counts::default() }
     }
 
     /// Makes the calls of one case; stops at the first difference.

@@ -17,7 +17,7 @@ differ: compares the archive with the reference, call by call
 
 const DEFAULT_CALLS: u64 = 2_000_000;
 const SELF_TEST_CALLS: u64 = 20_000;
-/// So many calls meet every answer that a call can give, and twins of every size.
+/// So many calls meet every answer that a call can give, every kind of table, and twins of every size.
 const CALLS_THAT_COVER: u64 = 500_000;
 
 #[derive(Default)]
@@ -106,7 +106,8 @@ fn compare(seed: u64, options: &Options) -> bool {
         return false;
     }
     println!(
-        "differ: {calls} calls and {} twins in {:.1} s, no difference (seed {seed})",
+        "differ: {calls} calls ({} by the scope's rules alone too) and {} twins in {:.1} s, no difference (seed {seed})",
+        run.counts.published(),
         run.counts.twins(),
         started.elapsed().as_secs_f64()
     );

@@ -1,55 +1,110 @@
-//! How often each call was done and refused, and at which sizes its twin was asked.
+//! How often each call was done and refused, on which kinds of tables, and at which sizes its twin was asked.
 
 use crate::call::Call;
+use reference::Table;
+use std::collections::BTreeMap;
 use std::fmt;
+use std::ops::RangeInclusive;
 
 const KINDS: usize = Call::KINDS.len();
-/// Refusal numbers go up to this one.
-const HIGHEST: usize = 12;
+/// The highest refusal number that a call has.
+const HIGHEST: u32 = 14;
 
 /// What came up in a run.
 #[derive(Clone)]
 pub struct Counts {
-    /// For each kind of call, how often it was done (place 0) and refused by each number; numbers that no call has are last.
-    answers: [[u64; HIGHEST + 2]; KINDS],
+    /// For each kind of call, how often it gave each answer: 0 for done, else the refusal number.
+    answers: [BTreeMap<u32, u64>; KINDS],
     /// For each kind of call and number of used rows, how often its twin was asked.
     twins: [[u64; 65]; KINDS],
+    /// For each kind of call, how often it was made on each kind of table.
+    grounds: [[u64; Ground::ALL.len()]; KINDS],
+    /// For each kind of call, how often the scope's rules alone judged it too, on a well-formed table.
+    published: [u64; KINDS],
 }
 
 /// The answers that each kind of call can give, 0 for done, in the order of `Call::KINDS`.
-const POSSIBLE: [&[usize]; KINDS] = [
+const POSSIBLE: [&[u32]; KINDS] = [
     &[0, 11, 12],
     &[0, 1, 2, 3, 4, 5, 6, 7],
     &[0, 1, 2, 3, 4, 6, 7, 8],
     &[0, 1, 2, 3, 9, 10],
     &[0, 1, 2, 3, 6, 7, 8],
+    &[0, 1, 13, 14],
 ];
+
+/// The kinds of calls that the scope alone puts question 1 to.
+const PUBLISHED: RangeInclusive<usize> = 1..=4;
+
+/// The kinds of tables that a call is made on.
+#[derive(Clone, Copy, Debug, PartialEq, Eq)]
+pub enum Ground {
+    Malformed,
+    /// Every row has a list.
+    Listed,
+    /// Some rows have a list, and some have none.
+    Mixed,
+    /// No row has a list.
+    Unlisted,
+}
+
+impl Ground {
+    const ALL: [Ground; 4] = [Ground::Malformed, Ground::Listed, Ground::Mixed, Ground::Unlisted];
+
+    /// Judges the bytes of a table, which is read if it is well formed.
+    pub fn of(bytes: &[u8], table: Option<&Table>) -> Ground {
+        let Some(table) = table else { return Ground::Malformed };
+        match (1..=table.used).filter(|&row| table.row(bytes, row).list == 0).count() {
+            0 => Ground::Listed,
+            count if count < table.used => Ground::Mixed,
+            _ => Ground::Unlisted,
+        }
+    }
+
+    fn shown(self) -> &'static str {
+        match self {
+            Ground::Malformed => "malformed table",
+            Ground::Listed => "table whose rows all have a list",
+            Ground::Mixed => "table with and without lists",
+            Ground::Unlisted => "table without a list",
+        }
+    }
+}
 
 /// What happened at one call.
 #[derive(Clone, Copy, Debug, PartialEq, Eq)]
 pub struct Step {
     pub result: u64,
+    pub ground: Ground,
     /// The used rows of the table, if the call was made again on a twin that differs from it.
     pub twin_of: Option<usize>,
+    /// Was the call judged by the scope's rules alone too?
+    pub published: bool,
 }
 
 impl Default for Counts {
     fn default() -> Counts {
-        Counts { answers: [[0; HIGHEST + 2]; KINDS], twins: [[0; 65]; KINDS] }
+        Counts {
+            answers: Default::default(),
+            twins: [[0; 65]; KINDS],
+            grounds: Default::default(),
+            published: Default::default(),
+        }
     }
 }
 
 impl Counts {
     pub fn add(&mut self, call: &Call, step: Step) {
-        let refusal = ((step.result >> 32) as usize).min(HIGHEST + 1);
-        self.answers[call.kind()][refusal] += 1;
+        *self.answers[call.kind()].entry((step.result >> 32) as u32).or_default() += 1;
+        self.grounds[call.kind()][step.ground as usize] += 1;
+        self.published[call.kind()] += u64::from(step.published && step.ground == Ground::Listed);
         if let Some(used) = step.twin_of {
             self.twins[call.kind()][used] += 1;
         }
     }
 
     pub fn total(&self) -> u64 {
-        self.answers.iter().flatten().sum()
+        self.answers.iter().flat_map(BTreeMap::values).sum()
     }
 
     /// How often a call was made again on a twin.
@@ -57,15 +112,29 @@ impl Counts {
         self.twins.iter().flatten().sum()
     }
 
-    /// What never came: answers that a call can give, and twins of a call at each size.
+    /// How often the scope's rules alone judged a call too, on a well-formed table.
+    pub fn published(&self) -> u64 {
+        self.published.iter().sum()
+    }
+
+    /// What never came: answers that a call can give, kinds of tables, twins of a call at each size, and the scope's
+    /// rules alone.
     pub fn missing(&self) -> Vec<String> {
         let mut missing = Vec::new();
         for (kind, name) in Call::KINDS.into_iter().enumerate() {
-            let answers = POSSIBLE[kind].iter().filter(|&&answer| self.answers[kind][answer] == 0);
+            let answers = POSSIBLE[kind].iter().filter(|answer| !self.answers[kind].contains_key(answer));
             missing.extend(answers.map(|answer| format!("{name} {answer}")));
-            // A founding has no answering rows, and so no twin.
-            let sizes = (1..=64).filter(|&used| kind > 0 && self.twins[kind][used] == 0);
+            // A founding is not asked what the table holds.
+            if kind == 0 {
+                continue;
+            }
+            let grounds = Ground::ALL.into_iter().filter(|&ground| self.grounds[kind][ground as usize] == 0);
+            missing.extend(grounds.map(|ground| format!("{name} on a {}", ground.shown())));
+            let sizes = (1..=64).filter(|&used| self.twins[kind][used] == 0);
             missing.extend(sizes.map(|used| format!("twin of a {name} with {used} rows")));
+            if PUBLISHED.contains(&kind) && self.published[kind] == 0 {
+                missing.push(format!("{name} by the scope's rules alone"));
+            }
         }
         missing
     }
@@ -74,8 +143,7 @@ impl Counts {
     pub fn impossible(&self) -> Vec<String> {
         let mut impossible = Vec::new();
         for (kind, name) in Call::KINDS.into_iter().enumerate() {
-            let answers = (0..=HIGHEST + 1).filter(|answer| !POSSIBLE[kind].contains(answer));
-            let came = answers.filter(|&answer| self.answers[kind][answer] > 0);
+            let came = self.answers[kind].keys().filter(|answer| !POSSIBLE[kind].contains(answer));
             impossible.extend(came.map(|answer| format!("{name} {answer}")));
         }
         impossible
@@ -89,9 +157,9 @@ impl fmt::Display for Counts {
             write!(f, "{refusal:>7}")?;
         }
         for (kind, counts) in Call::KINDS.into_iter().zip(&self.answers) {
-            write!(f, "\n{kind:7}{:>8}", counts[0])?;
-            for count in &counts[1..=HIGHEST] {
-                write!(f, "{:>7}", if *count == 0 { "-".into() } else { count.to_string() })?;
+            write!(f, "\n{kind:7}{:>8}", counts.get(&0).unwrap_or(&0))?;
+            for refusal in 1..=HIGHEST {
+                write!(f, "{:>7}", counts.get(&refusal).map_or("-".into(), u64::to_string))?;
             }
         }
         Ok(())
@@ -109,32 +177,58 @@ mod tests {
             Call::Write { coordinator: 1, answering: 1, offset: 0, patch: vec![0] },
             Call::Send { from: 1, to: 2, answering: 3 },
             Call::Check { coordinator: 1, answering: 1 },
+            Call::Join { name: 1 },
         ]
     }
 
+    /// A call that gave this answer, on a table whose rows all have a list.
+    fn step(answer: u32) -> Step {
+        let result = u64::from(answer) << 32;
+        Step { result, ground: Ground::Listed, twin_of: None, published: false }
+    }
+
     #[test]
-    fn every_answer_and_every_size_must_come() {
+    fn every_answer_table_and_size_must_come() {
         let mut counts = Counts::default();
         let answers: usize = POSSIBLE.iter().map(|answers| answers.len()).sum();
-        assert_eq!(counts.missing().len(), answers + 4 * 64);
+        assert_eq!(counts.missing().len(), answers + 5 * (64 + Ground::ALL.len()) + 4);
         for (call, possible) in calls().iter().zip(POSSIBLE) {
             for &answer in possible {
-                counts.add(call, Step { result: (answer as u64) << 32, twin_of: None });
+                counts.add(call, step(answer));
             }
             for used in (1..=64).filter(|_| call.kind() > 0) {
-                counts.add(call, Step { result: 0, twin_of: Some(used) });
+                counts.add(call, Step { twin_of: Some(used), ..step(0) });
+            }
+            for ground in Ground::ALL {
+                counts.add(call, Step { ground, ..step(0) });
             }
         }
-        assert_eq!((counts.missing(), counts.impossible()), (vec![], vec![]));
+        // On malformed tables the scope's rules alone do not count.
+        for call in calls() {
+            counts.add(&call, Step { ground: Ground::Malformed, published: true, ..step(1) });
+        }
+        let rules =
+            ["read", "write", "send", "check"].map(|name| format!("{name} by the scope's rules alone"));
+        assert_eq!(counts.missing(), rules);
+        for call in &calls()[PUBLISHED] {
+            counts.add(call, Step { published: true, ..step(0) });
+        }
+        assert_eq!((counts.missing(), counts.published()), (vec![], 4));
+        assert_eq!(counts.impossible(), ["found 1"]);
     }
 
     #[test]
     fn no_other_answer_may_come() {
         let mut counts = Counts::default();
-        for call in calls() {
-            counts.add(&call, Step { result: 13 << 32, twin_of: None });
+        for (call, answer) in calls().iter().zip([13, 14, 15, 8, u32::MAX, 12]) {
+            counts.add(call, step(answer));
         }
-        counts.add(&calls()[3], Step { result: 8 << 32, twin_of: None });
-        assert_eq!(counts.impossible(), ["found 13", "read 13", "write 13", "send 8", "send 13", "check 13"]);
+        let others = ["found 13", "read 14", "write 15", "send 8", "check 4294967295", "join 12"];
+        assert_eq!(counts.impossible(), others);
+    }
+
+    #[test]
+    fn the_highest_number_has_a_column() {
+        assert_eq!(POSSIBLE.iter().flat_map(|answers| answers.iter()).max(), Some(&HIGHEST));
     }
 }

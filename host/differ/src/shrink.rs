@@ -2,7 +2,7 @@
 
 use crate::call::Call;
 use crate::trial::{Case, Failure};
-use reference::{rows, Table, MAX_FILE};
+use reference::{rows, Table, MAX_FILE, MAX_ROWS};
 
 /// Tries shorter cases as long as one of them fails.
 pub struct Shrinker<'a> {
@@ -86,24 +86,26 @@ impl<'a> Shrinker<'a> {
     }
 }
 
-/// The case with its founding cut down to the first names; none if it has no more of them.
+/// The case with its founding cut down to the first names, and room for those that join; none if it has no more of them.
 fn on_fewer_machines(case: &Case, count: usize) -> Option<Case> {
     let mut fewer = case.clone();
+    let joinings = case.calls.iter().filter(|call| matches!(call, Call::Join { .. })).count();
+    let rows = (count + joinings).min(MAX_ROWS);
     let Some(Call::Found { capacity, file_len, names }) = fewer.calls.first_mut() else { return None };
     if 2 * count >= names.len() || *file_len > MAX_FILE as u64 {
         return None;
     }
     names.truncate(2 * count);
-    *capacity = count as u64;
-    fewer.table = vec![0; Table::length(count, *file_len as usize)];
-    fewer.calls.iter_mut().for_each(|call| call.cut_down(rows::first(count)));
+    *capacity = rows as u64;
+    fewer.table = vec![0; Table::length(rows, *file_len as usize)];
+    fewer.calls.iter_mut().for_each(|call| call.cut_down(rows::first(rows)));
     Some(fewer)
 }
 
 /// Plainer calls, each one step away.
 fn plainer(call: &Call) -> Vec<Call> {
     match call {
-        Call::Found { .. } => Vec::new(),
+        Call::Found { .. } | Call::Join { .. } => Vec::new(),
         Call::Read { coordinator, answering, offset, length, buffer } => {
             let with = |answering, offset, length, buffer: &[u8]| Call::Read {
                 coordinator: *coordinator,

@@ -1,7 +1,7 @@
 //! Random well-formed tables that no founding leads to, and tables that differ only in rows that did not answer.
 
 use crate::random::Random;
-use reference::rows::{self, Order};
+use reference::rows;
 use reference::{Row, Table, LIMIT};
 use std::ops::Deref;
 
@@ -23,6 +23,12 @@ impl Picture {
 
     pub fn row(&self, row: usize) -> &Row {
         &self.rows[row - 1]
+    }
+
+    /// The rows with an empty list.
+    pub fn unlisted(&self) -> u64 {
+        let unlisted = (1..).zip(&self.rows).filter(|(_, row)| row.list == 0);
+        unlisted.fold(0, |set, (row, _)| set | rows::only(row))
     }
 
     /// The row at a place of the chain; places count from 0.
@@ -97,9 +103,7 @@ pub fn well_formed(random: &mut Random, size: Size) -> Vec<u8> {
     let Size { used, capacity, file_len } = size;
     let mut chain: Vec<usize> = (1..=used).collect();
     random.shuffle(&mut chain);
-    let mut order = Order::EMPTY;
-    chain.iter().for_each(|&row| order.push(row));
-    let table = Table { capacity, used, file_len, chain: order };
+    let table = Table { capacity, used, file_len, chain: chain.iter().copied().collect() };
     let mut bytes = vec![0; Table::length(capacity, file_len)];
     table.write_header(&mut bytes, chain[0]);
     for (row, state) in (1..).zip(used_rows(random, &chain)) {
@@ -129,7 +133,11 @@ fn used_rows(random: &mut Random, chain: &[usize]) -> Vec<Row> {
     rows
 }
 
-/// For each row its epoch number and the list of that epoch.
+/// An epoch number that only rows with an empty list have in a generated table.
+const LONE_EPOCH: u32 = 900_000;
+
+/// For each row its epoch number and the list of that epoch. In half of the tables some rows, or all, have an empty list,
+/// and any epoch number.
 fn epochs(random: &mut Random, count: usize) -> Vec<(u32, u64)> {
     let kinds = random.pick(&[1, 1, 2, 4]);
     let lowest = random.pick(&[0, 0, 0, LIMIT - kinds as u32, LIMIT + 1 - kinds as u32]);
@@ -141,19 +149,33 @@ fn epochs(random: &mut Random, count: usize) -> Vec<(u32, u64)> {
             own.fold(random.subset(rows::first(count), outside, 10), |list, (row, _)| list | rows::only(row))
         })
         .collect();
-    epoch_of.iter().map(|&epoch| (epoch, list_of[(epoch - lowest) as usize])).collect()
+    let unlisted = random.pick(&[0, 0, 0, 0, 1, 3, 6, 10]);
+    let of_row = |&epoch: &u32| {
+        if random.chance(unlisted, 10) {
+            (random.pick(&[epoch, epoch, 0, LONE_EPOCH, LIMIT]), 0)
+        } else {
+            (epoch, list_of[(epoch - lowest) as usize])
+        }
+    };
+    epoch_of.iter().map(of_row).collect()
 }
 
 /// The same table with other bytes in the rows that did not answer; header, names and links stay.
 pub fn twin(random: &mut Random, bytes: &[u8], table: &Table, answering: u64) -> Vec<u8> {
     let mut twin = bytes.to_vec();
-    let taken: Vec<u32> =
-        rows::members(answering & table.all_used()).map(|row| table.row(bytes, row).epoch).collect();
+    let answered = rows::members(answering & table.all_used()).map(|row| table.row(bytes, row));
+    let taken: Vec<u32> = answered.filter(|row| row.list != 0).map(|row| row.epoch).collect();
     let mut free = (0..=LIMIT).rev().filter(|epoch| !taken.contains(epoch)).step_by(random.between(1, 3));
+    let unlisted = random.pick(&[0, 1, 5, 10]);
     for row in rows::members(table.all_used() & !answering) {
         let mut state = table.row(bytes, row);
-        state.epoch = free.next().expect("more epochs than rows");
-        state.list = random.subset(table.all_used(), 1, 2) | rows::only(row);
+        if random.chance(unlisted, 10) {
+            let any = taken.first().copied().unwrap_or(0);
+            (state.epoch, state.list) = (random.pick(&[0, any, LONE_EPOCH, LIMIT]), 0);
+        } else {
+            state.epoch = free.next().expect("more epochs than rows");
+            state.list = random.subset(table.all_used(), 1, 2) | rows::only(row);
+        }
         state.version = random.pick(&[0, 1, 7, LIMIT - 1]);
         state.stale = random.chance(1, 2);
         state.desired = if state.stale { state.version + 1 } else { 0 };
@@ -166,6 +188,7 @@ pub fn twin(random: &mut Random, bytes: &[u8], table: &Table, answering: u64) ->
 #[cfg(test)]
 mod tests {
     use super::*;
+    use crate::report::Ground;
 
     #[test]
     fn made_tables_are_well_formed_and_so_are_their_twins() {
@@ -177,5 +200,29 @@ mod tests {
             let answering = random.next();
             assert!(Table::decode(&twin(&mut random, &bytes, &table, answering)).is_some());
         }
+    }
+
+    #[test]
+    fn rows_without_a_list_have_any_epoch_and_any_mark() {
+        let mut grounds = Vec::new();
+        let (mut lone, mut shared, mut stale) = (0, 0, 0);
+        for case in 0..2_000 {
+            let mut random = Random::new(1, case);
+            let size = Size::pick(&mut random);
+            let bytes = well_formed(&mut random, size);
+            let table = Picture::of(&bytes).expect("well formed");
+            grounds.push(Ground::of(&bytes, Some(&table)));
+            let listed = table.rows.iter().filter(|row| row.list != 0);
+            let epochs: Vec<u32> = listed.map(|row| row.epoch).collect();
+            for row in table.rows.iter().filter(|row| row.list == 0) {
+                lone += usize::from(row.epoch == LONE_EPOCH);
+                shared += usize::from(epochs.contains(&row.epoch));
+                stale += usize::from(row.stale);
+            }
+        }
+        for ground in [Ground::Listed, Ground::Mixed, Ground::Unlisted] {
+            assert!(grounds.iter().filter(|&&made| made == ground).count() > 100, "{ground:?}");
+        }
+        assert!(lone > 100 && shared > 100 && stale > 100, "{lone} {shared} {stale}");
     }
 }

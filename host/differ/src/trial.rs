@@ -5,9 +5,9 @@ use crate::call::{result_shown, Answer, Call};
 use crate::guard::Edge;
 use crate::ledger::Ledger;
 use crate::random::Random;
-use crate::report::Step;
+use crate::report::{Ground, Step};
 use crate::tables;
-use reference::{rows, Engine, Table, HEADER};
+use reference::{rows, Engine, Rules, Table, HEADER};
 
 /// A table and the calls made on it.
 #[derive(Clone, Debug)]
@@ -64,42 +64,83 @@ impl<'a> Trial<'a> {
     /// Makes one call; gives what happened, or what is wrong with it.
     pub fn step(&mut self, call: &Call) -> Result<Step, String> {
         let before = self.table.clone();
+        let judged = Table::decode(&before);
+        let ground = Ground::of(&before, judged.as_ref());
         let answer = self.archive.call(&mut self.table, call)?;
-        let mut expected_table = before.clone();
-        let expected = call.refer(self.reference, &mut expected_table);
-        compare(&answer, &self.table, &expected, &expected_table)?;
+        self.refer(self.reference, call, &answer, &before)?;
+        let published = self.ask_published(call, &answer, &before, ground)?;
         frame(call, &answer, &before, &self.table)?;
-        let twin_of = self.ask_twin(call, &answer, &before)?;
+        let twin_of = match &judged {
+            Some(table) => self.ask_twin(call, &answer, &before, table)?,
+            None => None,
+        };
         self.ledger.hear(call, &answer)?;
         if self.ledger.is_open() && Table::decode(&self.table).is_none() {
             return Err("a founded history leaves a malformed table".into());
         }
-        Ok(Step { result: answer.result, twin_of })
+        Ok(Step { result: answer.result, ground, twin_of, published })
     }
 
-    /// Rows that did not answer have no part in a call: another table that differs in them gives the same.
-    /// Gives the used rows, if there is such a table.
-    fn ask_twin(&mut self, call: &Call, answer: &Answer, before: &[u8]) -> Result<Option<usize>, String> {
+    /// Compares what the archive gave and left with what the engine gives and leaves.
+    fn refer(&self, engine: Engine, call: &Call, answer: &Answer, before: &[u8]) -> Result<(), String> {
+        let mut expected_table = before.to_vec();
+        let expected = call.refer(engine, &mut expected_table);
+        compare(answer, &self.table, &expected, &expected_table)
+    }
+
+    /// A table whose rows all have a list gives what the scope's rules alone make of it, and so does one that is
+    /// malformed: they ask for more. Says whether they were asked.
+    fn ask_published(
+        &self,
+        call: &Call,
+        answer: &Answer,
+        before: &[u8],
+        ground: Ground,
+    ) -> Result<bool, String> {
+        let of_the_scope = call.answering().is_some();
+        if !of_the_scope || matches!(ground, Ground::Mixed | Ground::Unlisted) {
+            return Ok(false);
+        }
+        let engine = Engine { rules: Rules::Published, ..self.reference };
+        let compared = self.refer(engine, call, answer, before);
+        compared.map(|()| true).map_err(|what| format!("by the scope's rules alone: {what}"))
+    }
+
+    /// Rows that did not answer have no part in a call beyond names and links: another table that differs in them gives
+    /// the same. Nobody answers a joining. Gives the used rows, if there is such a table.
+    fn ask_twin(
+        &mut self,
+        call: &Call,
+        answer: &Answer,
+        before: &[u8],
+        table: &Table,
+    ) -> Result<Option<usize>, String> {
         const LONGEST: usize = 6_000;
-        let (Some(answering), true) = (call.answering(), before.len() <= LONGEST) else { return Ok(None) };
-        let Some(table) = Table::decode(before) else { return Ok(None) };
-        if table.all_used() & !answering == 0 {
+        let answering = call.answering().unwrap_or(0);
+        let none_differs = table.all_used() & !answering == 0;
+        if matches!(call, Call::Found { .. }) || before.len() > LONGEST || none_differs {
             return Ok(None);
         }
         let mut random = Random::new(answering, answer.result ^ before.len() as u64);
-        let mut twin = tables::twin(&mut random, before, &table, answering);
-        let left = twin.clone();
+        let mut twin = tables::twin(&mut random, before, table, answering);
+        let mut expected = twin.clone();
         if self.archive.call(&mut twin, call)? != *answer {
             return Err("rows that did not answer alter the answer".into());
         }
+        // The header, the links, the rows that answered and those that were not used come out the same.
+        expected[..HEADER].copy_from_slice(&self.table[..HEADER]);
         for row in 1..=table.capacity {
             let place = table.row_at(row)..table.row_at(row + 1);
-            let expected = if rows::has(answering, row) { &self.table } else { &left };
-            if twin[place.clone()] != expected[place] {
-                return Err(format!("rows that did not answer alter row {row}"));
+            let link = table.row_at(row) + LINK;
+            expected[link] = self.table[link];
+            if rows::has(answering | !table.all_used(), row) {
+                expected[place.clone()].copy_from_slice(&self.table[place]);
             }
         }
-        Ok(Some(table.used))
+        match twin.iter().zip(&expected).position(|(one, other)| one != other) {
+            Some(at) => Err(format!("rows that did not answer alter byte {at}")),
+            None => Ok(Some(table.used)),
+        }
     }
 }
 
@@ -124,15 +165,17 @@ fn same_bytes(of: &str, archive: &[u8], reference: &[u8]) -> Result<(), String> 
     }
 }
 
-/// A refused call has value 0 and alters nothing; a done one, founding aside, alters only rows that answered.
+/// A refused call has value 0 and alters nothing; a done one, founding and joining aside, alters only rows that answered.
 fn frame(call: &Call, answer: &Answer, before: &[u8], after: &[u8]) -> Result<(), String> {
     if answer.result >> 32 != 0 {
         let buffer_kept = !matches!(call, Call::Read { buffer, .. } if *buffer != answer.buffer);
         if before != after || !buffer_kept || answer.result as u32 != 0 {
             return Err(format!("refused with {}, and something altered", result_shown(answer.result)));
         }
+    } else if let Call::Join { name } = *call {
+        return joining_frame(name, answer.result, before, after);
     } else if let (Some(answering), true) = (call.answering(), before != after) {
-        let stride = (before.len() - HEADER) / usize::from(before[1]);
+        let stride = stride(before);
         let row_of = |at: usize| if at < HEADER { 0 } else { (at - HEADER) / stride + 1 };
         let strays =
             (0..before.len()).find(|&at| before[at] != after[at] && !rows::has(answering, row_of(at)));
@@ -141,4 +184,83 @@ fn frame(call: &Call, answer: &Answer, before: &[u8], after: &[u8]) -> Result<()
         }
     }
     Ok(())
+}
+
+/// Where the header keeps the count of used rows and the first row of the chain, and a row its link.
+const COUNT: usize = 2;
+const FIRST: usize = 3;
+const LINK: usize = 2;
+
+fn stride(table: &[u8]) -> usize {
+    (table.len() - HEADER) / usize::from(table[1])
+}
+
+/// A done joining gives the next row; that row gets the name and the link that was before it, and is zero otherwise.
+/// The count grows by one and the link before leads to the row; every other byte stays. The table is well formed.
+fn joining_frame(name: u16, value: u64, before: &[u8], after: &[u8]) -> Result<(), String> {
+    let row = before[COUNT] + 1;
+    if value != u64::from(row) {
+        return Err(format!("joined as row {value}, but the next one is {row}"));
+    }
+    let row_at = |row: u8| HEADER + usize::from(row - 1) * stride(before);
+    // No link led to the row before.
+    let mut links = std::iter::once(FIRST).chain((1..row).map(|other| row_at(other) + LINK));
+    let link = links.find(|&link| after[link] == row).ok_or("no link leads to the new row")?;
+    let mut expected = before.to_vec();
+    expected[COUNT] = row;
+    expected[link] = row;
+    let joined = &mut expected[row_at(row)..][..stride(before)];
+    joined.fill(0);
+    joined[..2].copy_from_slice(&name.to_le_bytes());
+    joined[LINK] = before[link];
+    match expected.iter().zip(after).position(|(one, other)| one != other) {
+        Some(at) => {
+            Err(format!("a joining leaves {:02x} in byte {at}, and not {:02x}", after[at], expected[at]))
+        }
+        None if Table::decode(after).is_none() => Err("a joining leaves a malformed table".into()),
+        None => Ok(()),
+    }
+}
+
+#[cfg(test)]
+mod tests {
+    use super::*;
+    use crate::tables::{self, Size};
+
+    /// Every byte counts: with another value in any one of them the joining is found out.
+    #[test]
+    fn the_frame_of_a_joining_is_every_byte() {
+        let engine = Engine::default();
+        for case in 0..300 {
+            let mut random = Random::new(5, case);
+            let used = random.between(1, 9);
+            let size = Size { used, capacity: random.between(used + 1, 12), file_len: random.between(1, 9) };
+            let before = tables::well_formed(&mut random, size);
+            let name = random.between(1, 65_535) as u16;
+            let mut after = before.clone();
+            let value = engine.join(&mut after, name);
+            assert_eq!((joining_frame(name, value, &before, &after), value), (Ok(()), used as u64 + 1));
+            assert!(joining_frame(name, value + 1, &before, &after).is_err());
+            assert!(joining_frame(name ^ 1, value, &before, &after).is_err());
+            for at in 0..after.len() {
+                let mut altered = after.clone();
+                altered[at] ^= 1 << random.between(0, 7);
+                assert!(joining_frame(name, value, &before, &altered).is_err(), "byte {at}");
+            }
+        }
+    }
+
+    /// A row in the wrong place of the chain has one link before it too, but the names no longer rise.
+    #[test]
+    fn a_joining_out_of_order_is_found_out() {
+        let blundering = Engine { blunder: Some(reference::Blunder::LinkTooFar), ..Engine::default() };
+        let mut before = vec![0; Table::length(3, 1)];
+        blundering.found(&mut before, 3, 1, &tables::names_in_bytes(&[10, 20]));
+        let mut after = before.clone();
+        let value = blundering.join(&mut after, 15);
+        assert_eq!(
+            joining_frame(15, value, &before, &after),
+            Err("a joining leaves a malformed table".to_string())
+        );
+    }
 }

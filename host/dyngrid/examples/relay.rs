@@ -1,5 +1,5 @@
-//! Four machines, each holding its own row: a relay gathers the rows that answer, makes a call on them, and ships the
-//! rows that changed. Run with `cargo run --example relay`.
+//! Machines that each hold their own row: a relay gathers the rows that answer, makes a call on them, and ships the
+//! rows that changed. Four are founded, and a fifth joins. Run with `cargo run --example relay`.
 
 use dyngrid::{Refusal, Rows, Table};
 
@@ -7,26 +7,38 @@ const FILE_LEN: usize = 16;
 /// Bytes of a row, and of the header before the rows.
 const ROW: usize = 32 + FILE_LEN;
 const HEADER: usize = 16;
+/// A row begins with its name and link.
+const NAME_AND_LINK: usize = 3;
 
 struct Relay {
-    /// Header, names and links are the same on every machine.
-    founded: Table,
+    /// Header, names and links, which all calls must agree on. The relay keeps them: a joining alters the link of a
+    /// machine that may be away.
+    roster: Table,
     /// What each machine holds: row i at place i - 1.
     machines: Vec<Vec<u8>>,
 }
 
 impl Relay {
-    fn found(names: &[u16]) -> Result<Relay, Refusal> {
-        let founded = Table::found(names.len(), FILE_LEN, names)?;
-        let machines = founded.rows().iter().filter_map(|row| founded.row(row)).map(<[u8]>::to_vec).collect();
-        Ok(Relay { founded, machines })
+    fn found(capacity: usize, names: &[u16]) -> Result<Relay, Refusal> {
+        let roster = Table::found(capacity, FILE_LEN, names)?;
+        let machines = roster.rows().iter().filter_map(|row| roster.row(row)).map(<[u8]>::to_vec).collect();
+        Ok(Relay { roster, machines })
     }
 
-    /// The table of a call: the rows that answered. The others stand there as founded, and count by name and link only.
+    /// A machine joins: nobody is asked, and it begins with its row as the joining made it.
+    fn join(&mut self, name: u16) -> Result<usize, Refusal> {
+        let row = self.roster.join(name)?;
+        self.machines.extend(self.roster.row(row).map(<[u8]>::to_vec));
+        println!("machine {name} joins as row {row}");
+        Ok(row)
+    }
+
+    /// The table of a call: the rows that answered. The others stand there as they began, and count by name and link only.
     fn gather(&self, answering: Rows) -> Result<Table, Refusal> {
-        let mut bytes = self.founded.as_bytes().to_vec();
+        let mut bytes = self.roster.as_bytes().to_vec();
         for row in answering {
-            bytes[HEADER + (row - 1) * ROW..][..ROW].copy_from_slice(&self.machines[row - 1]);
+            let place = HEADER + (row - 1) * ROW..HEADER + row * ROW;
+            bytes[place][NAME_AND_LINK..].copy_from_slice(&self.machines[row - 1][NAME_AND_LINK..]);
         }
         Ok(Table::from_bytes(bytes)?)
     }
@@ -76,7 +88,7 @@ impl Relay {
 }
 
 fn main() -> Result<(), Refusal> {
-    let mut relay = Relay::found(&[10, 20, 30, 40])?;
+    let mut relay = Relay::found(5, &[10, 20, 30, 40])?;
 
     // The own choice of row 4, by its name, is {1, 2, 3}. All of them answer, so the write is theirs alone.
     relay.write(4, Rows::first(4), b"1-0")?;
@@ -98,5 +110,12 @@ fn main() -> Result<(), Refusal> {
         relay.send(1, row)?;
     }
     assert_eq!(relay.read(3, Rows::of(&[3, 4])?)?, *b"1/2");
+
+    // A fifth machine joins. It reads with a quorum of the others at once; a check takes it into the list.
+    let fifth = relay.join(25)?;
+    assert_eq!(relay.read(fifth, Rows::of(&[3, 4, fifth])?)?, *b"1/2");
+    relay.check(1, Rows::first(5))?;
+    relay.send(1, fifth)?;
+    assert_eq!(relay.read(fifth, Rows::first(5))?, *b"1/2");
     Ok(())
 }

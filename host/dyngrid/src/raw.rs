@@ -9,7 +9,7 @@
 use std::sync::OnceLock;
 
 /// Rises with every change of a signature below, as in the archive.
-pub const INTERFACE: u64 = 1;
+pub const INTERFACE: u64 = 2;
 
 /// Panics unless the archive has the signatures that are declared here. The archive is asked once.
 pub fn assert_interface() {
@@ -68,6 +68,9 @@ extern "C" {
 
     /// Makes the answering rows the list in force. Value: the epoch number in force.
     pub fn grid_check(table: *mut u8, table_len: usize, coordinator: u64, answering: u64) -> u64;
+
+    /// Joins a machine in the first unused row. Value: that row.
+    pub fn grid_join(table: *mut u8, table_len: usize, name: u16) -> u64;
 }
 
 #[cfg(test)]
@@ -81,7 +84,7 @@ mod tests {
 
     #[test]
     #[should_panic(
-        expected = "has interface 7, and this wrapper needs 1: build archive and wrapper from one checkout"
+        expected = "has interface 7, and this wrapper needs 2: build archive and wrapper from one checkout"
     )]
     fn another_archive_is_refused() {
         agree(7);

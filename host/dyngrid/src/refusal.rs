@@ -31,13 +31,17 @@ pub enum Refusal {
     BadNames,
     /// 12: capacity and file length do not fit.
     BadSize,
+    /// 13: the name of a joining is 0 or in use.
+    NameNotFree,
+    /// 14: no unused row is left to join in.
+    NoRoom,
     /// A number that this wrapper has no name for: the archive is newer than the wrapper.
     Unknown(u32),
 }
 
 impl Refusal {
     /// Every refusal that has a name; the first has number 1, and so on upward.
-    pub const ALL: [Refusal; 12] = [
+    pub const ALL: [Refusal; 14] = [
         Refusal::Malformed,
         Refusal::NoSuchRow,
         Refusal::NotAnswering,
@@ -50,6 +54,8 @@ impl Refusal {
         Refusal::ReceiverNotBehind,
         Refusal::BadNames,
         Refusal::BadSize,
+        Refusal::NameNotFree,
+        Refusal::NoRoom,
     ];
 
     /// Its number, as the library gave it.
@@ -67,6 +73,8 @@ impl Refusal {
             Refusal::ReceiverNotBehind => 10,
             Refusal::BadNames => 11,
             Refusal::BadSize => 12,
+            Refusal::NameNotFree => 13,
+            Refusal::NoRoom => 14,
             Refusal::Unknown(number) => number,
         }
     }
@@ -96,6 +104,8 @@ impl Refusal {
             Refusal::BadSize => {
                 "the sizes do not fit: up to 64 rows, no fewer than the names, and a file of 1 to 4,096 bytes"
             }
+            Refusal::NameNotFree => "the name is 0 or in use: join with a name from 1 to 65,535 that no row has",
+            Refusal::NoRoom => "every row of the table is in use: found a table of more rows and carry the file over",
             Refusal::Unknown(_) => {
                 "this wrapper has no name for the number: build archive and wrapper from one checkout"
             }

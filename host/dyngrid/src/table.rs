@@ -145,6 +145,31 @@ impl Table {
             raw::grid_check(self.bytes.as_mut_ptr(), self.bytes.len(), coordinator, answering.bits())
         })
     }
+
+    /// Joins the machine `name` in the first unused row; gives that row. Nobody need answer.
+    ///
+    /// Besides the new row it alters the count in the header and the one link before the row: another row's, or the
+    /// header's first index. The new row may coordinate and answer at once, but it counts in no quorum until a check
+    /// that it answers takes it into the list. Until then it has no choice of its own: a read or write that it
+    /// coordinates works on all that answered.
+    ///
+    /// ```
+    /// use dyngrid::{Refusal, Rows, Table};
+    ///
+    /// let mut table = Table::found(3, 16, &[10, 20])?;
+    /// table.write(1, Rows::first(2), 0, b"1-0")?;
+    /// assert_eq!(table.join(15)?, 3);
+    /// // It is not marked yet: a check takes it in and marks it, and then a send brings it the file.
+    /// assert_eq!(table.send(1, 3, Rows::first(3)), Err(Refusal::ReceiverNotBehind));
+    /// table.check(1, Rows::first(3))?;
+    /// assert_eq!(table.send(1, 3, Rows::first(3))?, 1);
+    /// # Ok::<(), dyngrid::Refusal>(())
+    /// ```
+    pub fn join(&mut self, name: u16) -> Result<usize, Refusal> {
+        // SAFETY: `&mut self` is live for the call, and its only slice.
+        split(unsafe { raw::grid_join(self.bytes.as_mut_ptr(), self.bytes.len(), name) })
+            .map(|row| row as usize)
+    }
 }
 
 /// Its sizes; the bytes are left out.
@@ -242,7 +267,8 @@ mod tests {
     fn a_result_is_split_into_refusal_and_value() {
         assert_eq!(split(7), Ok(7));
         assert_eq!(split(6 << 32), Err(Refusal::NoQuorum));
-        assert_eq!(split(13 << 32 | 5), Err(Refusal::Unknown(13)));
+        assert_eq!(split(14 << 32), Err(Refusal::NoRoom));
+        assert_eq!(split(15 << 32 | 5), Err(Refusal::Unknown(15)));
         assert_eq!(split(u64::MAX), Err(Refusal::Unknown(u32::MAX)));
     }
 }

@@ -7,9 +7,9 @@ fn four() -> Table {
 }
 
 #[test]
-fn refusals_are_numbered_1_to_12() {
+fn refusals_are_numbered_1_to_14() {
     let numbers: Vec<u32> = Refusal::ALL.iter().map(|refusal| refusal.number()).collect();
-    assert_eq!(numbers, (1..=12).collect::<Vec<_>>());
+    assert_eq!(numbers, (1..=14).collect::<Vec<_>>());
     for refusal in Refusal::ALL {
         assert_eq!(Refusal::from_number(refusal.number()), Some(refusal));
     }
@@ -18,7 +18,7 @@ fn refusals_are_numbered_1_to_12() {
 #[test]
 fn a_number_without_a_name_is_kept() {
     assert_eq!(Refusal::from_number(0), None);
-    for number in [13, u32::MAX] {
+    for number in [15, u32::MAX] {
         let refusal = Refusal::from_number(number).expect("a refusal");
         assert_eq!((refusal, refusal.number()), (Refusal::Unknown(number), number));
         assert!(refusal.to_string().starts_with(&format!("refused by {number}: ")));
@@ -109,6 +109,56 @@ fn refused_calls_alter_nothing() {
     assert_eq!(table.send(1, 2, all), Err(Refusal::ReceiverNotBehind));
     assert_eq!(buffer, [7; 2]);
     assert_eq!(table, four());
+}
+
+#[test]
+fn a_joining_links_the_row_in_name_order() {
+    let mut table = Table::found(5, 4, &[20, 30]).expect("a plain founding");
+    // Above all names, below them, and between.
+    assert_eq!([40, 10, 25].map(|name| table.join(name)), [Ok(3), Ok(4), Ok(5)]);
+    assert_eq!((table.used(), table.rows()), (5, Rows::first(5)));
+    let bytes = table.as_bytes();
+    assert_eq!(bytes[..4], [1, 5, 5, 4], "the chain begins with row 4");
+    let names_and_links = table.rows().iter().map(|row| table.row(row).expect("in use")[..3].to_vec());
+    let expected = [[20, 0, 5], [30, 0, 3], [40, 0, 0], [10, 0, 1], [25, 0, 2]];
+    assert_eq!(names_and_links.collect::<Vec<_>>(), expected);
+    for row in [3, 4, 5] {
+        assert_eq!(table.row(row).map(|row| &row[3..]), Some(&[0; 33][..]), "zero otherwise, the list too");
+    }
+}
+
+#[test]
+fn joinings_are_refused_by_number() {
+    let mut table = Table::found(3, 4, &[10, 20]).expect("a plain founding");
+    let founded = table.clone();
+    assert_eq!([0, 10, 20].map(|name| table.join(name)), [Err(Refusal::NameNotFree); 3]);
+    assert_eq!(table, founded);
+    assert_eq!(table.join(u16::MAX), Ok(3));
+    let full = table.clone();
+    assert_eq!([0, 10, u16::MAX].map(|name| table.join(name)), [Err(Refusal::NameNotFree); 3]);
+    assert_eq!([1, 15, 65_534].map(|name| table.join(name)), [Err(Refusal::NoRoom); 3]);
+    assert_eq!(table, full);
+}
+
+#[test]
+fn a_joined_row_counts_once_a_check_takes_it_in() {
+    let mut table = Table::found(3, 4, &[10, 20]).expect("a plain founding");
+    let (both, all) = (Rows::first(2), Rows::first(3));
+    let mut got = [0; 3];
+    assert_eq!(table.write(1, both, 0, b"1-0"), Ok(1));
+    assert_eq!(table.join(30), Ok(3));
+    assert_eq!(table.read(3, Rows::from_bits(4), 0, &mut got), Err(Refusal::NoQuorum));
+    assert_eq!(table.read(3, all, 0, &mut got).map(|version| (version, &got)), Ok((1, b"1-0")));
+    assert_eq!(table.write(3, Rows::from_bits(6), 0, b"0-1"), Err(Refusal::NoQuorum));
+    assert_eq!(table.send(1, 3, all), Err(Refusal::ReceiverNotBehind));
+    assert_eq!(table.check(3, all), Ok(1));
+    assert_eq!(table.send(1, 3, all), Ok(1));
+    // Of three, the first and the second in name order hold a write quorum, and the second and the third a read quorum.
+    assert_eq!(table.write(1, both, 0, b"0-1"), Ok(2));
+    assert_eq!(
+        table.read(3, Rows::from_bits(6), 0, &mut got).map(|version| (version, &got)),
+        Ok((2, b"0-1"))
+    );
 }
 
 #[test]

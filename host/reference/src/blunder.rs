@@ -1,7 +1,7 @@
 //! Mistakes to make on purpose: each turns the engine into a wrong one that the tests must find.
 
 use crate::rows::{self, Order};
-use crate::{Layout, Quorum};
+use crate::{Layout, Quorum, Table};
 
 #[derive(Clone, Copy, Debug, PartialEq, Eq)]
 pub enum Blunder {
@@ -25,10 +25,16 @@ pub enum Blunder {
     SixByCount,
     /// A read copies from the good row of highest index.
     HighestGood,
+    /// A joining puts the new row behind the row that should follow it.
+    LinkTooFar,
+    /// A row with an empty list is not passed over in finding the highest epoch.
+    UnlistedEpoch,
+    /// An empty list has a read quorum in any set, since it has no column without a member.
+    VacuousQuorum,
 }
 
 impl Blunder {
-    pub const ALL: [Blunder; 10] = [
+    pub const ALL: [Blunder; 13] = [
         Blunder::OutsidersCount,
         Blunder::ShortColumnWhole,
         Blunder::DesiredIgnored,
@@ -39,6 +45,9 @@ impl Blunder {
         Blunder::NoChoice,
         Blunder::SixByCount,
         Blunder::HighestGood,
+        Blunder::LinkTooFar,
+        Blunder::UnlistedEpoch,
+        Blunder::VacuousQuorum,
     ];
 
     /// Its name on a command line.
@@ -54,12 +63,21 @@ impl Blunder {
             Blunder::NoChoice => "no-choice",
             Blunder::SixByCount => "six-by-count",
             Blunder::HighestGood => "highest-good",
+            Blunder::LinkTooFar => "link-too-far",
+            Blunder::UnlistedEpoch => "unlisted-epoch",
+            Blunder::VacuousQuorum => "vacuous-quorum",
         }
     }
 
     pub fn from_name(name: &str) -> Option<Blunder> {
         Blunder::ALL.into_iter().find(|blunder| blunder.name() == name)
     }
+}
+
+/// The highest epoch in the set and its list, rows with an empty list among them.
+pub fn highest_of_all(table: &Table, bytes: &[u8], set: u64) -> (u32, u64) {
+    let polled = rows::members(set).map(|row| table.row(bytes, row));
+    polled.max_by_key(|row| row.epoch).map_or((0, 0), |row| (row.epoch, row.list))
 }
 
 /// Counts each row outside the list in the place of the next member.

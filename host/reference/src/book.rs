@@ -6,7 +6,10 @@ use crate::{Layout, Quorum};
 
 #[derive(Clone)]
 pub struct Book {
+    /// For row i at place i - 1: its name.
     names: Vec<u16>,
+    /// The rows in the order of their names.
+    chain: Order,
     file: Vec<u8>,
     writes: usize,
     /// For row i at place i - 1: which of the done writes it has.
@@ -22,6 +25,7 @@ impl Book {
         let all = rows::first(names.len());
         Book {
             names: names.to_vec(),
+            chain: Order::first(names.len()),
             file: vec![0; file_len],
             writes: 0,
             has: vec![Vec::new(); names.len()],
@@ -59,6 +63,16 @@ impl Book {
         }
     }
 
+    /// A done joining: the new row has no write, and its own list is empty.
+    pub fn join(&mut self, name: u16) {
+        self.names.push(name);
+        self.has.push(vec![false; self.writes]);
+        self.own.push(0);
+        let mut rows: Vec<usize> = (1..=self.names.len()).collect();
+        rows.sort_by_key(|row| self.names[row - 1]);
+        self.chain = rows.into_iter().collect();
+    }
+
     /// How a read or write that passes questions 1 to 5 is refused: by 6, by 7 or not at all (0).
     pub fn refusal(&self, quorum: Quorum, answering: u64) -> u32 {
         if !self.holds(quorum, answering) {
@@ -79,7 +93,7 @@ impl Book {
         self.file.len()
     }
 
-    /// The rows that were founded.
+    /// The rows that were founded or joined.
     pub fn rows(&self) -> usize {
         self.names.len()
     }
@@ -101,8 +115,7 @@ impl Book {
         rows::members(set).any(|row| self.has_all(row))
     }
 
-    /// Founded rows lie in the order of their names.
     fn layout(&self, list: u64) -> Layout {
-        Layout::of(list, &Order::first(self.names.len()))
+        Layout::of(list, &self.chain)
     }
 }

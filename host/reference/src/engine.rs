@@ -2,19 +2,20 @@
 
 use crate::blunder::{self, Blunder};
 use crate::rows::{self, Order};
-use crate::{Layout, Quorum, Row, Table, LIMIT, MAX_FILE, MAX_ROWS, ROW_HEADER};
+use crate::{Layout, Quorum, Row, Rules, Table, LIMIT, MAX_FILE, MAX_ROWS, ROW_HEADER};
 use std::iter;
 
 /// Answers the calls on a table's bytes; with a blunder, wrongly.
 #[derive(Clone, Copy, Debug, Default)]
 pub struct Engine {
+    pub rules: Rules,
     pub blunder: Option<Blunder>,
 }
 
 /// What the rows of a set say together.
 struct Poll {
     set: u64,
-    /// The highest epoch in the set, and its list.
+    /// The highest epoch among the rows of the set that have a list, and that list; empty if none has.
     epoch: u32,
     list: u64,
     /// The unmarked rows of the highest version among unmarked rows, and that version.
@@ -70,11 +71,15 @@ impl Engine {
     }
 
     pub fn send(&self, bytes: &mut [u8], from: u64, to: u64, answering: u64) -> u64 {
-        result(send(bytes, from, to, answering))
+        result(self.try_send(bytes, from, to, answering))
     }
 
     pub fn check(&self, bytes: &mut [u8], coordinator: u64, answering: u64) -> u64 {
         result(self.try_check(bytes, coordinator, answering))
+    }
+
+    pub fn join(&self, bytes: &mut [u8], name: u16) -> u64 {
+        result(self.try_join(bytes, name))
     }
 
     fn try_read(
@@ -86,7 +91,7 @@ impl Engine {
         length: u64,
         buffer: &mut [u8],
     ) -> Answer {
-        let table = Table::decode(bytes).ok_or(1u32)?;
+        let table = Table::decode_by(self.rules, bytes).ok_or(1u32)?;
         ask(2, is_used(&table, coordinator) && only_used(&table, answering))?;
         ask(3, answers(answering, coordinator))?;
         ask(4, range_fits(&table, offset, length))?;
@@ -111,7 +116,7 @@ impl Engine {
         offset: u64,
         patch: &[u8],
     ) -> Answer {
-        let table = Table::decode(bytes).ok_or(1u32)?;
+        let table = Table::decode_by(self.rules, bytes).ok_or(1u32)?;
         ask(2, is_used(&table, coordinator) && only_used(&table, answering))?;
         ask(3, answers(answering, coordinator))?;
         ask(4, range_fits(&table, offset, patch.len() as u64))?;
@@ -139,7 +144,7 @@ impl Engine {
     }
 
     fn try_check(&self, bytes: &mut [u8], coordinator: u64, answering: u64) -> Answer {
-        let table = Table::decode(bytes).ok_or(1u32)?;
+        let table = Table::decode_by(self.rules, bytes).ok_or(1u32)?;
         ask(2, is_used(&table, coordinator) && only_used(&table, answering))?;
         ask(3, answers(answering, coordinator))?;
         let poll = self.poll(&table, bytes, answering);
@@ -160,6 +165,33 @@ impl Engine {
             table.write_row(bytes, row, &state);
         }
         Ok(poll.epoch + 1)
+    }
+
+    fn try_send(&self, bytes: &mut [u8], from: u64, to: u64, answering: u64) -> Answer {
+        let table = Table::decode_by(self.rules, bytes).ok_or(1u32)?;
+        ask(2, is_used(&table, from) && is_used(&table, to) && only_used(&table, answering) && from != to)?;
+        ask(3, answers(answering, from) && answers(answering, to))?;
+        let (from, to) = (from as usize, to as usize);
+        let (sender, receiver) = (table.row(bytes, from), table.row(bytes, to));
+        ask(9, !sender.stale)?;
+        ask(10, receiver.stale && receiver.desired <= sender.version)?;
+        let caught_up = Row { version: sender.version, stale: false, desired: 0, ..receiver };
+        table.write_row(bytes, to, &caught_up);
+        let source = table.row_at(from) + ROW_HEADER..table.row_at(from + 1);
+        bytes.copy_within(source, table.row_at(to) + ROW_HEADER);
+        Ok(sender.version)
+    }
+
+    fn try_join(&self, bytes: &mut [u8], name: u16) -> Answer {
+        let table = Table::decode_by(self.rules, bytes).ok_or(1u32)?;
+        let mut place = table.chain.partition_point(|&row| table.row(bytes, row.into()).name < name);
+        let in_use = table.chain.get(place).is_some_and(|&row| table.row(bytes, row.into()).name == name);
+        ask(13, name != 0 && !in_use)?;
+        ask(14, table.used < table.capacity)?;
+        if self.makes(Blunder::LinkTooFar) {
+            place = (place + 1).min(table.used);
+        }
+        Ok(table.link_in(bytes, name, place) as u32)
     }
 
     /// The set that a read or write works on: the coordinator's own choice as far as it answered, or else all that answered.
@@ -197,7 +229,8 @@ impl Engine {
         let mut desired = 0;
         for index in rows::members(set) {
             let row = table.row(bytes, index);
-            if row.epoch >= poll.epoch {
+            // A row with an empty list is passed over.
+            if row.epoch >= poll.epoch && row.list != 0 {
                 (poll.epoch, poll.list) = (row.epoch, row.list);
             }
             if row.stale {
@@ -208,12 +241,18 @@ impl Engine {
                 poll.good |= rows::only(index);
             }
         }
+        if self.makes(Blunder::UnlistedEpoch) {
+            (poll.epoch, poll.list) = blunder::highest_of_all(table, bytes, set);
+        }
         poll.current = poll.good != 0 && (desired <= poll.version || self.makes(Blunder::DesiredIgnored));
         poll
     }
 
-    /// Does the set hold a quorum of the list that is laid out?
+    /// Does the set hold a quorum of the list that is laid out? Of an empty one it does not.
     fn holds(&self, table: &Table, layout: &Layout, quorum: Quorum, set: u64) -> bool {
+        if layout.list == 0 && !self.makes(Blunder::VacuousQuorum) {
+            return false;
+        }
         match self.blunder {
             Some(Blunder::OutsidersCount) => blunder::holds_with_outsiders(layout, &table.chain, quorum, set),
             Some(Blunder::ShortColumnWhole) => blunder::holds_long_column(layout, quorum, set),
@@ -250,21 +289,6 @@ fn found(bytes: &mut [u8], capacity: u64, file_len: u64, names: &[u8]) -> Answer
         table.write_row(bytes, index, &row);
     }
     Ok(used as u32)
-}
-
-fn send(bytes: &mut [u8], from: u64, to: u64, answering: u64) -> Answer {
-    let table = Table::decode(bytes).ok_or(1u32)?;
-    ask(2, is_used(&table, from) && is_used(&table, to) && only_used(&table, answering) && from != to)?;
-    ask(3, answers(answering, from) && answers(answering, to))?;
-    let (from, to) = (from as usize, to as usize);
-    let (sender, receiver) = (table.row(bytes, from), table.row(bytes, to));
-    ask(9, !sender.stale)?;
-    ask(10, receiver.stale && receiver.desired <= sender.version)?;
-    let caught_up = Row { version: sender.version, stale: false, desired: 0, ..receiver };
-    table.write_row(bytes, to, &caught_up);
-    let source = table.row_at(from) + ROW_HEADER..table.row_at(from + 1);
-    bytes.copy_within(source, table.row_at(to) + ROW_HEADER);
-    Ok(sender.version)
 }
 
 fn mark(row: &mut Row, desired: u32) {

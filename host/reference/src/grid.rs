@@ -65,7 +65,7 @@ impl Layout {
         }
     }
 
-    /// Does the set hold a quorum of the list?
+    /// Does the set hold a quorum of the list, which has members?
     pub fn holds(&self, quorum: Quorum, set: u64) -> bool {
         let held = self.positions(set);
         // Places beyond the last member are no part of their columns.
@@ -79,9 +79,12 @@ impl Layout {
         with_a_member & columns == columns && (quorum == Quorum::Read || whole != 0)
     }
 
-    /// The own choice of the caller with this name.
+    /// The own choice of the caller with this name; of an empty list, none.
     pub fn choice(&self, quorum: Quorum, name: u16) -> u64 {
         let Grid { rows, columns, empty } = self.grid;
+        if columns == 0 {
+            return 0;
+        }
         let name = usize::from(name);
         let whole = name % columns + 1;
         // Columns have two heights; there are short ones only if there are two rows.
@@ -164,6 +167,14 @@ mod tests {
     #[test]
     fn choice_of_seven_among_fourteen() {
         assert_eq!(list_of(14).choice(Quorum::Write, 7), set(&[4, 7, 8, 12, 13, 14]));
+    }
+
+    #[test]
+    fn an_empty_list_has_no_choice() {
+        for name in [1, 2, 65_535] {
+            assert_eq!(list_of(0).choice(Quorum::Read, name), 0);
+            assert_eq!(list_of(0).choice(Quorum::Write, name), 0);
+        }
     }
 
     #[test]

@@ -1,7 +1,8 @@
 //! A second implementation of the grid table's calls, written from the scope alone: plain and obvious,
 //! table bytes in, table bytes out. It shares no code with the library that it is compared with.
 //!
-//! [`Engine`] answers the calls, [`Book`] is the plain book, and a [`Blunder`] turns the engine into a wrong one.
+//! [`Engine`] answers the calls, by the newest [`Rules`] or by the scope's alone; [`Book`] is the plain book, and a
+//! [`Blunder`] turns the engine into a wrong one.
 
 mod blunder;
 mod book;
@@ -14,4 +15,4 @@ pub use blunder::Blunder;
 pub use book::Book;
 pub use engine::Engine;
 pub use grid::{Grid, Layout, Quorum};
-pub use table::{Row, Table, HEADER, LIMIT, MAX_FILE, MAX_ROWS, ROW_HEADER};
+pub use table::{Row, Rules, Table, HEADER, LIMIT, MAX_FILE, MAX_ROWS, ROW_HEADER};

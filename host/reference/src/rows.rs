@@ -68,6 +68,15 @@ impl Order {
     }
 }
 
+/// At most 64 rows.
+impl FromIterator<usize> for Order {
+    fn from_iter<I: IntoIterator<Item = usize>>(rows: I) -> Order {
+        let mut order = Order::EMPTY;
+        rows.into_iter().for_each(|row| order.push(row));
+        order
+    }
+}
+
 impl Deref for Order {
     type Target = [u8];
 

@@ -9,6 +9,23 @@ pub const MAX_FILE: usize = 4096;
 /// The highest version, desired version and epoch number.
 pub const LIMIT: u32 = 1_000_000;
 
+/// Which papers a table is judged by.
+#[derive(Clone, Copy, Debug, Default, PartialEq, Eq)]
+pub enum Rules {
+    /// The scope alone: every row has a list.
+    Published,
+    /// With joining: a row may have an empty list.
+    #[default]
+    Joining,
+}
+
+impl Rules {
+    /// Is a row with this list exempt from the rules on its own row and on one list for an epoch?
+    pub fn exempt(self, list: u64) -> bool {
+        list == 0 && self == Rules::Joining
+    }
+}
+
 /// A used row without its contents.
 #[derive(Clone, Copy, Debug, PartialEq, Eq)]
 pub struct Row {
@@ -74,6 +91,11 @@ impl Table {
 
     /// Reads a table, if it is well formed.
     pub fn decode(bytes: &[u8]) -> Option<Table> {
+        Table::decode_by(Rules::default(), bytes)
+    }
+
+    /// Reads a table, if it is well formed by these rules.
+    pub fn decode_by(rules: Rules, bytes: &[u8]) -> Option<Table> {
         let header = bytes.first_chunk::<HEADER>()?;
         let [capacity, used, first] = [1, 2, 3].map(|at| usize::from(header[at]));
         let file_len = usize::from(u16::from_le_bytes([header[4], header[5]]));
@@ -86,7 +108,7 @@ impl Table {
             return None;
         }
         let mut table = Table { capacity, used, file_len, chain: Order::EMPTY };
-        let well_formed = table.rows_fit(bytes)
+        let well_formed = table.rows_fit(rules, bytes)
             && table.follow_chain(bytes, first)
             && all_zero(&bytes[table.row_at(used + 1)..]);
         well_formed.then_some(table)
@@ -100,6 +122,21 @@ impl Table {
         bytes[2] = self.used as u8;
         bytes[3] = first as u8;
         bytes[4..6].copy_from_slice(&(self.file_len as u16).to_le_bytes());
+    }
+
+    /// Puts a row that is not used yet behind the rows at the first `place` places of the chain, with an empty list.
+    pub fn link_in(&self, bytes: &mut [u8], name: u16, place: usize) -> usize {
+        let row = self.used + 1;
+        let next = self.chain.get(place).map_or(0, |&row| row.into());
+        let joined = Row { name, next, stale: false, version: 0, desired: 0, epoch: 0, list: 0 };
+        self.write_row(bytes, row, &joined);
+        let link = match place.checked_sub(1) {
+            Some(before) => self.row_at(self.chain[before].into()) + 2,
+            None => 3,
+        };
+        bytes[link] = row as u8;
+        bytes[2] = row as u8;
+        row
     }
 
     pub fn all_used(&self) -> u64 {
@@ -132,27 +169,34 @@ impl Table {
         bytes[self.row_at(row)..].first_chunk().expect("the row is in the table")
     }
 
-    /// Is every used row in order by itself, does its list name used rows only, its own among them, and is it the one
-    /// list of its epoch?
-    fn rows_fit(&self, bytes: &[u8]) -> bool {
+    /// Is every used row in order by itself, does its list name used rows only, and unless the row is exempt, its own
+    /// row among them, and is it the one list of its epoch?
+    fn rows_fit(&self, rules: Rules, bytes: &[u8]) -> bool {
         let all_used = self.all_used();
         // The first row of each epoch; most tables have few epochs, and most rows that of the row before.
         let mut leaders = Order::EMPTY;
-        let mut before = None;
+        // Epoch and list of the last row that is not exempt; an empty list stands for none.
+        let mut before = (0, 0);
         for index in 1..=self.used {
             let header = self.row_header(bytes, index);
             let row = Row::read(header);
-            if !row.fits(header) || row.list & !all_used != 0 || !rows::has(row.list, index) {
+            if !row.fits(header) || row.list & !all_used != 0 {
                 return false;
             }
-            if before != Some((row.epoch, row.list)) {
+            if !rows::has(row.list, index) {
+                if rules.exempt(row.list) {
+                    continue;
+                }
+                return false;
+            }
+            if before != (row.epoch, row.list) {
                 let mut earlier = leaders.iter().map(|&leader| self.row(bytes, usize::from(leader)));
                 match earlier.find(|leader| leader.epoch == row.epoch) {
                     Some(leader) if leader.list != row.list => return false,
                     Some(_) => {}
                     None => leaders.push(index),
                 }
-                before = Some((row.epoch, row.list));
+                before = (row.epoch, row.list);
             }
         }
         true

@@ -36,15 +36,19 @@ fn send(engine: Engine, table: &mut [u8]) -> u64 {
 #[test]
 fn no_call_takes_memory() {
     let engine = Engine::default();
-    let names: Vec<u8> = (1..=64u16).flat_map(u16::to_le_bytes).collect();
+    let names: Vec<u8> = (1..=63u16).map(|rank| 10 * rank).flat_map(u16::to_le_bytes).collect();
     let mut table = vec![0; Table::length(64, 100)];
     let (all, but_one) = (rows::first(64), rows::first(63));
     let mut buffer = [0; 100];
     let before = TAKEN.get();
     let results = [
         engine.found(&mut table, 64, 100, &names),
+        engine.join(&mut table, 305),
+        engine.join(&mut table, 305),
+        engine.join(&mut table, 306),
         engine.write(&mut table, 5, all, 0, &[1; 100]),
         engine.read(&table, 64, all, 0, 100, &mut buffer),
+        engine.check(&mut table, 1, all),
         engine.check(&mut table, 1, but_one),
         engine.check(&mut table, 1, but_one),
         engine.write(&mut table, 1, but_one & !2, 0, &[2; 7]),
@@ -53,6 +57,6 @@ fn no_call_takes_memory() {
         engine.read(&table, 1, 1, 0, 100, &mut buffer),
     ];
     assert_eq!(TAKEN.get(), before);
-    assert_eq!(results.map(|result| result >> 32), [0, 0, 0, 0, 0, 0, 0, 0, 6]);
+    assert_eq!(results.map(|result| result >> 32), [0, 0, 13, 14, 0, 0, 0, 0, 0, 0, 0, 0, 6]);
     assert!(TAKEN.get() > 0, "the count works");
 }

@@ -6,7 +6,7 @@ use lib.ListN.{length}
 use Rattle.fields.specs.Layout.{bodyLength, stride}
 use Rattle.laying.proofs.LaidLaws.{LaidOut, none-laid, all-laid, Turn, laid-fits, lent-zeros, laid-long, laid-turn, all-rows}
 use Rattle.laying.proofs.NameLaws.{name-at}
-use Rattle.protocol.proofs.FoundedLaws.{length-zeros}
+use Rattle.bytes.proofs.ByteLaws.{length-zeros}
 use Rattle.protocol.specs.Lists.{laidNow}
 use Rattle.protocol.specs.Calls.{namesIn}
 use Rattle.laying.proofs.lay_table.Statement.{statement}

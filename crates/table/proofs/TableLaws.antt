@@ -9,10 +9,9 @@ use lib.Dec.{eqb}
 use lib.ListN.{length, take, drop}
 use Rattle.sets.specs.Upto.{Within}
 use Rattle.bytes.specs.Bytes.{number, part}
-use Rattle.fields.specs.Layout.{Field, get, fileLength, stride, fileLengthOf, rowLength, rowsEnd, rowBytes}
+use Rattle.fields.specs.Layout.{Field, get, fileLength, stride, fileLengthOf, rowLength, rowsEnd, rowBytes, withRow, withRows}
 use Rattle.blocks.specs.Blocks.{block}
 use Rattle.blocks.proofs.BlockLaws.{length-block, Altered, blocks-changed, one-changed}
-use Rattle.protocol.specs.Rows.{withRow, withRows}
 
 -- u has the length and the header of t
 pub record Like (t u : List ℕ) : Type 0 where

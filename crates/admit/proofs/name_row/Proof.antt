@@ -1,0 +1,20 @@
+use borrow.Author.Needs.{needs}
+use Rattle.joining.specs.Joining.{namedRow}
+use Rattle.admit.proofs.name_row.Statement.{statement}
+use Rattle.admit.proofs.name_row.Tie as tie
+
+set-name-requires : tie.Need-set-name-requires
+set-name-requires c κs = search needs
+
+set-link-requires : tie.Need-set-link-requires
+set-link-requires c κs = search needs
+
+same-length : tie.Need-same-length
+same-length c = search needs
+
+returns : tie.Need-returns
+unfolding namedRow
+returns c = rw (c .before .before .set-link .ensures, c .before .before .before .before .before .before .set-name .ensures)
+
+pub name-row-spec : {M : Type 1} → statement M
+name-row-spec = tie.close (tie.spec set-name-requires set-link-requires same-length returns)

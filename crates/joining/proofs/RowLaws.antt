@@ -1,0 +1,291 @@
+-- What a table with a row more says: its header, its rows; and that it is well formed.
+use mathlib.Core.Path.{_≡_, refl, sym, _∙_, ap, subst}
+use mathlib.Core.Bool.{Bool, true, false, cond, _&&_}
+use mathlib.Core.Logic.{_⊎_, ⊎-elim, inl, inr}
+use mathlib.Core.List.{List, _++_}
+use Prim.Native.Nat.{ℕ, zero, suc, _+_, _-_, _*_, _^_, _≤_, _<_}
+use native.Mathlib.Nat.{lt-of-lt-of-le}
+use native.Mathlib.Omega.{arith}
+use lib.Dec.{eqb, ltb}
+use lib.Pow.{pow-mono, pow-pos}
+use lib.ListN.{length, take, drop, length-append}
+use lib.Seq.{drop-drop}
+use borrow.Author.Tests.{eqb-true, eq-eqb, ne-eqb}
+use Rattle.bools.proofs.BoolLaws.{and-l, and-r, clash}
+use Rattle.sets.specs.Upto.{Within}
+use Rattle.sets.proofs.UptoLaws.{last}
+use Rattle.bytes.specs.Bytes.{number, bytesOf, part, zeros, allZero}
+use Rattle.bytes.proofs.ByteLaws.{length-bytes, number-bytes, part-part, length-zeros, first-zeros, zero-drop}
+use Rattle.fields.specs.declared.Laid.{Laid}
+use Rattle.fields.specs.Layout.{Field, get, store, form, formValue, capacity, used, first, fileLength, name, link, mark, version, desired, epoch, members, list, noList, isEmpty, reserved, contents, bodyLength, stride, capacityOf, usedOf, firstOf, fileLengthOf, rowLength, rowsEnd, rowBytes, nameOf, linkOf}
+use Rattle.fields.proofs.FieldLaws.{Apart, get-store, get-other, reserved-store, contents-store, body-room, contents-part, list-is}
+use Rattle.table.specs.Chain.{orderOf, among}
+use Rattle.table.specs.WellFormed.{between, limit, wellFormed, headerValues, lengthRight, unusedZero}
+use Rattle.table.proofs.FormLaws.{is-between, RowFacts, OneList, Formed, formed}
+use Rattle.table.proofs.WellFormedLaws.{sized, header, linked, length-is, row-long}
+use Rattle.table.proofs.RisingLaws.{order-within}
+use Rattle.linking.specs.Linking.{lastOf, behind}
+use Rattle.joining.specs.Joining.{rowBefore}
+use Rattle.joining.specs.Claims.{OneMore}
+use Rattle.joining.proofs.FrameLaws.{before-used, behind-used}
+use Rattle.joining.proofs.OrderLaws.{Joined, joined-visits, joined-rise}
+
+-- ---- the new row
+module _ (x next body : ℕ) (h : Within 65_535 x) (l : next < 256) where
+  abbrev new : List ℕ
+  new = bytesOf 2 x ++ (bytesOf 1 next ++ (zeros 29 ++ zeros body))
+
+  new-name : get name new ≡ x
+  unfolding get name part zeros bytesOf
+  new-name = number-bytes 2 x (omega arith)
+
+  new-link : get link new ≡ next
+  unfolding get link part zeros bytesOf
+  new-link = number-bytes 1 next (omega arith)
+
+  pub new-list : isEmpty (list new) ≡ true
+  unfolding isEmpty list get members part number zeros bytesOf
+  new-list = refl
+
+  new-facts : (n i : ℕ) → next ≤ n → RowFacts n i new
+  unfolding isEmpty list reserved get mark version desired epoch members part number zeros bytesOf limit allZero
+  new-facts n i b = record {
+    named = rw new-name h;
+    linked = rw new-link b;
+    flag = omega arith;
+    spare = refl;
+    small-version = omega arith;
+    small-desired = omega arith;
+    small-epoch = omega arith;
+    behind = λ e. absurd (clash e);
+    level = λ e. refl;
+    only = omega (arith, pow-pos n);
+    own = λ e. absurd (clash (sym e));
+  }
+
+new-contents : (x next file : ℕ) → contents (bytesOf 2 x ++ (bytesOf 1 next ++ (zeros 29 ++ zeros (bodyLength file)))) ≡ zeros file
+unfolding part zeros bytesOf stride
+new-contents x next file =
+    contents-part (bytesOf 2 x ++ (bytesOf 1 next ++ (zeros 29 ++ zeros (bodyLength file)))) file new-length ∙ first-zeros file (bodyLength file) (body-room file)
+  where
+    new-length : length (bytesOf 2 x ++ (bytesOf 1 next ++ (zeros 29 ++ zeros (bodyLength file)))) ≡ 32 + bodyLength file
+    new-length = simp length-zeros (omega arith)
+
+-- what the new row says but for name and link: nothing yet
+pub record Blank (file : ℕ) (row : List ℕ) : Type 0 where
+  pub mark : get mark row ≡ 0
+  pub version : get version row ≡ 0
+  pub desired : get desired row ≡ 0
+  pub epoch : get epoch row ≡ 0
+  pub list : list row ≡ noList
+  pub contents : contents row ≡ zeros file
+
+new-blank : (x next file : ℕ) → Blank file (bytesOf 2 x ++ (bytesOf 1 next ++ (zeros 29 ++ zeros (bodyLength file))))
+unfolding list noList get mark version desired epoch members part number zeros bytesOf
+new-blank x next file = record {
+  mark = refl;
+  version = refl;
+  desired = refl;
+  epoch = refl;
+  list = refl;
+  contents = new-contents x next file;
+}
+
+module _ (t u : List ℕ) (x : ℕ) (e : wellFormed t ≡ true) (room : usedOf t < capacityOf t) (o : OneMore t u x) where
+  few : suc (usedOf t) ≤ 64
+  few = omega (arith, header (sized e .header) .capacity)
+
+  -- ---- the header
+  same-form : get form u ≡ get form t
+  unfolding get form
+  same-form = ap number (sym (part-part 0 2 0 1 u (omega arith)) ∙ ap (part 0 1) (o .low) ∙ part-part 0 2 0 1 t (omega arith))
+
+  same-capacity : capacityOf u ≡ capacityOf t
+  unfolding get capacityOf capacity
+  same-capacity = ap number (sym (part-part 0 2 1 1 u (omega arith)) ∙ ap (part 1 1) (o .low) ∙ part-part 0 2 1 1 t (omega arith))
+
+  pub file-kept : fileLengthOf u ≡ fileLengthOf t
+  unfolding get fileLengthOf fileLength
+  file-kept = ap number (sym (part-part 4 12 0 2 u (omega arith)) ∙ ap (part 0 2) (o .high) ∙ part-part 4 12 0 2 t (omega arith))
+
+  same-zero : part 6 10 u ≡ part 6 10 t
+  same-zero = sym (part-part 4 12 2 10 u (omega arith)) ∙ ap (part 2 10) (o .high) ∙ part-part 4 12 2 10 t (omega arith)
+
+  same-end : (k : ℕ) → rowsEnd u k ≡ rowsEnd t k
+  unfolding rowsEnd rowLength
+  same-end k = ap (λ (f : ℕ). 16 + k * stride f) file-kept
+
+  pub more-used : usedOf u ≡ suc (usedOf t)
+  unfolding usedOf get used
+  more-used = ap number (o .count) ∙ number-bytes 1 _ (omega (arith, few))
+
+  front-in : (b : Bool) → Within (suc (usedOf t)) (cond b (suc (usedOf t)) (firstOf t))
+  front-in true = omega arith
+  front-in false = omega (arith, header (sized e .header) .first)
+
+  more-first : firstOf u ≡ cond (eqb (rowBefore t x) 0) (suc (usedOf t)) (firstOf t)
+  unfolding firstOf get first
+  more-first = ap number (o .front) ∙ number-bytes 1 _ (omega (arith, few, front-in (eqb (rowBefore t x) 0)))
+
+  front-used : Within (suc (usedOf t)) (firstOf u)
+  front-used = rw more-first (front-in (eqb (rowBefore t x) 0))
+
+  more-header : headerValues u ≡ true
+  unfolding headerValues
+  more-header = rw (
+    same-form,
+    same-capacity,
+    more-used,
+    file-kept,
+    same-zero,
+    is-between 1 (suc (usedOf t)) (capacityOf t) (omega arith) room,
+    is-between 1 (firstOf u) (suc (usedOf t)) (front-used .0) (front-used .1),
+  )
+      (go (formed t e .header))
+    where
+      go : headerValues t ≡ true → (eqb (get form t) formValue && between 1 (capacityOf t) 64 && true && true && between 1 (fileLengthOf t) 4_096 && allZero (part 6 10 t)) ≡ true
+      go h =
+          let f : eqb (get form t) formValue ≡ true = search (and-l, and-r) in
+          let c : between 1 (capacityOf t) 64 ≡ true = search (and-l, and-r) in
+          let l : between 1 (fileLengthOf t) 4_096 ≡ true = search (and-l, and-r) in
+          let z : allZero (part 6 10 t) ≡ true = search (and-l, and-r) in
+          rw (f, c, l) z
+
+  -- ---- the rows that were there
+  long-row : (i : ℕ) → Within (usedOf t) i → 32 ≤ length (rowBytes t i)
+  long-row i v = row-long (sized e) i v
+
+  -- every field but the link stays
+  pub kept : (f : Field) → Apart f 2 3 → (i : ℕ) → Within (usedOf t) i → get f (rowBytes u i) ≡ get f (rowBytes t i)
+  unfolding link
+  kept f apart i v = ap (get f) (o .rows i v) ∙ go (eqb (rowBefore t x) i)
+    where
+      go : (b : Bool) → get f (cond b (store link (suc (usedOf t)) (rowBytes t i)) (rowBytes t i)) ≡ get f (rowBytes t i)
+      go true = get-other link (suc (usedOf t)) (rowBytes t i) (omega (arith, long-row i v)) f apart
+      go false = refl
+
+  spare-kept : (i : ℕ) → Within (usedOf t) i → reserved (rowBytes u i) ≡ reserved (rowBytes t i)
+  unfolding link
+  spare-kept i v = ap reserved (o .rows i v) ∙ go (eqb (rowBefore t x) i)
+    where
+      go : (b : Bool) → reserved (cond b (store link (suc (usedOf t)) (rowBytes t i)) (rowBytes t i)) ≡ reserved (rowBytes t i)
+      go true = reserved-store link (suc (usedOf t)) (rowBytes t i) (omega (arith, long-row i v)) (omega arith)
+      go false = refl
+
+  pub link-after : (i : ℕ) → Within (usedOf t) i → linkOf u i ≡ cond (eqb (rowBefore t x) i) (suc (usedOf t)) (linkOf t i)
+  unfolding linkOf link
+  link-after i v = ap (get link) (o .rows i v) ∙ go (eqb (rowBefore t x) i)
+    where
+      go : (b : Bool) → get link (cond b (store link (suc (usedOf t)) (rowBytes t i)) (rowBytes t i)) ≡ cond b (suc (usedOf t)) (get link (rowBytes t i))
+      go true = get-store link (suc (usedOf t)) (rowBytes t i) (omega (arith, long-row i v)) (omega (arith, few))
+      go false = refl
+
+  link-small : (i : ℕ) → Within (usedOf t) i → linkOf u i ≤ suc (usedOf t)
+  unfolding linkOf
+  link-small i v = rw (link-after i v) (go (eqb (rowBefore t x) i))
+    where
+      go : (b : Bool) → cond b (suc (usedOf t)) (linkOf t i) ≤ suc (usedOf t)
+      go true = omega arith
+      go false = omega (arith, formed t e .rows i v .linked)
+
+  -- and the contents
+  pub contents-kept : (i : ℕ) → Within (usedOf t) i → contents (rowBytes u i) ≡ contents (rowBytes t i)
+  unfolding link
+  contents-kept i v = ap contents (o .rows i v) ∙ go (eqb (rowBefore t x) i)
+    where
+      go : (b : Bool) → contents (cond b (store link (suc (usedOf t)) (rowBytes t i)) (rowBytes t i)) ≡ contents (rowBytes t i)
+      go true = contents-store link (suc (usedOf t)) (rowBytes t i) (omega (arith, long-row i v)) (omega arith)
+      go false = refl
+
+  pub new-says : Blank (fileLengthOf t) (rowBytes u (suc (usedOf t)))
+  new-says = rw (o .new) (new-blank x (behind (firstOf t) (linkOf t) (rowBefore t x)) (fileLengthOf t))
+
+  -- a row's list stays
+  pub list-kept : (i : ℕ) → Within (usedOf t) i → list (rowBytes u i) ≡ list (rowBytes t i)
+  unfolding list members
+  list-kept i v = list-is (rowBytes u i) (list (rowBytes t i)) (kept members (inr (omega arith)) i v)
+
+  old-facts : (i : ℕ) → Within (usedOf t) i → RowFacts (suc (usedOf t)) i (rowBytes u i)
+  unfolding linkOf name mark version desired epoch members
+  old-facts i v =
+      let f = formed t e .rows i v in
+      record {
+        named = rw (kept name (inl (omega arith)) i v) (f .named);
+        linked = link-small i v;
+        flag = rw (kept mark (inr (omega arith)) i v) (f .flag);
+        spare = rw (spare-kept i v) (f .spare);
+        small-version = rw (kept version (inr (omega arith)) i v) (f .small-version);
+        small-desired = rw (kept desired (inr (omega arith)) i v) (f .small-desired);
+        small-epoch = rw (kept epoch (inr (omega arith)) i v) (f .small-epoch);
+        behind = rw (kept mark (inr (omega arith)) i v, kept version (inr (omega arith)) i v, kept desired (inr (omega arith)) i v) (f .behind);
+        level = rw (kept mark (inr (omega arith)) i v, kept desired (inr (omega arith)) i v) (f .level);
+        only = rw (kept members (inr (omega arith)) i v) (lt-of-lt-of-le (f .only) (pow-mono (omega arith)));
+        own = rw (list-kept i v, kept members (inr (omega arith)) i v) (f .own);
+      }
+
+  module _ (h : Within 65_535 x) (free : (i : ℕ) → Within (usedOf t) i → nameOf t i ≡ x → ⊥) where
+    abbrev next : ℕ
+    next = behind (firstOf t) (linkOf t) (rowBefore t x)
+
+    small : behind (firstOf t) (linkOf t) (rowBefore t x) ≤ usedOf t
+    small = behind-used t e x room
+
+    abbrev body : ℕ
+    body = bodyLength (fileLengthOf t)
+
+    -- the chain
+    pub more-chain : Joined t u x
+    unfolding nameOf linkOf name rowBefore
+    more-chain = record {
+      used = more-used;
+      new = ap (get name) (o .new) ∙ new-name x next body h (omega (arith, few, small));
+      names = kept name (inl (omega arith));
+      links = record {
+        front = more-first;
+        into = λ l. let v : Within (usedOf t) (rowBefore t x) = (l, before-used t e x room) in link-after (rowBefore t x) v ∙ rw (eq-eqb (rowBefore t x) (rowBefore t x) refl);
+        onto = ap (get link) (o .new) ∙ new-link x next body h (omega (arith, few, small));
+        same = λ j m d. link-after j (order-within t e j m) ∙ rw (ne-eqb (rowBefore t x) j (λ z. d (sym z)));
+      };
+    }
+
+    row-facts : (i : ℕ) → Within (suc (usedOf t)) i → RowFacts (suc (usedOf t)) i (rowBytes u i)
+    row-facts i v = ⊎-elim
+        (λ q. subst (λ (k : ℕ). RowFacts (suc (usedOf t)) k (rowBytes u k)) (sym q)
+        (rw (o .new) (new-facts x next body h (omega (arith, few, small)) (suc (usedOf t)) (suc (usedOf t)) (omega (arith, small)))))
+        (old-facts i)
+        (last (usedOf t) i v)
+
+    -- the new row has no list
+    pub empty-new : isEmpty (list (rowBytes u (suc (usedOf t)))) ≡ true
+    empty-new = rw (o .new) (new-list x next body h (omega (arith, few, small)))
+
+    one-list : (i j : ℕ) → Within (suc (usedOf t)) i → Within (suc (usedOf t)) j → OneList (rowBytes u i) (rowBytes u j)
+    unfolding epoch
+    one-list i j v w a b q = go (last (usedOf t) i v) (last (usedOf t) j w)
+      where
+        go : (i ≡ suc (usedOf t)) ⊎ Within (usedOf t) i → (j ≡ suc (usedOf t)) ⊎ Within (usedOf t) j → list (rowBytes u i) ≡ list (rowBytes u j)
+        go (inl z) d = absurd (clash (sym (rw z at a) ∙ empty-new))
+        go (inr v) (inl z) = absurd (clash (sym (rw z at b) ∙ empty-new))
+        go (inr v) (inr w) =
+            list-kept i v
+            ∙ formed t e .agree i j v w (rw (list-kept i v) at a) (rw (list-kept j w) at b) (sym (kept epoch (inr (omega arith)) i v) ∙ q ∙ kept epoch (inr (omega arith)) j w)
+            ∙ sym (list-kept j w)
+
+    rest-zero : unusedZero u ≡ true
+    unfolding unusedZero rowsEnd
+    rest-zero =
+        let far : 16 + suc (usedOf t) * rowLength t ≡ 16 + usedOf t * rowLength t + rowLength t = omega arith in
+        rw (more-used, same-end (suc (usedOf t)), o .rest)
+        (ap (λ (k : ℕ). allZero (drop k t)) far ∙ ap allZero (sym (drop-drop (rowLength t) (16 + usedOf t * rowLength t) t)) ∙ zero-drop (rowLength t) (drop (16 + usedOf t * rowLength t) t) (formed t e .zero))
+
+    pub more-formed : Formed u
+    unfolding lengthRight
+    more-formed = record {
+      header = more-header;
+      long = eq-eqb _ _ (o .bytes ∙ length-is (sized e) ∙ sym (same-end (capacityOf t)) ∙ ap (rowsEnd u) (sym same-capacity));
+      rows = rw (more-used) row-facts;
+      visits = joined-visits t e u x more-chain;
+      rise = joined-rise t e u x more-chain (h .0) free;
+      zero = rest-zero;
+      agree = rw (more-used) one-list;
+    }

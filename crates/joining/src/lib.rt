@@ -1,0 +1,1 @@
+// A table with a row more: definitions and laws.

@@ -1,0 +1,3 @@
+pub mod PathLaws
+pub mod InsertLaws
+pub mod NameLaws
