@@ -10,6 +10,14 @@
  *   A refused call has value 0 and alters no byte of the table, of a buffer or of anything else.
  *   A done call, founding and joining aside, alters only rows that answered.
  *
+ * Tables of form 1
+ *   The first byte of a table is its form: 2 (GRID_FORM). A table of form 1, as earlier versions founded it, is refused by 1
+ *   until its first byte is set to 2; nothing else of it need change:
+ *       if (table[0] == 1) table[0] = GRID_FORM;
+ *   File, versions, epochs and lists stay, and every list keeps the grid that it was laid in. So a list of five that is in
+ *   force then is still the published one, of which nobody can read, write or check while its third machine in name order
+ *   is away. Two checks with that machine on lay it anew: one by four of the five, and one by all five (see grid_check).
+ *
  * Calls at the same time
  *   Reads of one table may run at the same time, also from several threads, each with its own buffer: a read alters
  *   nothing of the table, and the library keeps no state of its own. Every other call has the table to itself.
@@ -31,7 +39,8 @@
 extern "C" {
 #endif
 
-/* Rises with every change of a signature in this header. */
+/* Rises with every change of a signature in this header, and with nothing else: a new form of the table does not raise it,
+   for a table tells its form itself, and one of another form is refused by 1. */
 #define DYNGRID_INTERFACE 2
 
 /* The number of the archive. */
@@ -47,7 +56,7 @@ static inline int grid_interface_agrees(void)
 /* Why a call was refused. The questions behind the numbers are put in this order; the first no counts. */
 enum grid_refusals {
     GRID_DONE = 0,                 /* not refused */
-    GRID_MALFORMED = 1,            /* the table is not well formed: use a good copy of it, or found it anew */
+    GRID_MALFORMED = 1,            /* the table is not well formed: use a good copy of it, or found it anew; form 1: see above */
     GRID_NO_SUCH_ROW = 2,          /* a row is not in use, or a send names one row twice */
     GRID_NOT_ANSWERING = 3,        /* the coordinator, or an end of a send, is not in the answering set */
     GRID_OUT_OF_RANGE = 4,         /* the range is empty or ends beyond the file */
@@ -62,6 +71,9 @@ enum grid_refusals {
     GRID_NAME_NOT_FREE = 13,       /* the name is 0 or in use: join with another one, 1 to 65,535 */
     GRID_NO_ROOM = 14              /* every row of the table is in use: found a larger table and carry the file over */
 };
+
+/* The form of a table, in its first byte. */
+enum grid_forms { GRID_FORM = 2 };
 
 /* Limits of a table. */
 enum grid_limits { GRID_MAX_ROWS = 64, GRID_MAX_FILE = 4096, GRID_HEADER = 16, GRID_ROW_HEADER = 32 };
@@ -106,7 +118,11 @@ uint64_t grid_write(uint8_t *table, size_t table_len, uint64_t coordinator, uint
 /* Brings the stale row `to` up to the state of the row `from`. Value: the version it then has. Refusals: 1 to 3, 9, 10. */
 uint64_t grid_send(uint8_t *table, size_t table_len, uint64_t from, uint64_t to, uint64_t answering);
 
-/* Epoch check: makes the answering rows the list in force. Value: the epoch number in force. Refusals: 1 to 3, 6 to 8. */
+/* Epoch check: makes the answering rows the list in force. Value: the epoch number in force. Refusals: 1 to 3, 6 to 8.
+
+   A list of five, founded or laid by a check, lies in 3 rows and 2 columns and bears the loss of any one machine (byte 24 of
+   its rows, the grid mark, is 1). Every other list lies in the published grid (mark 0). A check by the list in force changes
+   nothing, its grid included. */
 uint64_t grid_check(uint8_t *table, size_t table_len, uint64_t coordinator, uint64_t answering);
 
 /* Joins a machine: the first unused row gets the name and its place in the chain, and is zero otherwise. Nobody need answer.

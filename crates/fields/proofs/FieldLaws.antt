@@ -1,5 +1,5 @@
 -- Fields: what was stored is read back; other fields, the reserved bytes and the contents stay; the length stays. And a row's length.
-use mathlib.Core.Path.{_≡_, refl, sym, _∙_, ap}
+use mathlib.Core.Path.{_≡_, refl, sym, _∙_, ap, ap₂}
 use mathlib.Core.Logic.{_⊎_, inl, inr}
 use mathlib.Core.List.{List}
 use Prim.Native.Nat.{ℕ, _+_, _-_, _*_, _^_, _≤_, _<_}
@@ -10,7 +10,7 @@ use lib.Seq.{take-all}
 use Rattle.bytes.specs.Bytes.{number, bytesOf, part, put}
 use Rattle.fields.specs.declared.Laid.{Laid}
 use Rattle.blocks.specs.Blocks.{block}
-use Rattle.fields.specs.Layout.{Field, get, store, members, list, noList, rowBytes, listOf, reserved, contents, storeContents, bodyLength, stride, fileLengthOf, rowLength}
+use Rattle.fields.specs.Layout.{Field, get, store, members, gridMark, list, noList, rowBytes, listOf, reserved, contents, storeContents, bodyLength, stride, fileLengthOf, rowLength}
 use Rattle.bytes.proofs.ByteLaws.{length-bytes, number-bytes, length-put, part-put, part-apart, drop-put-after, drop-put-before}
 
 -- the bytes of f end by place n
@@ -49,9 +49,9 @@ module _ (f : Field) (v : ℕ) (xs : List ℕ) (h : Ends f (length xs)) where
   unfolding get
   get-other g q = ap number (part-store (g .place) (g .width) q)
 
-  pub reserved-store : f .place + f .width ≤ 24 → reserved (store f v xs) ≡ reserved xs
+  pub reserved-store : f .place + f .width ≤ 25 → reserved (store f v xs) ≡ reserved xs
   unfolding reserved
-  reserved-store q = part-store 24 8 (inr q)
+  reserved-store q = part-store 25 7 (inr q)
 
   pub contents-store : f .place + f .width ≤ 32 → contents (store f v xs) ≡ contents xs
   unfolding contents store
@@ -73,7 +73,7 @@ module _ (offset : ℕ) (p xs : List ℕ) (h : 32 + offset + length p ≤ length
 
   pub reserved-contents : reserved (storeContents offset p xs) ≡ reserved xs
   unfolding reserved
-  reserved-contents = part-contents 24 8 (omega arith)
+  reserved-contents = part-contents 25 7 (omega arith)
 
   -- the patch is laid over the contents
   pub contents-contents : contents (storeContents offset p xs) ≡ put offset p (contents xs)
@@ -109,20 +109,20 @@ unfolding contents part stride bodyLength
 contents-part row file e = sym (take-all file (drop 32 row) (omega (arith, length-drop 32 row)))
 
 -- ---- lists
-laid : ℕ → Laid
-laid m = record { members = m }
+laid : ℕ → ℕ → Laid
+laid m g = record { members = m; mark = g }
 
 -- lists that say the same are the same
-pub laid-same : (a b : Laid) → a .members ≡ b .members → a ≡ b
+pub laid-same : (a b : Laid) → a .members ≡ b .members → a .mark ≡ b .mark → a ≡ b
 unfolding laid
-laid-same a b e = ap laid e
+laid-same a b e q = ap₂ laid e q
 
 -- a row whose fields say what a list says has that list
-pub list-is : (row : List ℕ) (l : Laid) → get members row ≡ l .members → list row ≡ l
+pub list-is : (row : List ℕ) (l : Laid) → get members row ≡ l .members → get gridMark row ≡ l .mark → list row ≡ l
 unfolding list
-list-is row l e = laid-same (list row) l e
+list-is row l e q = laid-same (list row) l e q
 
 -- there is no row 0
 pub no-row-no-list : (t : List ℕ) → listOf t 0 ≡ noList
-unfolding listOf list noList rowBytes block members get number part
+unfolding listOf list noList rowBytes block members gridMark get number part
 no-row-no-list t = refl

@@ -23,9 +23,9 @@ store f v xs = put (f .place) (bytesOf (f .width) v) xs
 unfoldable pub form : Field
 form = record { place = 0; width = 1 }
 
--- "byte 0 form, always 1"
+-- byte 0: "Header form becomes 2"
 unfoldable pub formValue : ℕ
-formValue = 1
+formValue = 2
 
 unfoldable pub capacity : Field
 capacity = record { place = 1; width = 1 }
@@ -39,7 +39,7 @@ first = record { place = 3; width = 1 }
 unfoldable pub fileLength : Field
 fileLength = record { place = 4; width = 2 }
 
--- a row's head: "0 to 1 name; 2 next row's index; 12 to 15 epoch number; 16 to 23 epoch list"
+-- a row's head: "0 to 1 name; 2 next row's index; 12 to 15 epoch number; 16 to 23 epoch list"; "row byte 24 becomes the grid mark"
 unfoldable pub name : Field
 name = record { place = 0; width = 2 }
 
@@ -52,21 +52,24 @@ epoch = record { place = 12; width = 4 }
 unfoldable pub members : Field
 members = record { place = 16; width = 8 }
 
--- a row's epoch list as it was laid; the row with another; and no list
+unfoldable pub gridMark : Field
+gridMark = record { place = 24; width = 1 }
+
+-- a row's epoch list as it was laid; the row with another; and no list: "an empty list has mark 0"
 unfoldable pub list : List ℕ → Laid
-list row = record { members = get members row }
+list row = record { members = get members row; mark = get gridMark row }
 
 unfoldable pub storeList : Laid → List ℕ → List ℕ
-storeList l row = store members (l .members) row
+storeList l row = store gridMark (l .mark) (store members (l .members) row)
 
 unfoldable pub noList : Laid
-noList = record { members = 0 }
+noList = record { members = 0; mark = 0 }
 
 -- "a row with an empty list": a list that names no row
 unfoldable pub isEmpty : Laid → Bool
 isEmpty l = eqb (l .members) 0
 
--- a row's part: "3 stale mark; 4 to 7 version; 8 to 11 desired version; 24 to 31 zero; then L contents bytes"
+-- a row's part: "3 stale mark; 4 to 7 version; 8 to 11 desired version; .. to 31 zero; then L contents bytes"
 unfoldable pub mark : Field
 mark = record { place = 3; width = 1 }
 
@@ -77,7 +80,7 @@ unfoldable pub desired : Field
 desired = record { place = 8; width = 4 }
 
 unfoldable pub reserved : List ℕ → List ℕ
-reserved row = part 24 8 row
+reserved row = part 25 7 row
 
 unfoldable pub contents : List ℕ → List ℕ
 contents row = drop 32 row

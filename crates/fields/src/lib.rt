@@ -4,17 +4,21 @@ ghost use mathlib.Core.Bool.{true};
 ghost use Prim.Native.Nat.{_+_, _≤_};
 ghost use lib.Dec.{eqb};
 ghost use lib.ListN.{length};
-ghost use Rattle.fields.specs.Layout.{get, store, name, link, mark, version, desired, epoch, members, list, storeList, isEmpty, contents, storeContents};
+ghost use Rattle.fields.specs.Layout.{get, store, name, link, mark, version, desired, epoch, members, gridMark, list, storeList, isEmpty, contents, storeContents};
 ghost use Rattle.bytes.specs.Bytes.{part};
 
-// A list of rows as it was laid: bit i − 1 of `members` for row i.
+// A list of rows as it was laid: bit i − 1 of `members` for row i; the mark of its grid.
 pub struct Laid {
     pub members: u64,
+    pub mark: u8,
 }
 
 impl Laid {
     // No list.
-    pub const NONE: Laid = Laid { members: 0 };
+    pub const NONE: Laid = Laid {
+        members: 0,
+        mark: 0,
+    };
 
     // Does the list name no row?
     pub fn is_empty(self) -> bool
@@ -27,7 +31,10 @@ impl Laid {
     pub fn same(self, other: Laid) -> bool
         ensures { λ r. ⌜ (r ≡ true → self ≡ other) × (self ≡ other → r ≡ true) ⌝ }
     {
-        self.members == other.members
+        if self.members == other.members {
+            return self.mark == other.mark;
+        }
+        false
     }
 }
 
@@ -48,8 +55,8 @@ const EPOCH_AT: usize = 12;
 
 const MEMBERS_AT: usize = 16;
 
-// the rest of the head is 0
-pub const HEAD_REST: usize = 24;
+// behind the grid mark the head is 0
+pub const GRID_MARK_AT: usize = 24;
 
 pub fn name(row: &[u8]) -> u16
     requires { ⌜ 32 ≤ length (now row) ⌝ }
@@ -107,6 +114,14 @@ pub fn members(row: &[u8]) -> u64
     bytes::u64_at(row, MEMBERS_AT)
 }
 
+// The mark of the grid that a row's list was laid in.
+pub fn grid_mark(row: &[u8]) -> u8
+    requires { ⌜ 32 ≤ length (now row) ⌝ }
+    ensures { λ r. ⌜ r ≡ get gridMark (now (row .entry)) ⌝ }
+{
+    bytes::u8_at(row, GRID_MARK_AT)
+}
+
 // A row's list.
 pub fn list(row: &[u8]) -> Laid
     requires { ⌜ 32 ≤ length (now row) ⌝ }
@@ -114,6 +129,7 @@ pub fn list(row: &[u8]) -> Laid
 {
     Laid {
         members: members(row),
+        mark: grid_mark(row),
     }
 }
 
@@ -159,11 +175,26 @@ pub fn set_epoch(row: &mut [u8], v: u32)
     bytes::store_at(row, EPOCH_AT, 4, v as u64);
 }
 
+fn set_members(row: &mut [u8], v: u64)
+    requires { ⌜ 32 ≤ length (now row) ⌝ }
+    ensures { λ r. ⌜ now (row .exit) ≡ store members v (now (row .entry)) ⌝ }
+{
+    bytes::store_at(row, MEMBERS_AT, 8, v);
+}
+
+fn set_grid_mark(row: &mut [u8], v: u8)
+    requires { ⌜ 32 ≤ length (now row) ⌝ }
+    ensures { λ r. ⌜ now (row .exit) ≡ store gridMark v (now (row .entry)) ⌝ }
+{
+    bytes::store_at(row, GRID_MARK_AT, 1, v as u64);
+}
+
 pub fn set_list(row: &mut [u8], l: Laid)
     requires { ⌜ 32 ≤ length (now row) ⌝ }
     ensures { λ r. ⌜ now (row .exit) ≡ storeList l (now (row .entry)) ⌝ }
 {
-    bytes::store_at(row, MEMBERS_AT, 8, l.members);
+    set_members(row, l.members);
+    set_grid_mark(row, l.mark);
 }
 
 // Bytes laid over the contents, from an offset on.

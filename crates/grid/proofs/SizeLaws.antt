@@ -1,13 +1,14 @@
 -- The sizes of the published grid, for any length.
-use mathlib.Core.Path.{_≡_, refl}
-use mathlib.Core.Bool.{Bool, true, false, cond}
-use Prim.Native.Nat.{ℕ, zero, suc, _+_, _-_, _*_, _≤_, _<_}
+use mathlib.Core.Path.{_≡_, refl, ap}
+use mathlib.Core.Bool.{Bool, true, false, cond, _&&_, _||_}
+use Prim.Native.Nat.{ℕ, zero, suc, _+_, _-_, _*_, _^_, _≤_, _<_}
 use native.Mathlib.Nat.{mul-le-mul-right}
 use native.Mathlib.Omega.{arith}
 use lib.Dec.{leb, ltb, eqb}
 use borrow.Author.Tests.{leb-true, leb-false, ltb-true, ltb-false, eqb-true, eqb-false}
+use Rattle.bools.proofs.BoolLaws.{and-r}
 use Rattle.grid.specs.declared.Grid.{Grid}
-use Rattle.grid.specs.Sizes.{Fits, root, rootUp, published}
+use Rattle.grid.specs.Sizes.{Fits, root, rootUp, published, newFive, gridBy, markFits, newMark, noGrid}
 
 -- s is the square root of N rounded down
 pub record Root (N s : ℕ) : Type 0 where
@@ -60,6 +61,48 @@ published-fits N pos = go (root N) (root-is N) (eqb (root N * root N) N) refl (l
         record { room = omega (arith, r .high); tight = omega (arith, ltb-true, r .low); narrow = omega (arith, ltb-true, square s (root-pos N s pos r)); some-column = omega arith }
     go s r false e false f =
         record { room = omega (arith, ltb-false); tight = omega (arith, r .low, root-pos N s pos r, eqb-false); narrow = omega (arith, square s (root-pos N s pos r), r .low, eqb-false); some-column = omega arith }
+
+-- a choice between two grids meets what both meet
+either : (P : Grid → Type 0) (b : Bool) {g h : Grid} → (b ≡ true → P g) → (b ≡ false → P h) → P (cond b g h)
+either P true p q = p refl
+either P false p q = q refl
+
+five-fits : Fits newFive 5
+unfolding newFive
+five-fits = omega arith
+
+-- every mark's grid fits every length from 1 on
+pub laid-fits : (mark N : ℕ) → 1 ≤ N → Fits (gridBy mark N) N
+unfolding gridBy
+laid-fits mark N pos = either (λ (g : Grid). Fits g N) (eqb mark 1 && eqb N 5)
+    (λ e. let five : N ≡ 5 = eqb-true N 5 (and-r (eqb mark 1) _ e) in rw five five-fits)
+    (λ e. published-fits N pos)
+
+-- ---- the mark of a list laid now
+pub new-mark-fits : (N : ℕ) → markFits (newMark N) N ≡ true
+unfolding markFits newMark
+new-mark-fits N = go (eqb N 5) refl
+  where
+    go : (b : Bool) → eqb N 5 ≡ b → (eqb (cond b 1 0) 0 || (eqb (cond b 1 0) 1 && b)) ≡ true
+    go true e = refl
+    go false e = refl
+
+pub new-mark-small : (N : ℕ) → newMark N < 256 ^ 1
+unfolding newMark
+new-mark-small N = go (eqb N 5)
+  where
+    go : (b : Bool) → cond b 1 0 < 256 ^ 1
+    go true = omega arith
+    go false = omega arith
+
+-- ---- a mark's grid as the code finds it
+pub by-five : (mark N : ℕ) → (eqb mark 1 && eqb N 5) ≡ true → newFive ≡ cond (leb N 64) (gridBy mark N) noGrid
+unfolding gridBy
+by-five mark N e = let few : leb N 64 ≡ true = ap (λ (n : ℕ). leb n 64) (eqb-true N 5 (and-r (eqb mark 1) _ e)) in rw (few, e)
+
+pub by-published : (mark N : ℕ) → (eqb mark 1 && eqb N 5) ≡ false → cond (leb N 64) (published N) noGrid ≡ cond (leb N 64) (gridBy mark N) noGrid
+unfolding gridBy
+by-published mark N e = rw e
 
 -- two bytes multiplied
 pub byte-product : (a b : ℕ) → a < 256 → b < 256 → a * b < 65536

@@ -1,5 +1,5 @@
 -- The grid of a list of N members: its sizes, and the row and column of each position. Rows, columns and positions count from 1.
-use mathlib.Core.Bool.{cond}
+use mathlib.Core.Bool.{Bool, cond, _&&_, _||_}
 use Prim.Native.Nat.{ℕ, zero, suc, _+_, _-_, _*_, _/_, _%_, _≤_, _<_}
 use lib.Dec.{eqb, leb, ltb}
 use Rattle.grid.specs.declared.Grid.{Grid}
@@ -16,6 +16,23 @@ rootUp N = cond (eqb (root N * root N) N) (root N) (root N + 1)
 -- "Rows m start at the whole square root of N rounded down, columns n at it rounded up; if m × n < N, m grows by one."
 unfoldable pub published : ℕ → Grid
 published N = record { rows = cond (ltb (root N * rootUp N) N) (root N + 1) (root N); cols = rootUp N }
+
+-- ---- the grid in which a list was laid: row byte 24 is its grid mark, "0 published, 1 the new five"
+-- "New lists of five are laid in 3 rows and 2 columns."
+unfoldable pub newFive : Grid
+newFive = record { rows = 3; cols = 2 }
+
+-- the grid of a list of N members by its mark
+unfoldable pub gridBy : ℕ → ℕ → Grid
+gridBy mark N = cond (eqb mark 1 && eqb N 5) newFive (published N)
+
+-- "Mark 1 needs a list of five": a list of N members can have the mark
+unfoldable pub markFits : ℕ → ℕ → Bool
+markFits mark N = eqb mark 0 || (eqb mark 1 && eqb N 5)
+
+-- the mark of a list of N members that is laid now
+unfoldable pub newMark : ℕ → ℕ
+newMark N = cond (eqb N 5) 1 0
 
 -- no rows and no columns
 unfoldable pub noGrid : Grid

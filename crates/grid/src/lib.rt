@@ -1,9 +1,10 @@
 // The grid of a list: how many rows and columns it has.
+use bools::both;
 ghost use mathlib.Core.Path.{_≡_};
 ghost use mathlib.Core.Bool.{cond};
 ghost use lib.Dec.{leb};
 ghost use Prim.Native.Nat.{_-_, _≤_};
-ghost use Rattle.grid.specs.Sizes.{published, noGrid, height};
+ghost use Rattle.grid.specs.Sizes.{published, noGrid, gridBy, markFits, newMark, height};
 
 // The sizes of a grid. (The table below has one for each length of a list.)
 pub struct Grid {
@@ -98,6 +99,33 @@ pub fn published(length: usize) -> Grid
         return Grid { rows: 0, cols: 0 };
     }
     entry(length)
+}
+
+// The grid that a list of `length` members with this mark was laid in; no rows and no columns where the length is 0 or above 64.
+pub fn of_mark(mark: u8, length: usize) -> Grid
+    ensures { λ r. ⌜ r ≡ cond (leb length 64) (gridBy mark length) noGrid ⌝ }
+{
+    if both(mark == 1, length == 5) {
+        return Grid { rows: 3, cols: 2 };
+    }
+    published(length)
+}
+
+// Can a list of `length` members have the mark?
+pub fn mark_fits(mark: u8, length: usize) -> bool
+    ensures { λ r. ⌜ r ≡ markFits mark length ⌝ }
+{
+    if mark == 0 {
+        return true;
+    }
+    both(mark == 1, length == 5)
+}
+
+// The mark of a list of `length` members that is laid now.
+pub fn new_mark(length: usize) -> u8
+    ensures { λ r. ⌜ r ≡ newMark length ⌝ }
+{
+    if length == 5 { 1 } else { 0 }
 }
 
 // a - b; 0 where b is more.

@@ -7,7 +7,7 @@ use Prim.Native.Nat.{ℕ, suc, _+_, _-_, _<_}
 use native.Mathlib.Omega.{arith}
 use lib.Dec.{eqb}
 use lib.ListN.{length, getD}
-use borrow.Author.Tests.{eqb-false, ne-eqb}
+use borrow.Author.Tests.{eqb-false, eq-eqb, ne-eqb}
 use Rattle.sets.specs.Upto.{Within}
 use Rattle.sets.specs.Sets.{has}
 use Rattle.quorums.specs.declared.Kind.the-variants.{Write}
@@ -30,9 +30,9 @@ use Rattle.protocol.proofs.FrameLaws.{Frame, same-used, same-file}
 use Rattle.protocol.proofs.QuestionLaws.{JoinYes, WriteYes, SendYes, CheckYes}
 use Rattle.protocol.proofs.DoneLaws.{RowBecomes, writeTable, write-leaves, write-taken, write-marked, sendTable, send-leaves, send-target, checkTable, check-leaves, check-taken, check-marked}
 use Rattle.protocol.proofs.KeepLaws.{write-formed, write-membership, send-formed, send-membership, check-formed, check-membership}
-use Rattle.history.specs.Book.{Book, nameIn, holdsQuorum, writeSet, written, passedOn, agreed, admitted}
+use Rattle.history.specs.Book.{Book, nameIn, holdsQuorum, writeSet, written, passedOn, agreed, checked, admitted}
 use Rattle.history.proofs.Invariant.{Inv, set-is}
-use Rattle.history.proofs.Steps.{Is, Stays, Wrote, keep-write, Sent, keep-send, Checked, keep-list, keep-check}
+use Rattle.history.proofs.Steps.{Is, Stays, Wrote, keep-write, Sent, keep-send, Checked, keep-check}
 use Rattle.history.proofs.Joined.{names-more, old-name, new-name, Grown, keep-join}
 use Rattle.history.proofs.State.{whole, State, few, epoch-whole, good-whole, six-check, force-check, version-whole, current-whole, answered, work-is, work-sub, work-used, work-quorum}
 use Rattle.history.proofs.Answers.{current-all}
@@ -190,16 +190,9 @@ module _ (t : List ℕ) (b : Book) (e : ℕ) (S : State t b e) (a : Checking) (y
   force-is : (highestEpoch (answers t (a .r)) (has (a .r)) ≡ e) × (inForce (answers t (a .r)) (has (a .r)) ≡ b .inForce)
   force-is = force-check t b e S (a .c) (a .r) (y .first) check-quorum
 
-  pub next-same : a .r ≡ inForce (answers t (a .r)) (has (a .r)) .members → State t (agreed b (a .r)) e
-  unfolding agreed nameIn
-  next-same z = record {
-    formed = S .formed;
-    used = S .used;
-    names = S .names;
-    file = S .file;
-    blank = S .blank;
-    inv = keep-list (usedOf t) (whole t) (contentsOf t) b e (few t b e S (a .r)) (S .inv) (whole t) (contentsOf t) (a .r) (y .first .rows) check-quorum (z ∙ ap (λ (v : Laid). v .members) (force-is .1));
-  }
+  pub next-same : a .r ≡ inForce (answers t (a .r)) (has (a .r)) .members → State t (checked b (a .r)) e
+  unfolding checked
+  next-same z = rw (eq-eqb _ _ (z ∙ ap (λ (v : Laid). v .members) (force-is .1))) S
 
   module _ (room : highestEpoch (answers t (a .r)) (has (a .r)) < limit) (cur : current (answers t (a .r)) (has (a .r)) ≡ true) where
     cu : List ℕ
@@ -209,9 +202,9 @@ module _ (t : List ℕ) (b : Book) (e : ℕ) (S : State t b e) (a : Checking) (y
     unfolding whole polled
     fresh i u m q = omega (arith, force-is .0, S .inv .epochs .below i u)
 
-    checked : Checked (usedOf t) (whole t) (contentsOf t) b e (few t b e S (a .r)) (S .inv) (whole cu) (contentsOf cu) (a .r) (highestEpoch (whole t) (has (a .r)) + 1)
+    rows-checked : Checked (usedOf t) (whole t) (contentsOf t) b e (few t b e S (a .r)) (S .inv) (whole cu) (contentsOf cu) (a .r) (highestEpoch (whole t) (has (a .r)) + 1)
     unfolding cu whole polled relisted changed fieldsOf fieldAt staleOf versionOf desiredOf contentsOf
-    checked = record {
+    rows-checked = record {
       epoch = rw (sym (epoch-whole t b e S (a .r) (has (a .r)) all)) (λ i v. check-membership t a y room cur i v .0);
       list = λ i v. check-membership t a y room cur i v .1;
       out = λ i v m. stays-of t cu i (check-leaves t a y room .out i v m);
@@ -219,8 +212,8 @@ module _ (t : List ℕ) (b : Book) (e : ℕ) (S : State t b e) (a : Checking) (y
       marked = rw (sym (good-whole t b e S (a .r) (has (a .r)) all), sym (version-whole t b e S (a .r) (has (a .r)) all)) (λ i v m g. is-of t cu i (check-marked t a y room i v m g));
     }
 
-    pub next-check : State (checkTable t a y room) (agreed b (a .r)) (suc e)
-    unfolding cu agreed
-    next-check = framed S (check-leaves t a y room .frame) (check-formed t a y room cur fresh) refl refl (S .blank)
+    pub next-check : eqb (a .r) (inForce (answers t (a .r)) (has (a .r)) .members) ≡ false → State (checkTable t a y room) (checked b (a .r)) (suc e)
+    unfolding cu checked agreed
+    next-check other = rw (ap (λ (v : Laid). eqb (a .r) (v .members)) (sym (force-is .1)) ∙ other) (framed S (check-leaves t a y room .frame) (check-formed t a y room cur fresh) refl refl (S .blank)
         (keep-check (usedOf t) (whole t) (contentsOf t) b e (few t b e S (a .r)) (S .inv) (whole cu) (contentsOf cu) (a .r) (y .first .rows) check-quorum
-        (sym (current-whole t b e S (a .r) (has (a .r)) all) ∙ cur) checked)
+        (sym (current-whole t b e S (a .r) (has (a .r)) all) ∙ cur) rows-checked))

@@ -18,7 +18,7 @@ use Rattle.fields.specs.declared.Laid.{Laid}
 use Rattle.fields.specs.Layout.{isEmpty}
 use Rattle.protocol.specs.Lists.{laidNow, listQuorum}
 use Rattle.protocol.specs.Polls.{Poll, highestEpoch, inForce, goodVersion, good, current}
-use Rattle.protocol.proofs.ListLaws.{laid-again, shared, inhabited, reads, has-list}
+use Rattle.protocol.proofs.ListLaws.{shared, inhabited, reads, has-list}
 use Rattle.protocol.proofs.PollLaws.{good-at, good-of}
 use Rattle.history.specs.Book.{Book, order, nameIn, hasAll, holdsQuorum, written, passedOn, agreed}
 use Rattle.history.proofs.Invariant.{aim, Epochs, Versions, Inv, clean, in-force, version-is, good-is}
@@ -203,30 +203,6 @@ module _ (n : ℕ) (p : Poll) (c : ℕ → List ℕ) (b : Book) (e : ℕ) (few :
     check-q : holdsQuorum b Read (has r) ≡ true
     unfolding holdsQuorum
     check-q = reads (order b) (b .inForce) Write (has r) q
-
-    -- that changes nothing
-    pub keep-list : r ≡ b .inForce .members → Inv n p c (agreed b r) e
-    unfolding agreed order nameIn
-    keep-list z = record {
-      epochs = record {
-        below = I .epochs .below;
-        inside = rw same (I .epochs .inside);
-        forced = rw same (I .epochs .forced);
-        bare = I .epochs .bare;
-        owned = λ i u. go i u (has r i) refl;
-        bound = rw same (I .epochs .bound);
-        dead = I .epochs .dead;
-      };
-      versions = I .versions;
-      live = rw same (I .live);
-    }
-      where
-        same : laidNow r ≡ b .inForce
-        same = ap laidNow z ∙ laid-again (b .inForce)
-
-        go : (i : ℕ) → Within n i → (x : Bool) → has r i ≡ x → cond x (laidNow r) (b .own i) ≡ p .list i
-        go i u true m = same ∙ sym (I .epochs .inside i u (rw (← z) m) .1)
-        go i u false m = I .epochs .owned i u
 
     -- that makes a new epoch
     module _ (cur : current p (has r) ≡ true) (w : Checked r (highestEpoch p (has r) + 1)) where

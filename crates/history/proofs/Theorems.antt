@@ -20,7 +20,7 @@ use Rattle.asking.proofs.AskingLaws.{yes-first}
 use Rattle.protocol.proofs.QuestionLaws.{ByCoordinator, passed-first, refusal-is, when-done, when-refused, join-yes, write-yes, send-yes, CheckYes, check-yes}
 use Rattle.protocol.proofs.FoundedLaws.{founds-of}
 use Rattle.protocol.proofs.DoneLaws.{writeTable, sendTable, checkTable}
-use Rattle.history.specs.Book.{Book, opened, holdsQuorum, someHasAll, entered, agreed}
+use Rattle.history.specs.Book.{Book, opened, holdsQuorum, someHasAll, entered, checked}
 use Rattle.history.specs.Demand3.{verdict, RefusedRight, Right, AllRight, Demand3}
 use Rattle.history.specs.Claims.{tableAfter, bookAfter, Reached, after, AlwaysWellFormed, ChecksByBook, Asks, aRead, aWrite, BelowTheLimit, AtTheLimit}
 use Rattle.history.proofs.State.{State, six-check, seven-check}
@@ -43,12 +43,12 @@ module _ (t : List ℕ) (b : Book) (e : ℕ) (S : State t b e) where
       y : CheckYes t a
       y = check-yes t a h
 
-      go : (x : Bool) → eqb (a .r) (inForce (answers t (a .r)) (has (a .r)) .members) ≡ x → (e′ : ℕ) × State (done t (check a) .table) (agreed b (a .r)) e′
+      go : (x : Bool) → eqb (a .r) (inForce (answers t (a .r)) (has (a .r)) .members) ≡ x → (e′ : ℕ) × State (done t (check a) .table) (checked b (a .r)) e′
       go true q = (e, rw q (next-same t b e S a y (eqb-true _ _ q)))
       go false q =
           let cur : current (answers t (a .r)) (has (a .r)) ≡ true = rw q at (y .current) in
           let room : ltb (highestEpoch (answers t (a .r)) (has (a .r))) limit ≡ true = rw q at (y .room) in
-          (suc e, rw q (next-check t b e S a y (ltb-true _ _ room) cur))
+          (suc e, rw q (next-check t b e S a y (ltb-true _ _ room) cur q))
 
   -- after any call
   pub next : (k : Call) → (e′ : ℕ) × State (outcome t k .table) (entered b k (eqb (outcome t k .refusal) 0)) e′

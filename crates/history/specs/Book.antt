@@ -99,6 +99,10 @@ agreed b r = record {
   hasWrite = b .hasWrite;
 }
 
+-- "A list in force keeps its grid": where R is that list, nothing changes
+unfoldable pub checked : Book → ℕ → Book
+checked b r = cond (eqb r (b .inForce .members)) b (agreed b r)
+
 -- "the book gives the new row an empty own list"; it has no write
 unfoldable pub admitted : Book → ℕ → Book
 admitted b x =
@@ -120,4 +124,4 @@ entered b (join a) true = admitted b (a .name)
 entered b (read a) true = b
 entered b (write a) true = written b (writeSet b (a .c) (a .r)) (a .offset) (a .patch)
 entered b (send a) true = passedOn b (a .f) (a .t)
-entered b (check a) true = agreed b (a .r)
+entered b (check a) true = checked b (a .r)

@@ -16,8 +16,9 @@ use Rattle.sets.specs.Upto.{Within}
 use Rattle.sets.proofs.UptoLaws.{last}
 use Rattle.bytes.specs.Bytes.{number, bytesOf, part, zeros, allZero}
 use Rattle.bytes.proofs.ByteLaws.{length-bytes, number-bytes, part-part, length-zeros, first-zeros, zero-drop}
+use Rattle.grid.specs.Sizes.{markFits}
 use Rattle.fields.specs.declared.Laid.{Laid}
-use Rattle.fields.specs.Layout.{Field, get, store, form, formValue, capacity, used, first, fileLength, name, link, mark, version, desired, epoch, members, list, noList, isEmpty, reserved, contents, bodyLength, stride, capacityOf, usedOf, firstOf, fileLengthOf, rowLength, rowsEnd, rowBytes, nameOf, linkOf}
+use Rattle.fields.specs.Layout.{Field, get, store, form, formValue, capacity, used, first, fileLength, name, link, mark, version, desired, epoch, members, gridMark, list, noList, isEmpty, reserved, contents, bodyLength, stride, capacityOf, usedOf, firstOf, fileLengthOf, rowLength, rowsEnd, rowBytes, nameOf, linkOf}
 use Rattle.fields.proofs.FieldLaws.{Apart, get-store, get-other, reserved-store, contents-store, body-room, contents-part, list-is}
 use Rattle.table.specs.Chain.{orderOf, among}
 use Rattle.table.specs.WellFormed.{between, limit, wellFormed, headerValues, lengthRight, unusedZero}
@@ -48,7 +49,7 @@ module _ (x next body : ℕ) (h : Within 65_535 x) (l : next < 256) where
   new-list = refl
 
   new-facts : (n i : ℕ) → next ≤ n → RowFacts n i new
-  unfolding isEmpty list reserved get mark version desired epoch members part number zeros bytesOf limit allZero
+  unfolding isEmpty list reserved get mark version desired epoch members gridMark markFits part number zeros bytesOf limit allZero
   new-facts n i b = record {
     named = rw new-name h;
     linked = rw new-link b;
@@ -61,6 +62,7 @@ module _ (x next body : ℕ) (h : Within 65_535 x) (l : next < 256) where
     level = λ e. refl;
     only = omega (arith, pow-pos n);
     own = λ e. absurd (clash (sym e));
+    grid = refl;
   }
 
 new-contents : (x next file : ℕ) → contents (bytesOf 2 x ++ (bytesOf 1 next ++ (zeros 29 ++ zeros (bodyLength file)))) ≡ zeros file
@@ -81,7 +83,7 @@ pub record Blank (file : ℕ) (row : List ℕ) : Type 0 where
   pub contents : contents row ≡ zeros file
 
 new-blank : (x next file : ℕ) → Blank file (bytesOf 2 x ++ (bytesOf 1 next ++ (zeros 29 ++ zeros (bodyLength file))))
-unfolding list noList get mark version desired epoch members part number zeros bytesOf
+unfolding list noList get mark version desired epoch members gridMark part number zeros bytesOf
 new-blank x next file = record {
   mark = refl;
   version = refl;
@@ -202,11 +204,11 @@ module _ (t u : List ℕ) (x : ℕ) (e : wellFormed t ≡ true) (room : usedOf t
 
   -- a row's list stays
   pub list-kept : (i : ℕ) → Within (usedOf t) i → list (rowBytes u i) ≡ list (rowBytes t i)
-  unfolding list members
-  list-kept i v = list-is (rowBytes u i) (list (rowBytes t i)) (kept members (inr (omega arith)) i v)
+  unfolding list members gridMark
+  list-kept i v = list-is (rowBytes u i) (list (rowBytes t i)) (kept members (inr (omega arith)) i v) (kept gridMark (inr (omega arith)) i v)
 
   old-facts : (i : ℕ) → Within (usedOf t) i → RowFacts (suc (usedOf t)) i (rowBytes u i)
-  unfolding linkOf name mark version desired epoch members
+  unfolding linkOf name mark version desired epoch members gridMark
   old-facts i v =
       let f = formed t e .rows i v in
       record {
@@ -221,6 +223,7 @@ module _ (t u : List ℕ) (x : ℕ) (e : wellFormed t ≡ true) (room : usedOf t
         level = rw (kept mark (inr (omega arith)) i v, kept desired (inr (omega arith)) i v) (f .level);
         only = rw (kept members (inr (omega arith)) i v) (lt-of-lt-of-le (f .only) (pow-mono (omega arith)));
         own = rw (list-kept i v, kept members (inr (omega arith)) i v) (f .own);
+        grid = rw (kept gridMark (inr (omega arith)) i v, kept members (inr (omega arith)) i v) (f .grid);
       }
 
   module _ (h : Within 65_535 x) (free : (i : ℕ) → Within (usedOf t) i → nameOf t i ≡ x → ⊥) where

@@ -13,7 +13,7 @@ use lib.Seq.{take-at, drop-at, take-all, take-suc, length-take-le}
 use Rattle.sets.specs.Sets.{has, firstRows}
 use Rattle.sets.proofs.SetLaws.{has-first, same-members}
 use Rattle.bytes.specs.Bytes.{bytesOf, put, zeros}
-use Rattle.fields.specs.Layout.{store, form, formValue, bodyLength, stride, capacity, used, first, fileLength, name, link, members, storeList}
+use Rattle.fields.specs.Layout.{store, form, formValue, bodyLength, stride, capacity, used, first, fileLength, name, link, members, gridMark, storeList}
 use Rattle.bytes.proofs.ByteLaws.{length-put, length-zeros, split-zeros, bytes-zero}
 use Rattle.bytes.proofs.CodeLaws.{part-length, part-back}
 use Rattle.fields.specs.declared.Laid.{Laid}
@@ -34,8 +34,8 @@ header-stored c n file rest hc hn =
 
 row-computed : (n body i x l : ℕ) (v : Laid) → l % 256 ≡ l → l ≡ cond (eqb i n) 0 (i + 1) → v ≡ laidNow (2 ^ n - 1)
     → storeList v (store link l (store name x (zeros 32 ++ zeros body))) ≡ foundedRow n body i x
-unfolding storeList store put bytesOf zeros foundedRow name link members
-row-computed n body i x l v small e-l e-v = ap₂ (λ (y : ℕ) (z : Laid). bytesOf 2 x ++ (y ∷ (zeros 13 ++ (bytesOf 8 (z .members) ++ (zeros 8 ++ zeros body))))) (small ∙ e-l) e-v
+unfolding storeList store put bytesOf zeros foundedRow name link members gridMark
+row-computed n body i x l v small e-l e-v = ap₂ (λ (y : ℕ) (z : Laid). bytesOf 2 x ++ (y ∷ (zeros 13 ++ (bytesOf 8 (z .members) ++ (bytesOf 1 (z .mark) ++ (zeros 7 ++ zeros body)))))) (small ∙ e-l) e-v
 
 pub row-stored : (n body i x l : ℕ) (v : Laid) → l < 256 → l ≡ cond (eqb i n) 0 (i + 1) → v ≡ laidNow (2 ^ n - 1)
     → storeList v (store link l (store name x (zeros (32 + body)))) ≡ foundedRow n body i x

@@ -112,7 +112,10 @@ fn standing(rows: &[u8; 64], count: usize, positions: RowSet) -> RowSet
 pub fn laid_now(set: RowSet) -> Laid
     ensures { λ r. ⌜ r ≡ laidNow (set .bits) ⌝ }
 {
-    Laid { members: set.bits }
+    Laid {
+        members: set.bits,
+        mark: grid::new_mark(set.size()),
+    }
 }
 
 // Does a set of rows hold a quorum of the list?
@@ -125,7 +128,7 @@ pub fn quorum(kind: Kind, order: &[u8; 64], count: usize, list: Laid, set: RowSe
     let seats = seated(order, count, members);
     coterie::holds(
         kind,
-        grid::published(length),
+        grid::of_mark(list.mark, length),
         length,
         held(&seats.rows, seats.count, set),
     )
@@ -138,7 +141,7 @@ pub fn choice(kind: Kind, order: &[u8; 64], count: usize, list: Laid, name: u16)
 {
     let members = RowSet { bits: list.members };
     let length = members.size();
-    let chosen = coterie::choose(kind, grid::published(length), length, name);
+    let chosen = coterie::choose(kind, grid::of_mark(list.mark, length), length, name);
     let seats = seated(order, count, members);
     standing(&seats.rows, seats.count, chosen)
 }

@@ -1,7 +1,7 @@
 -- Single calls on tables that no founding leads to, and foundings: what the histories do not reach.
 use mathlib.Core.Bool.{Bool, true, not, _&&_}
 use mathlib.Core.List.{List, [], _∷_, _++_}
-use Prim.Native.Nat.{ℕ, _+_, _-_, _*_}
+use Prim.Native.Nat.{ℕ, zero, suc, _+_, _-_, _*_}
 use lib.Dec.{eqb}
 use lib.ListN.{take, replicate}
 use Rattle.sets.specs.Upto.{upward}
@@ -22,7 +22,7 @@ allHold (On t k refusal value buffer ∷ cs) = stepsHold t (Made k refusal value
 -- two used rows of three; row 1 alone is the list in force
 unfoldable pub pair : List ℕ
 pair =
-    (1 ∷ 3 ∷ 2 ∷ 1 ∷ 1 ∷ 0 ∷ zeros 10)
+    (2 ∷ 3 ∷ 2 ∷ 1 ∷ 1 ∷ 0 ∷ zeros 10)
     ++ ((10 ∷ 0 ∷ 2 ∷ 0 ∷ 0 ∷ 0 ∷ 0 ∷ 0 ∷ 0 ∷ 0 ∷ 0 ∷ 0 ∷ 1 ∷ 0 ∷ 0 ∷ 0 ∷ 1 ∷ 0 ∷ 0 ∷ 0 ∷ 0 ∷ 0 ∷ 0 ∷ 0 ∷ 0 ∷ 0 ∷ 0 ∷ 0 ∷ 0 ∷ 0 ∷ 0 ∷ 0 ∷ 5 ∷ [])
     ++ ((20 ∷ 0 ∷ 0 ∷ 0 ∷ 0 ∷ 0 ∷ 0 ∷ 0 ∷ 0 ∷ 0 ∷ 0 ∷ 0 ∷ 0 ∷ 0 ∷ 0 ∷ 0 ∷ 3 ∷ 0 ∷ 0 ∷ 0 ∷ 0 ∷ 0 ∷ 0 ∷ 0 ∷ 0 ∷ 0 ∷ 0 ∷ 0 ∷ 0 ∷ 0 ∷ 0 ∷ 0 ∷ 5 ∷ [])
     ++ zeros 33))
@@ -44,7 +44,7 @@ set place width value t = put place (bytesOf width value) t
 -- one used row, of a capacity and a file length
 unfoldable pub single : (capacity fileLength : ℕ) → List ℕ
 single capacity fileLength =
-    (1 ∷ capacity ∷ 1 ∷ 1 ∷ bytesOf 2 fileLength) ++ (zeros 10
+    (2 ∷ capacity ∷ 1 ∷ 1 ∷ bytesOf 2 fileLength) ++ (zeros 10
     ++ ((10 ∷ 0 ∷ zeros 14) ++ ((1 ∷ zeros 15) ++ (replicate fileLength 5 ++ zeros ((capacity - 1) * (32 + fileLength))))))
 
 -- pair with a third row, at an epoch; its list is itself
@@ -59,6 +59,19 @@ unlisted e = set (row2 + 12) 4 e (set (row2 + 16) 8 0 pair)
 unfoldable pub nobody : List ℕ
 nobody = set (row1 + 16) 8 0 (unlisted 0)
 
+-- names below 256, two bytes each
+unfoldable pub twoBytes : List ℕ → List ℕ
+twoBytes [] = []
+twoBytes (x ∷ xs) = x ∷ 0 ∷ twoBytes xs
+
+-- n rows founded, named 10, 11, ..; and with the grid mark of each put to a number
+unfoldable pub full : ℕ → List ℕ
+full n = outcome (zeros (16 + n * 33)) (fo n 1 (twoBytes (upward n 10))) .table
+
+unfoldable pub remarked : (n mark : ℕ) → List ℕ → List ℕ
+remarked zero mark t = t
+remarked (suc n) mark t = remarked n mark (set (16 + n * 33 + 24) 1 mark t)
+
 -- ---- calls
 -- a check by row 0: refused by 1, or by 2 where question 1 is passed
 unfoldable pub malformed : List ℕ → Case
@@ -67,11 +80,7 @@ malformed t = On t (ck 0 0) 1 0 []
 unfoldable pub formed : List ℕ → Case
 formed t = On t (ck 0 0) 2 0 []
 
--- a founding on so many bytes, by names below 256
-unfoldable pub twoBytes : List ℕ → List ℕ
-twoBytes [] = []
-twoBytes (x ∷ xs) = x ∷ 0 ∷ twoBytes xs
-
+-- a founding on so many bytes
 unfoldable pub founds : (length capacity fileLength : ℕ) (names : List ℕ) (refusal value : ℕ) → Case
 founds length capacity fileLength names refusal value = On (zeros length) (fo capacity fileLength names) refusal value []
 
@@ -80,8 +89,8 @@ cases =
     -- ---- question 1: each rule broken, beside what is nearest to it and passes
     -- form
     formed pair
-    ∷ malformed (set 0 1 0 pair)
-    ∷ malformed (set 0 1 2 pair)
+    ∷ malformed (set 0 1 1 pair)
+    ∷ malformed (set 0 1 3 pair)
     -- capacity
     ∷ malformed (set 1 1 0 pair)
     ∷ formed (single 64 1)
@@ -145,8 +154,17 @@ cases =
     ∷ formed (unlisted 1)
     ∷ formed (set (row1 + 12) 4 0 (set (row1 + 16) 8 0 pair))
     ∷ formed nobody
+    -- grid marks: 1 for five alone, 0 for every length; one mark for an epoch
+    ∷ formed (full 4)
+    ∷ malformed (remarked 4 1 (full 4))
+    ∷ formed (full 5)
+    ∷ formed (remarked 5 0 (full 5))
+    ∷ malformed (remarked 5 2 (full 5))
+    ∷ malformed (set (row2 + 24) 1 0 (full 5))
+    ∷ malformed (remarked 6 1 (full 6))
+    ∷ malformed (set (row2 + 24) 1 1 (unlisted 0))
     -- zeros of a row; its contents; an unused row
-    ∷ malformed (set (row1 + 24) 1 1 pair)
+    ∷ malformed (set (row1 + 25) 1 1 pair)
     ∷ malformed (set (row2 + 31) 1 1 pair)
     ∷ formed (set (row2 + 32) 1 1 pair)
     ∷ malformed (set row3 1 1 pair)
@@ -161,6 +179,13 @@ cases =
     ∷ On nobody (rd 1 3 0 1 (9 ∷ [])) 6 0 (9 ∷ [])
     ∷ On nobody (wr 1 3 0 (7 ∷ [])) 6 0 []
     ∷ On nobody (ck 1 3) 6 0 []
+    -- ---- a published five that was carried over keeps its grid, also through a check of all five; the new five does not need its third row
+    ∷ On (full 5) (rd 1 27 0 1 (9 ∷ [])) 0 0 (0 ∷ [])
+    ∷ On (remarked 5 0 (full 5)) (rd 1 27 0 1 (9 ∷ [])) 6 0 (9 ∷ [])
+    ∷ On (remarked 5 0 (full 5)) (rd 1 7 0 1 (9 ∷ [])) 0 0 (0 ∷ [])
+    ∷ On (full 5) (rd 1 5 0 1 (9 ∷ [])) 6 0 (9 ∷ [])
+    ∷ On (outcome (remarked 5 0 (full 5)) (ck 1 31) .table) (rd 1 27 0 1 (9 ∷ [])) 6 0 (9 ∷ [])
+    ∷ On (outcome (outcome (remarked 5 0 (full 5)) (ck 1 15) .table) (ck 1 31) .table) (rd 1 27 0 1 (9 ∷ [])) 0 0 (0 ∷ [])
     -- ---- joining: 1, then 13 (name 0, above 65,535, in use), then 14
     ∷ On pair (jn 15) 0 3 []
     ∷ On pair (jn 1) 0 3 []

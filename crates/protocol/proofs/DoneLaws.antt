@@ -12,6 +12,7 @@ use borrow.Author.Tests.{eqb-true, eq-eqb}
 use Rattle.sets.specs.Upto.{Within}
 use Rattle.sets.specs.Sets.{has}
 use Rattle.quorums.specs.declared.Kind.the-variants.{Write}
+use Rattle.grid.proofs.SizeLaws.{new-mark-small}
 use Rattle.bytes.specs.Bytes.{put}
 use Rattle.fields.specs.Layout.{get, name, link, contents, rowLength, rowBytes, usedOf, nameOf, epochOf, versionOf, contentsOf, withRow, withRows}
 use Rattle.table.specs.Chain.{orderOf}
@@ -204,8 +205,8 @@ module _ (t : List ℕ) (a : Checking) (y : CheckYes t a) (room : highestEpoch (
       → Becomes (rowBytes t i) (checkedRow cg cv ce (laidNow (a .r)) i (rowBytes t i))
       (relisted (changed (cond b (fieldsOf (rowBytes t i)) (changed (changed (fieldsOf (rowBytes t i)) 3 1) 5 cv)) 6 ce) (laidNow (a .r))) (contents (rowBytes t i))
   unfolding checkedRow cv ce limit laidNow
-  enrolled i u true e = rw e (then-enrolled (rowBytes t i) (long-row t cw i u) ce (laidNow (a .r)) (omega arith) list-fits (unchanged (rowBytes t i)))
-  enrolled i u false e = rw e (then-enrolled (rowBytes t i) (long-row t cw i u) ce (laidNow (a .r)) (omega arith) list-fits (marked-row (rowBytes t i) (long-row t cw i u) cv (omega (arith, check-version))))
+  enrolled i u true e = rw e (then-enrolled (rowBytes t i) (long-row t cw i u) ce (laidNow (a .r)) (omega arith) list-fits (new-mark-small _) (unchanged (rowBytes t i)))
+  enrolled i u false e = rw e (then-enrolled (rowBytes t i) (long-row t cw i u) ce (laidNow (a .r)) (omega arith) list-fits (new-mark-small _) (marked-row (rowBytes t i) (long-row t cw i u) cv (omega (arith, check-version))))
 
   check-changed : Changed t checkTable (usedOf t) (has (a .r)) (checkedRow cg cv ce (laidNow (a .r)))
   unfolding checkTable cg cv ce

@@ -12,13 +12,16 @@ use lib.Pow.{pow-mono, ones-lt}
 use lib.ListN.{length, getD, take, drop, length-append}
 use lib.Seq.{take-at, drop-at, drop-drop}
 use borrow.Author.Tests.{eq-eqb, ne-eqb, ltb-true, leb-true}
-use Rattle.sets.specs.Upto.{Within, upward}
+use Rattle.sets.specs.Upto.{Within, count, upward}
+use Rattle.sets.specs.Sets.{has}
+use Rattle.grid.specs.Sizes.{newMark}
+use Rattle.grid.proofs.SizeLaws.{new-mark-fits, new-mark-small}
 use Rattle.bools.proofs.BoolLaws.{and-l, and-r, and-i, or-l, or-r, clash}
 use Rattle.sets.proofs.UptoLaws.{every-of}
 use Rattle.sets.proofs.SetLaws.{has-all}
 use Rattle.bytes.specs.Bytes.{number, bytesOf, part, zeros, allZero}
 use Rattle.blocks.specs.Blocks.{block}
-use Rattle.fields.specs.Layout.{get, form, formValue, capacity, used, first, fileLength, name, link, mark, version, desired, epoch, members, list, reserved, contents, bodyLength, stride, rowLength, rowsEnd, rowBytes, capacityOf, usedOf, firstOf, fileLengthOf, nameOf, linkOf}
+use Rattle.fields.specs.Layout.{get, form, formValue, capacity, used, first, fileLength, name, link, mark, version, desired, epoch, members, gridMark, list, reserved, contents, bodyLength, stride, rowLength, rowsEnd, rowBytes, capacityOf, usedOf, firstOf, fileLengthOf, nameOf, linkOf}
 use Rattle.table.specs.Chain.{chain, orderOf, among, risesFrom}
 use Rattle.table.specs.WellFormed.{between, limit, headerValues, lengthRight, visitsEach, namesRise, unusedZero}
 use Rattle.bytes.proofs.ByteLaws.{length-bytes, number-bytes, length-zeros, zeros-zero, first-zeros}
@@ -199,9 +202,13 @@ module _ (a : Calls.Founding) (f : Founds a) where
     unfolding Calls.foundedRow laidNow get members part zeros bytesOf
     row-members = number-bytes 8 (2 ^ length names - 1) list-fits
 
+    row-grid : get gridMark (Calls.foundedRow (length names) body i x) ≡ newMark (count 64 (has (2 ^ length names - 1)))
+    unfolding Calls.foundedRow laidNow get gridMark part zeros bytesOf
+    row-grid = number-bytes 1 (newMark (count 64 (has (2 ^ length names - 1)))) (new-mark-small (count 64 (has (2 ^ length names - 1))))
+
     pub row-list : list (Calls.foundedRow (length names) body i x) ≡ laidNow (2 ^ length names - 1)
     unfolding laidNow
-    row-list = list-is _ _ row-members
+    row-list = list-is _ _ row-members row-grid
 
     pub zero-mark : get mark (Calls.foundedRow (length names) body i x) ≡ 0
     unfolding Calls.foundedRow get mark part number zeros bytesOf
@@ -241,6 +248,7 @@ module _ (a : Calls.Founding) (f : Founds a) where
       level = λ e. zero-desired;
       only = rw row-members (ones-lt (length names));
       own = λ e. rw row-members (has-all (length names) i w);
+      grid = rw (row-grid, row-members) (new-mark-fits (count 64 (has (2 ^ length names - 1))));
     }
       where
         go : Dec (i ≡ length names) → cond (eqb i (length names)) 0 (i + 1) ≤ length names
@@ -370,11 +378,10 @@ module _ (a : Calls.Founding) (f : Founds a) where
   unfolding lengthRight
   founded-long = eq-eqb _ _ (founded-bytes ∙ sym (ap (rowsEnd (Calls.founded c file names)) founded-capacity ∙ founded-end c))
 
-  listed : (i : ℕ) → Within (length names) i → get members (rowBytes (Calls.founded c file names) i) ≡ 2 ^ length names - 1
-  listed = at-row (λ i r. get members r ≡ 2 ^ length names - 1) row-members
+  listed : (i : ℕ) → Within (length names) i → list (rowBytes (Calls.founded c file names) i) ≡ laidNow (2 ^ length names - 1)
+  listed = at-row (λ i r. list r ≡ laidNow (2 ^ length names - 1)) row-list
 
   pub founded-formed : Formed (Calls.founded c file names)
-  unfolding list
   founded-formed = record {
     header = founded-header;
     long = founded-long;
@@ -382,5 +389,5 @@ module _ (a : Calls.Founding) (f : Founds a) where
     visits = founded-visits;
     rise = founded-rise;
     zero = founded-zero;
-    agree = rw founded-used (λ i j u v p q e. list-is _ _ (listed i u ∙ sym (listed j v)));
+    agree = rw founded-used (λ i j u v p q e. listed i u ∙ sym (listed j v));
   }

@@ -311,4 +311,33 @@ histories =
           Head 3 ((30 ∷ 0 ∷ 0 ∷ 0 ∷ 2 ∷ zeros 7) ++ ((1 ∷ 0 ∷ 0 ∷ 0 ∷ []) ++ (7 ∷ zeros 15))) ∷
           [];
     }
+    -- a list of five is laid in 3 rows and 2 columns: the third machine may be off; a check that takes one out and one that takes it in again lay it anew
+    ∷ record {
+      capacity = 5;
+      fileLength = 1;
+      names = 10 ∷ 0 ∷ 20 ∷ 0 ∷ 30 ∷ 0 ∷ 40 ∷ 0 ∷ 50 ∷ 0 ∷ [];
+      steps =
+          Head 3 ((30 ∷ 0 ∷ 4 ∷ zeros 13) ++ ((31 ∷ zeros 7) ++ (1 ∷ zeros 7))) ∷
+          Made (rd 1 27 0 1 (9 ∷ [])) 0 0 (0 ∷ []) ∷
+          Made (wr 1 27 0 (7 ∷ [])) 0 1 [] ∷
+          Made (rd 1 21 0 1 (9 ∷ [])) 6 0 (9 ∷ []) ∷
+          Made (ck 1 31) 0 0 [] ∷
+          Made (ck 1 27) 0 1 [] ∷
+          Head 4 ((40 ∷ 0 ∷ 5 ∷ 0 ∷ 1 ∷ zeros 7) ++ ((1 ∷ 0 ∷ 0 ∷ 0 ∷ []) ++ ((27 ∷ zeros 7) ++ zeros 8))) ∷
+          Made (ck 1 31) 0 2 [] ∷
+          Head 3 ((30 ∷ 0 ∷ 4 ∷ 1 ∷ 0 ∷ 0 ∷ 0 ∷ 0 ∷ 1 ∷ 0 ∷ 0 ∷ 0 ∷ []) ++ ((2 ∷ 0 ∷ 0 ∷ 0 ∷ []) ++ ((31 ∷ zeros 7) ++ (1 ∷ zeros 7)))) ∷
+          [];
+    }
+    -- a choice over five goes by the grid that the list was laid in
+    ∷ record {
+      capacity = 5;
+      fileLength = 1;
+      names = 10 ∷ 0 ∷ 20 ∷ 0 ∷ 30 ∷ 0 ∷ 40 ∷ 0 ∷ 50 ∷ 0 ∷ [];
+      steps =
+          Made (wr 2 31 0 (5 ∷ [])) 0 1 [] ∷
+          Contents 3 (5 ∷ []) ∷
+          Contents 4 (0 ∷ []) ∷
+          Contents 5 (5 ∷ []) ∷
+          [];
+    }
     ∷ []

@@ -18,7 +18,7 @@ use Rattle.sets.proofs.CountLaws.{count-to}
 use Rattle.sets.proofs.SetLaws.{empty-at, has-within}
 use Rattle.quorums.specs.declared.Kind.{Kind}
 use Rattle.bytes.specs.Bytes.{part}
-use Rattle.grid.specs.Sizes.{published}
+use Rattle.grid.specs.Sizes.{gridBy}
 use Rattle.quorums.specs.Quorums.{choice}
 use Rattle.fields.specs.declared.Laid.{Laid}
 use Rattle.fields.specs.Layout.{isEmpty, capacity, capacityOf, usedOf, firstOf, fileLengthOf, nameOf, linkOf, rowBytes}
@@ -67,7 +67,7 @@ no-choice kind order l a i z =
     let size : count 64 (has 0) ≡ 0 = count-to 0 (has 0) (λ i l. empty-at i) 64 (omega arith) in
     rw (none, size) (unit kind order a i)
   where
-    unit : (kind : Kind) (order : List ℕ) (a i : ℕ) → some 0 (λ k. choice kind (published 0) 0 a k && atSeat (seats order (has 0)) (eqb i) k) ≡ false
+    unit : (kind : Kind) (order : List ℕ) (a i : ℕ) → some 0 (λ k. choice kind (gridBy (l .mark) 0) 0 a k && atSeat (seats order (has 0)) (eqb i) k) ≡ false
     unit kind order a i = some-none 0 _ (λ k w. absurd (omega arith))
 
 -- a set that only has rows with an empty list holds no quorum

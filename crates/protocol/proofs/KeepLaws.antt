@@ -7,7 +7,9 @@ use native.Mathlib.Decide.{ℕ-discrete}
 use native.Mathlib.Omega.{arith}
 use lib.Dec.{eqb}
 use borrow.Author.Tests.{eqb-true}
-use Rattle.sets.specs.Upto.{Within}
+use Rattle.sets.specs.Upto.{Within, count}
+use Rattle.grid.specs.Sizes.{markFits}
+use Rattle.grid.proofs.SizeLaws.{new-mark-fits}
 use Rattle.sets.specs.Sets.{has}
 use Rattle.bools.proofs.BoolLaws.{clash}
 use Rattle.quorums.specs.declared.Kind.the-variants.{Write}
@@ -24,7 +26,7 @@ use Rattle.protocol.proofs.FrameLaws.{same-used, same-header, same-long
 use Rattle.protocol.proofs.QuestionLaws.{answered-used, WriteYes, SendYes, CheckYes}
 use Rattle.protocol.proofs.DoneLaws.{Leaves, write-used, writeTable, write-leaves, write-taken, write-marked, sendTable, send-leaves, send-target, checkTable, check-version, check-leaves, check-taken, check-marked}
 
--- what is asked of a row, in terms of its seven fields
+-- what is asked of a row, in terms of its eight fields
 record Fields (n i : ℕ) (f : ℕ → ℕ) : Type 0 where
   flag : f 3 ≤ 1
   small-version : f 4 ≤ limit
@@ -34,6 +36,7 @@ record Fields (n i : ℕ) (f : ℕ → ℕ) : Type 0 where
   level : eqb (f 3) 1 ≡ false → f 5 ≡ 0
   only : f 7 < 2 ^ n
   own : eqb (f 7) 0 ≡ false → has (f 7) i ≡ true
+  grid : markFits (f 8) (count 64 (has (f 7))) ≡ true
 
 facts-after : {n i : ℕ} {row new c : List ℕ} {f : ℕ → ℕ} → RowFacts n i row → Becomes row new f c → f 1 ≡ get name row → f 2 ≡ get link row → Fields n i f → RowFacts n i new
 unfolding fieldAt isEmpty list
@@ -49,6 +52,7 @@ facts-after {n} {i} {row} {new} {c} {f} r b e1 e2 g = record {
   level = rw (b .fields 3 (omega arith), b .fields 5 (omega arith)) (g .level);
   only = rw (b .fields 7 (omega arith)) (g .only);
   own = rw (b .fields 7 (omega arith)) (g .own);
+  grid = rw (b .fields 8 (omega arith), b .fields 7 (omega arith)) (g .grid);
 }
 
 -- those of rows 1 to n that have a list, and one epoch, have one list
@@ -149,6 +153,7 @@ module _ (t : List ℕ) (a : Writing) (y : WriteYes t a) where
             level = f .level;
             only = f .only;
             own = f .own;
+            grid = f .grid;
           })
       go false g =
           let l = version-at t (a .r) (workSet Write t (a .c) (a .r)) ww write-sub (write-used t a y) (y .current) i m in
@@ -161,6 +166,7 @@ module _ (t : List ℕ) (a : Writing) (y : WriteYes t a) where
             level = λ e. absurd (clash (sym e));
             only = f .only;
             own = f .own;
+            grid = f .grid;
           })
 
   -- epochs and lists stay
@@ -198,6 +204,7 @@ module _ (t : List ℕ) (a : Sending) (y : SendYes t a) where
         level = λ e. refl;
         only = sw .rows (a .t) (y .to-used) .only;
         own = sw .rows (a .t) (y .to-used) .own;
+        grid = sw .rows (a .t) (y .to-used) .grid;
       }))
 
   pub send-membership : (i : ℕ) → Within (usedOf t) i
@@ -239,6 +246,7 @@ module _ (t : List ℕ) (a : Checking) (y : CheckYes t a) (room : highestEpoch (
         level = f .level;
         only = y .first .rows;
         own = λ e. m;
+        grid = new-mark-fits _;
       })
       go false g =
           let l = version-less t (a .r) (has (a .r)) chw (λ j h. h) check-used cur i m g in
@@ -251,6 +259,7 @@ module _ (t : List ℕ) (a : Checking) (y : CheckYes t a) (room : highestEpoch (
             level = λ e. absurd (clash (sym e));
             only = y .first .rows;
             own = λ e. m;
+            grid = new-mark-fits _;
           })
 
   -- rows that answered have the new epoch and list, the others keep theirs

@@ -12,45 +12,45 @@ use Rattle.sets.specs.Upto.{Within, every}
 use Rattle.bools.proofs.BoolLaws.{and-l, and-r, or-e}
 use Rattle.sets.proofs.UptoLaws.{every-at}
 use Rattle.bytes.specs.Bytes.{put}
-use Rattle.fields.specs.Layout.{Field, get, store, name, link, mark, version, desired, epoch, members, list, storeList, reserved, contents, storeContents}
+use Rattle.fields.specs.Layout.{Field, get, store, name, link, mark, version, desired, epoch, members, gridMark, list, storeList, reserved, contents, storeContents}
 use Rattle.bytes.proofs.ByteLaws.{put-all}
 use Rattle.fields.proofs.FieldLaws.{Apart, length-store, get-store, get-other, reserved-store, contents-store, length-contents, get-contents, reserved-contents, contents-contents, list-is}
 use Rattle.fields.specs.declared.Laid.{Laid}
 use Rattle.protocol.specs.Rows.{markedRow, patchedRow, enrolledRow, refreshedRow}
 
--- ---- the seven fields of a row, numbered from 1: name, link, mark, version, desired, epoch, members
+-- ---- the eight fields of a row, numbered from 1: name, link, mark, version, desired, epoch, members, grid mark
 unfoldable pub fieldAt : ℕ → Field
-fieldAt j = getD (name ∷ link ∷ mark ∷ version ∷ desired ∷ epoch ∷ members ∷ []) (j - 1) name
+fieldAt j = getD (name ∷ link ∷ mark ∷ version ∷ desired ∷ epoch ∷ members ∷ gridMark ∷ []) (j - 1) name
 
 ends : ℕ → ℕ
 ends j = fieldAt j .place + fieldAt j .width
 
--- the one computed test: each ends by byte 24, and two of them lie apart
+-- the one computed test: each ends by byte 25, and two of them lie apart
 apartTest : ℕ → ℕ → Bool
-apartTest i j = leb (ends i) 24 && (eqb j i || (leb (ends j) (fieldAt i .place) || leb (ends i) (fieldAt j .place)))
+apartTest i j = leb (ends i) 25 && (eqb j i || (leb (ends j) (fieldAt i .place) || leb (ends i) (fieldAt j .place)))
 
-all-apart : every 7 (λ i. every 7 (apartTest i)) ≡ true
-unfolding every apartTest ends fieldAt name link mark version desired epoch members
+all-apart : every 8 (λ i. every 8 (apartTest i)) ≡ true
+unfolding every apartTest ends fieldAt name link mark version desired epoch members gridMark
 all-apart = refl
 
-apart-at : (i j : ℕ) → Within 7 i → Within 7 j → apartTest i j ≡ true
-apart-at i j u w = every-at 7 (apartTest i) (every-at 7 (λ i. every 7 (apartTest i)) all-apart i u) j w
+apart-at : (i j : ℕ) → Within 8 i → Within 8 j → apartTest i j ≡ true
+apart-at i j u w = every-at 8 (apartTest i) (every-at 8 (λ i. every 8 (apartTest i)) all-apart i u) j w
 
-pub ends-24 : (i : ℕ) → Within 7 i → fieldAt i .place + fieldAt i .width ≤ 24
+pub ends-25 : (i : ℕ) → Within 8 i → fieldAt i .place + fieldAt i .width ≤ 25
 unfolding apartTest ends
-ends-24 i u = leb-true _ 24 (and-l _ _ (apart-at i i u u))
+ends-25 i u = leb-true _ 25 (and-l _ _ (apart-at i i u u))
 
 -- ---- one field stored
-module _ (row : List ℕ) (long : 32 ≤ length row) (i v : ℕ) (u : Within 7 i) where
+module _ (row : List ℕ) (long : 32 ≤ length row) (i v : ℕ) (u : Within 8 i) where
   fits : fieldAt i .place + fieldAt i .width ≤ length row
-  fits = omega (arith, ends-24 i u)
+  fits = omega (arith, ends-25 i u)
 
   pub stored-length : length (store (fieldAt i) v row) ≡ length row
   stored-length = length-store (fieldAt i) v row fits
 
-  pub stored-get : v < 256 ^ fieldAt i .width → (j : ℕ) → Within 7 j → get (fieldAt j) (store (fieldAt i) v row) ≡ cond (eqb j i) v (get (fieldAt j) row)
+  pub stored-get : v < 256 ^ fieldAt i .width → (j : ℕ) → Within 8 j → get (fieldAt j) (store (fieldAt i) v row) ≡ cond (eqb j i) v (get (fieldAt j) row)
   unfolding apartTest ends
-  stored-get h j w = go (eqb j i) refl (and-r (leb (ends i) 24) _ (apart-at i j u w))
+  stored-get h j w = go (eqb j i) refl (and-r (leb (ends i) 25) _ (apart-at i j u w))
     where
       side : (leb (ends j) (fieldAt i .place) ≡ true) ⊎ (leb (ends i) (fieldAt j .place) ≡ true) → Apart (fieldAt j) (fieldAt i .place) (fieldAt i .place + fieldAt i .width)
       side (inl q) = inl (leb-true _ _ q)
@@ -62,16 +62,16 @@ module _ (row : List ℕ) (long : 32 ≤ length row) (i v : ℕ) (u : Within 7 i
       go false e t = get-other (fieldAt i) v row fits (fieldAt j) (side (or-e (leb (ends j) (fieldAt i .place)) _ t))
 
   pub stored-reserved : reserved (store (fieldAt i) v row) ≡ reserved row
-  stored-reserved = reserved-store (fieldAt i) v row fits (ends-24 i u)
+  stored-reserved = reserved-store (fieldAt i) v row fits (ends-25 i u)
 
   pub stored-contents : contents (store (fieldAt i) v row) ≡ contents row
-  stored-contents = contents-store (fieldAt i) v row fits (omega (arith, ends-24 i u))
+  stored-contents = contents-store (fieldAt i) v row fits (omega (arith, ends-25 i u))
 
 -- ---- a row after a change: its length and reserved bytes stay, its fields are f, its contents are c
 pub record Becomes (row new : List ℕ) (f : ℕ → ℕ) (c : List ℕ) : Type 0 where
   pub long : length new ≡ length row
   pub spare : reserved new ≡ reserved row
-  pub fields : (j : ℕ) → Within 7 j → get (fieldAt j) new ≡ f j
+  pub fields : (j : ℕ) → Within 8 j → get (fieldAt j) new ≡ f j
   pub bytes : contents new ≡ c
 
 -- the fields of a row
@@ -84,22 +84,22 @@ changed f i v j = cond (eqb j i) v (f j)
 
 -- the list that the fields say; the fields with another list
 unfoldable pub listIn : (ℕ → ℕ) → Laid
-listIn f = record { members = f 7 }
+listIn f = record { members = f 7; mark = f 8 }
 
 unfoldable pub relisted : (ℕ → ℕ) → Laid → ℕ → ℕ
-relisted f l = changed f 7 (l .members)
+relisted f l = changed (changed f 7 (l .members)) 8 (l .mark)
 
 -- a row has the list that its fields say
 pub becomes-list : {row new c : List ℕ} {f : ℕ → ℕ} → Becomes row new f c → list new ≡ listIn f
 unfolding listIn fieldAt
-becomes-list b = list-is _ _ (b .fields 7 (omega arith))
+becomes-list b = list-is _ _ (b .fields 7 (omega arith)) (b .fields 8 (omega arith))
 
 pub unchanged : (row : List ℕ) → Becomes row row (fieldsOf row) (contents row)
 unfolding fieldsOf
 unchanged row = record { long = refl; spare = refl; fields = λ j w. refl; bytes = refl }
 
 -- one field more stored
-pub then-store : {row new c : List ℕ} {f : ℕ → ℕ} (i v : ℕ) → Within 7 i → v < 256 ^ fieldAt i .width → 32 ≤ length row → Becomes row new f c
+pub then-store : {row new c : List ℕ} {f : ℕ → ℕ} (i v : ℕ) → Within 8 i → v < 256 ^ fieldAt i .width → 32 ≤ length row → Becomes row new f c
     → Becomes row (store (fieldAt i) v new) (changed f i v) c
 unfolding changed
 then-store {row} {new} {c} {f} i v u h long b =
@@ -119,7 +119,7 @@ then-contents {row} {new} {c} {f} offset p h b =
     record {
       long = length-contents offset p new l ∙ b .long;
       spare = reserved-contents offset p new l ∙ b .spare;
-      fields = λ j w. get-contents offset p new l (fieldAt j) (omega (arith, ends-24 j w)) ∙ b .fields j w;
+      fields = λ j w. get-contents offset p new l (fieldAt j) (omega (arith, ends-25 j w)) ∙ b .fields j w;
       bytes = contents-contents offset p new l ∙ ap (put offset p) (b .bytes);
     }
 
@@ -135,10 +135,10 @@ module _ (row : List ℕ) (long : 32 ≤ length row) where
   patched-row v offset p h l = then-contents offset p l (then-store 4 v (omega arith) h long (unchanged row))
 
   -- a row that became new is enrolled
-  pub then-enrolled : {new c : List ℕ} {f : ℕ → ℕ} (e : ℕ) (l : Laid) → e < 256 ^ 4 → l .members < 256 ^ 8 → Becomes row new f c
+  pub then-enrolled : {new c : List ℕ} {f : ℕ → ℕ} (e : ℕ) (l : Laid) → e < 256 ^ 4 → l .members < 256 ^ 8 → l .mark < 256 ^ 1 → Becomes row new f c
       → Becomes row (enrolledRow e l new) (relisted (changed f 6 e) l) c
-  unfolding enrolledRow storeList relisted fieldAt epoch members
-  then-enrolled e l he hl b = then-store 7 (l .members) (omega arith) hl long (then-store 6 e (omega arith) he long b)
+  unfolding enrolledRow storeList relisted fieldAt epoch members gridMark
+  then-enrolled e l he hl hm b = then-store 8 (l .mark) (omega arith) hm long (then-store 7 (l .members) (omega arith) hl long (then-store 6 e (omega arith) he long b))
 
   pub refreshed-row : (source : List ℕ) → get version source < 256 ^ 4 → length source ≡ length row
       → Becomes row (refreshedRow source row) (changed (changed (changed (fieldsOf row) 3 0) 4 (get version source)) 5 0) (contents source)

@@ -121,7 +121,9 @@ foundedHeader capacity n fileLength = formValue ∷ capacity ∷ n ∷ 1 ∷ (by
 
 -- row i of n: its name, the next row (0 after the last), the list of all used rows; "contents, versions, epochs, marks .. become 0", with a body of so many bytes
 unfoldable pub foundedRow : ℕ → ℕ → ℕ → ℕ → List ℕ
-foundedRow n body i x = bytesOf 2 x ++ (cond (eqb i n) 0 (i + 1) ∷ (zeros 13 ++ (bytesOf 8 (laidNow (2 ^ n - 1) .members) ++ (zeros 8 ++ zeros body))))
+foundedRow n body i x =
+    let all = laidNow (2 ^ n - 1) in
+    bytesOf 2 x ++ (cond (eqb i n) 0 (i + 1) ∷ (zeros 13 ++ (bytesOf 8 (all .members) ++ (bytesOf 1 (all .mark) ++ (zeros 7 ++ zeros body)))))
 
 -- "It puts them in rows 1 upward": the rows from row i on
 unfoldable pub foundedRows : ℕ → ℕ → ℕ → List ℕ → List ℕ

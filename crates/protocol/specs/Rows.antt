@@ -13,7 +13,7 @@ markedRow v row = store desired v (store mark 1 row)
 unfoldable pub patchedRow : ℕ → ℕ → List ℕ → List ℕ → List ℕ
 patchedRow v offset patch row = storeContents offset patch (store version v row)
 
--- "gets list R and V's epoch number plus one"
+-- "gets list R and V's epoch number plus one", and the mark of the grid in which R is laid
 unfoldable pub enrolledRow : ℕ → Laid → List ℕ → List ℕ
 enrolledRow e l row = storeList l (store epoch e row)
 

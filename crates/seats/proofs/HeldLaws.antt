@@ -12,9 +12,9 @@ use Rattle.sets.specs.Upto.{Within, count, keep}
 use Rattle.sets.proofs.UptoLaws.{some-at, some-of}
 use Rattle.sets.proofs.KeepLaws.{kept}
 use Rattle.quorums.specs.declared.Kind.{Kind}
-use Rattle.grid.specs.Sizes.{published}
+use Rattle.grid.specs.Sizes.{gridBy}
 use Rattle.quorums.specs.Quorums.{choice}
-use Rattle.grid.proofs.SizeLaws.{published-fits}
+use Rattle.grid.proofs.SizeLaws.{laid-fits}
 use Rattle.quorums.proofs.QuorumLaws as Q
 use Rattle.table.specs.Chain.{orderOf}
 use Rattle.protocol.specs.Lists.{seats, atSeat, level, levelChoice}
@@ -23,12 +23,12 @@ use Rattle.seats.specs.Seats.{EveryListIsSeated, EveryChoiceHolds}
 use Rattle.seats.proofs.SeatLaws.{every-list-is-seated}
 
 -- who is chosen passes
-pub chosen-in : (kind : Kind) (order : List ℕ) (p : ℕ → Bool) (a i : ℕ) → levelChoice kind order p a i ≡ true → p i ≡ true
+pub chosen-in : (kind : Kind) (mark : ℕ) (order : List ℕ) (p : ℕ → Bool) (a i : ℕ) → levelChoice kind mark order p a i ≡ true → p i ≡ true
 unfolding levelChoice atSeat seats
-chosen-in kind order p a i h =
+chosen-in kind mark order p a i h =
     let w = some-at (count 64 p) _ h in
     let k = w .0 in
-    let s = and-r (choice kind (published (count 64 p)) (count 64 p) a k) _ (w .2) in
+    let s = and-r (choice kind (gridBy mark (count 64 p)) (count 64 p) a k) _ (w .2) in
     let b = and-l (leb 1 k && leb k (length (keep p order))) _ s in
     let l : 1 ≤ k = leb-true 1 k (and-l _ _ b) in
     let u : k ≤ length (keep p order) = leb-true k _ (and-r (leb 1 k) _ b) in
@@ -40,15 +40,15 @@ unfolding atSeat
 at-seat rows q k w h = rw (le-leb 1 k (w .0), le-leb k (length rows) (w .1)) h
 
 -- where there is a seat for each position of the grid, the row at a chosen one is chosen
-choice-holds : (kind : Kind) (order : List ℕ) (p : ℕ → Bool) (a : ℕ) → length (seats order p) ≡ count 64 p → 1 ≤ count 64 p → level kind order p (levelChoice kind order p a) ≡ true
+choice-holds : (kind : Kind) (mark : ℕ) (order : List ℕ) (p : ℕ → Bool) (a : ℕ) → length (seats order p) ≡ count 64 p → 1 ≤ count 64 p → level kind mark order p (levelChoice kind mark order p a) ≡ true
 unfolding level levelChoice
-choice-holds kind order p a many one =
-    Q.grows (published N) N (choice kind (published N) N a) (atSeat (seats order p) (levelChoice kind order p a)) at kind (Q.choice-holds (published N) N (published-fits N one) kind a)
+choice-holds kind mark order p a many one =
+    Q.grows (gridBy mark N) N (choice kind (gridBy mark N) N a) (atSeat (seats order p) (levelChoice kind mark order p a)) at kind (Q.choice-holds (gridBy mark N) N (laid-fits mark N one) kind a)
   where
     N : ℕ
     N = count 64 p
 
-    at : (k : ℕ) → Within N k → choice kind (published N) N a k ≡ true → atSeat (seats order p) (levelChoice kind order p a) k ≡ true
+    at : (k : ℕ) → Within N k → choice kind (gridBy mark N) N a k ≡ true → atSeat (seats order p) (levelChoice kind mark order p a) k ≡ true
     at k w h =
         let row = getD (seats order p) (k - 1) 0 in
         let there : Within (length (seats order p)) k = rw many w in
@@ -56,6 +56,6 @@ choice-holds kind order p a many one =
 
 pub every-choice-holds : EveryChoiceHolds
 unfolding EveryChoiceHolds EveryListIsSeated
-every-choice-holds t e p used one kind a =
-    let h = choice-holds kind (orderOf t) p a (every-list-is-seated t e p used .many) one in
-    (h, level-grows (orderOf t) p kind (levelChoice kind (orderOf t) p a) p (chosen-in kind (orderOf t) p a) h)
+every-choice-holds t e p used one kind mark a =
+    let h = choice-holds kind mark (orderOf t) p a (every-list-is-seated t e p used .many) one in
+    (h, level-grows mark (orderOf t) p kind (levelChoice kind mark (orderOf t) p a) p (chosen-in kind mark (orderOf t) p a) h)

@@ -26,7 +26,7 @@ pub record Seated (t : List ℕ) (p : ℕ → Bool) : Type 0 where
 unfoldable pub EveryListIsSeated : Type 0
 EveryListIsSeated = (t : List ℕ) → wellFormed t ≡ true → (p : ℕ → Bool) → ((i : ℕ) → p i ≡ true → Within (usedOf t) i) → Seated t p
 
--- a choice over used rows holds a quorum of its kind; and so do all of them
+-- a choice over used rows, laid in any mark's grid, holds a quorum of its kind; and so do all of them
 unfoldable pub EveryChoiceHolds : Type 0
 EveryChoiceHolds = (t : List ℕ) → wellFormed t ≡ true → (p : ℕ → Bool) → ((i : ℕ) → p i ≡ true → Within (usedOf t) i) → 1 ≤ count 64 p
-    → (kind : Kind) (a : ℕ) → (level kind (orderOf t) p (levelChoice kind (orderOf t) p a) ≡ true) × (level kind (orderOf t) p p ≡ true)
+    → (kind : Kind) (mark a : ℕ) → (level kind mark (orderOf t) p (levelChoice kind mark (orderOf t) p a) ≡ true) × (level kind mark (orderOf t) p p ≡ true)

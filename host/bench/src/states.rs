@@ -2,7 +2,7 @@
 
 use crate::tasks::{Task, EVERY_TASK};
 use reference::rows::{self, Order};
-use reference::{Engine, Grid, Layout, Quorum, Table};
+use reference::{Engine, Grid, Layout, Quorum, Rules, Table};
 
 /// A well-formed table, and the calls that are timed on it.
 pub struct State {
@@ -128,7 +128,7 @@ fn few_answering(size: Size) -> State {
     let columns = Grid::of(size.used).columns;
     let quorum = (1..=size.used).filter(|row| (row - 1) % columns == 0 || *row > size.used - columns);
     let answering = quorum.fold(0, |set, row| set | rows::only(row));
-    let layout = Layout::of(rows::first(size.used), &Order::first(size.used));
+    let layout = Layout::of(Rules::default().lay(rows::first(size.used)), &Order::first(size.used));
     for quorum in [Quorum::Read, Quorum::Write] {
         let choice = layout.choice(quorum, u16::from_le_bytes(name(1)));
         assert!(layout.holds(quorum, answering) && !layout.holds(quorum, choice & answering));

@@ -2,7 +2,7 @@
 
 use crate::random::Random;
 use crate::tables::{self, Picture, Size};
-use reference::{rows, Table, HEADER, LIMIT, ROW_HEADER};
+use reference::{rows, Table, FORM, HEADER, LIMIT, ROW_HEADER};
 
 /// Breaks one rule of a well-formed table.
 type Damage = fn(&mut Vec<u8>, &Picture, &mut Random);
@@ -14,18 +14,20 @@ enum Needs {
     /// A number that is no used row, but has a bit in a list.
     FewerThan64,
     UnusedRow,
-    ThirdRow,
+    /// So many used rows.
+    Rows(usize),
 }
-use Needs::{FewerThan64, Nothing, ThirdRow, UnusedRow};
+use Needs::{FewerThan64, Nothing, Rows, UnusedRow};
 
-const RULES: [(&str, Needs, Damage); 42] = [
+const RULES: [(&str, Needs, Damage); 50] = [
     ("empty", Nothing, |bytes, _, _| bytes.clear()),
     ("truncated", Nothing, |bytes, _, random| bytes.truncate(random.between(1, bytes.len() - 2))),
     ("a byte short", Nothing, |bytes, _, _| bytes.truncate(bytes.len() - 1)),
     ("a byte over", Nothing, |bytes, _, _| bytes.push(0)),
     ("a row short", Nothing, |bytes, table, _| bytes.truncate(bytes.len() - ROW_HEADER - table.file_len)),
     ("a row over", Nothing, |bytes, table, _| bytes.resize(bytes.len() + ROW_HEADER + table.file_len, 0)),
-    ("form", Nothing, |bytes, _, random| bytes[0] = random.pick(&[0, 2, 255])),
+    ("form", Nothing, |bytes, _, random| bytes[0] = random.pick(&[0, FORM + 1, 255])),
+    ("form 1", Nothing, |bytes, _, _| bytes[0] = 1),
     ("capacity 0", Nothing, |bytes, _, _| {
         bytes[1] = 0;
         bytes.truncate(HEADER);
@@ -73,7 +75,7 @@ const RULES: [(&str, Needs, Damage); 42] = [
         put(bytes, table, one, 0, &table.row(two).name.to_le_bytes());
         put(bytes, table, two, 0, &table.row(one).name.to_le_bytes());
     }),
-    ("mark above 1", Nothing, |bytes, table, random| {
+    ("stale mark above 1", Nothing, |bytes, table, random| {
         put(bytes, table, any_row(table, random), 3, &[random.pick(&[2, 129, 255])])
     }),
     ("number above the limit", Nothing, |bytes, table, random| {
@@ -95,30 +97,58 @@ const RULES: [(&str, Needs, Damage); 42] = [
     }),
     ("list without its row", Nothing, |bytes, table, random| {
         let row = any_row(table, random);
-        put_epoch(bytes, table, row, FREE_EPOCH, table.all_used() & !rows::only(row));
+        put_list(bytes, table, row, table.all_used() & !rows::only(row));
     }),
     ("list with an unused row", FewerThan64, |bytes, table, random| {
         let unused = random.between(table.used + 1, 64);
-        put_epoch(bytes, table, any_row(table, random), FREE_EPOCH, table.all_used() | rows::only(unused));
+        put_list(bytes, table, any_row(table, random), table.all_used() | rows::only(unused));
     }),
     ("one epoch, two lists", Nothing, |bytes, table, random| {
         let one = any_row(table, random);
         let other = random.row(table.all_used() & !rows::only(one));
-        put_epoch(bytes, table, one, FREE_EPOCH, table.all_used());
-        put_epoch(bytes, table, other, FREE_EPOCH, table.all_used() & !rows::only(one));
+        put_list(bytes, table, one, table.all_used());
+        put_list(bytes, table, other, table.all_used() & !rows::only(one));
     }),
-    ("one epoch, two lists and an empty one", ThirdRow, |bytes, table, random| {
+    ("one epoch, two lists and an empty one", Rows(3), |bytes, table, random| {
         let mut rows: Vec<usize> = (1..=table.used).collect();
         random.shuffle(&mut rows);
-        put_epoch(bytes, table, rows[0], FREE_EPOCH, table.all_used());
-        put_epoch(bytes, table, rows[1], FREE_EPOCH, 0);
-        put_epoch(bytes, table, rows[2], FREE_EPOCH, table.all_used() & !rows::only(rows[1]));
+        put_list(bytes, table, rows[0], table.all_used());
+        put_list(bytes, table, rows[1], 0);
+        put_list(bytes, table, rows[2], table.all_used() & !rows::only(rows[1]));
+    }),
+    ("grid mark of a list of four", Rows(4), |bytes, table, random| {
+        put_marked(bytes, table, random, 4, 1);
+    }),
+    ("grid mark of a list of six", Rows(6), |bytes, table, random| {
+        put_marked(bytes, table, random, 6, 1);
+    }),
+    ("grid mark of an empty list", Nothing, |bytes, table, random| {
+        let row = unlisted_row(bytes, table, random);
+        put(bytes, table, row, 24, &[random.pick(&[1, 2])]);
+    }),
+    ("grid mark of no grid", Nothing, |bytes, table, random| {
+        put(bytes, table, any_row(table, random), 24, &[random.pick(&[2, 3, 128, 255])]);
+    }),
+    ("grid mark of no grid, list of five", Rows(5), |bytes, table, random| {
+        let mark = random.pick(&[2, 3, 129, 255]);
+        put_marked(bytes, table, random, 5, mark);
+    }),
+    ("grid marks of one epoch", Rows(5), |bytes, table, random| {
+        let rows = put_marked(bytes, table, random, 5, 1);
+        for &row in &rows[..random.between(1, 4)] {
+            put(bytes, table, row, 24, &[0]);
+        }
+    }),
+    ("grid marks of one epoch and an empty list", Rows(5), |bytes, table, random| {
+        let rows = put_marked(bytes, table, random, 5, 1);
+        put_list(bytes, table, rows[1], 0);
+        put(bytes, table, rows[2], 24, &[0]);
     }),
     ("joined row, name 0", Nothing, |bytes, table, random| {
         let row = unlisted_row(bytes, table, random);
         put(bytes, table, row, 0, &[0, 0]);
     }),
-    ("joined row, mark above 1", Nothing, |bytes, table, random| {
+    ("joined row, stale mark above 1", Nothing, |bytes, table, random| {
         let row = unlisted_row(bytes, table, random);
         put(bytes, table, row, 3, &[2]);
     }),
@@ -127,7 +157,8 @@ const RULES: [(&str, Needs, Damage); 42] = [
         put_numbers(bytes, table, row, 0, LIMIT + 1, 0);
     }),
     ("joined row, epoch above the limit", Nothing, |bytes, table, random| {
-        put_epoch(bytes, table, any_row(table, random), LIMIT + 1, 0);
+        let row = unlisted_row(bytes, table, random);
+        put(bytes, table, row, 12, &(LIMIT + 1).to_le_bytes());
     }),
     ("joined row, desired without the mark", Nothing, |bytes, table, random| {
         let row = unlisted_row(bytes, table, random);
@@ -140,20 +171,20 @@ const RULES: [(&str, Needs, Damage); 42] = [
     }),
     ("joined row not zero", Nothing, |bytes, table, random| {
         let row = unlisted_row(bytes, table, random);
-        put(bytes, table, row, random.between(24, 31), &[1]);
+        put(bytes, table, row, random.between(25, 31), &[1]);
     }),
     ("joined row, list of another row", Nothing, |bytes, table, random| {
         let row = any_row(table, random);
         let other = random.row(table.all_used() & !rows::only(row));
-        put_epoch(bytes, table, row, random.pick(&[0, FREE_EPOCH]), rows::only(other));
+        put_list(bytes, table, row, rows::only(other));
     }),
     ("joined row, list of an unused row", FewerThan64, |bytes, table, random| {
         let unused = random.between(table.used + 1, 64);
-        put_epoch(bytes, table, any_row(table, random), FREE_EPOCH, rows::only(unused));
+        put_list(bytes, table, any_row(table, random), rows::only(unused));
     }),
     ("row not zero", Nothing, |bytes, table, random| {
         let value = random.pick(&[1, 128, 255]);
-        put(bytes, table, any_row(table, random), random.between(24, 31), &[value]);
+        put(bytes, table, any_row(table, random), random.between(25, 31), &[value]);
     }),
     ("unused row not zero", UnusedRow, |bytes, table, random| {
         let at = random.between(table.row_at(table.used + 1), bytes.len() - 1);
@@ -186,9 +217,9 @@ fn damaged_by(random: &mut Random, rule: usize) -> (Picture, Vec<u8>) {
 
 /// In half of the cases every row is used.
 fn size(random: &mut Random, needs: Needs) -> Size {
-    let least = if needs == ThirdRow { 3 } else { 2 };
+    let least = if let Rows(least) = needs { least } else { 2 };
     let most = if matches!(needs, FewerThan64 | UnusedRow) { 63 } else { 64 };
-    let used = random.pick(&[2, 3, 4, 7, 15, 40, 63, 64]).clamp(least, most);
+    let used = random.pick(&[2, 3, 4, 5, 6, 7, 15, 40, 63, 64]).clamp(least, most);
     let capacity = match random.between(0, 3) {
         0..=1 if needs != UnusedRow => used,
         2 => (used + 1).min(64),
@@ -200,7 +231,7 @@ fn size(random: &mut Random, needs: Needs) -> Size {
 /// Gives some row an empty list, as after a joining.
 fn unlisted_row(bytes: &mut [u8], table: &Picture, random: &mut Random) -> usize {
     let row = any_row(table, random);
-    put(bytes, table, row, 16, &[0; 8]);
+    put(bytes, table, row, 16, &[0; 9]);
     row
 }
 
@@ -220,9 +251,23 @@ fn put_numbers(bytes: &mut [u8], table: &Picture, row: usize, mark: u8, version:
     put(bytes, table, row, 8, &desired.to_le_bytes());
 }
 
-fn put_epoch(bytes: &mut [u8], table: &Picture, row: usize, epoch: u32, list: u64) {
-    put(bytes, table, row, 12, &epoch.to_le_bytes());
+/// Gives a row the free epoch, and this list in the published grid.
+fn put_list(bytes: &mut [u8], table: &Picture, row: usize, list: u64) {
+    put(bytes, table, row, 12, &FREE_EPOCH.to_le_bytes());
     put(bytes, table, row, 16, &list.to_le_bytes());
+    put(bytes, table, row, 24, &[0]);
+}
+
+/// Gives some rows, in no order, the list of them all with this mark.
+fn put_marked(bytes: &mut [u8], table: &Picture, random: &mut Random, length: u32, mark: u8) -> Vec<usize> {
+    let list = tables::filled(random, table.all_used(), 0, length);
+    let mut members: Vec<usize> = rows::members(list).collect();
+    random.shuffle(&mut members);
+    for &row in &members {
+        put_list(bytes, table, row, list);
+        put(bytes, table, row, 24, &[mark]);
+    }
+    members
 }
 
 /// Gives every row another file length, and the table the length that goes with it.
@@ -248,6 +293,25 @@ mod tests {
                 assert!(Table::decode(&bytes).is_none(), "{name}");
             }
         }
+    }
+
+    /// Where a mark or the form is wrong, nothing else is.
+    #[test]
+    fn a_wrong_mark_or_form_is_the_only_rule_broken() {
+        let mut mended = 0;
+        for (rule, (name, ..)) in RULES.iter().enumerate() {
+            if !name.starts_with("grid mark") && !name.starts_with("form") {
+                continue;
+            }
+            for case in 0..200 {
+                let (table, mut bytes) = damaged_by(&mut Random::new(2, case), rule);
+                bytes[0] = FORM;
+                (1..=table.used).for_each(|row| put(&mut bytes, &table, row, 24, &[0]));
+                assert!(Table::decode(&bytes).is_some(), "{name}");
+            }
+            mended += 1;
+        }
+        assert_eq!(mended, 9);
     }
 
     #[test]

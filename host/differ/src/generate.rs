@@ -2,13 +2,16 @@
 
 use crate::call::Call;
 use crate::damage;
+use crate::ledger::Ledger;
 use crate::random::Random;
 use crate::tables::{self, Picture, Size};
-use reference::{rows, Layout, Quorum, Table, MAX_FILE, MAX_ROWS};
+use reference::{rows, Engine, Layout, Quorum, Rules, Table, MAX_FILE, MAX_ROWS};
 
 /// What a case tries: a table to start from, and how its calls are picked.
 pub struct Plan {
     start: Vec<u8>,
+    /// The book of the history that led to the start, if one did.
+    ledger: Ledger,
     calls: usize,
     /// Made first.
     opening: Option<Call>,
@@ -23,8 +26,9 @@ pub struct Plan {
 impl Plan {
     pub fn pick(random: &mut Random) -> Plan {
         match random.between(0, 99) {
-            0..=11 => Plan::founded(random),
-            12..=59 => Plan::unfounded(random),
+            0..=10 => Plan::founded(random),
+            11..=13 => Plan::carried_over(random),
+            14..=59 => Plan::unfounded(random),
             60..=84 => Plan::damaged(random),
             _ => Plan::foundings(random),
         }
@@ -33,12 +37,17 @@ impl Plan {
     /// A history after one founding on bytes that hold anything.
     pub fn founded(random: &mut Random) -> Plan {
         let size = Size::pick(random);
+        Plan::founded_as(random, size)
+    }
+
+    fn founded_as(random: &mut Random, size: Size) -> Plan {
         let length = Table::length(size.capacity, size.file_len);
         let start = if random.chance(1, 2) { vec![0; length] } else { random.bytes(length) };
         let opening = founding(random, size);
         let up = random.subset(rows::first(size.used), 4, 5);
         Plan {
             start,
+            ledger: Ledger::default(),
             calls: random.between(10, 100),
             opening: Some(opening),
             foundings: None,
@@ -47,20 +56,57 @@ impl Plan {
         }
     }
 
+    /// A history that began before there were requests: its lists, some of five among them, lie in the published grid.
+    pub fn carried_over(random: &mut Random) -> Plan {
+        let size = Size { used: random.pick(&[5, 5, 5, 6, 7, 9]), ..Size::pick(random) };
+        let mut plan = Plan::founded_as(random, Size { capacity: size.capacity.max(size.used), ..size });
+        let engine = Engine { rules: Rules::Published, ..Engine::default() };
+        plan.ledger = Ledger::published();
+        for _ in 0..random.between(1, 12) {
+            let mut table = plan.table();
+            let call = plan.next(random, &table);
+            if !matches!(call, Call::Join { .. }) {
+                let answer = call.refer(engine, &mut table);
+                plan.ledger
+                    .hear(&call, &answer)
+                    .expect("reference and book agree by the scope's rules alone");
+                plan.start = table;
+            }
+        }
+        plan.ledger.take_over();
+        plan
+    }
+
     /// A few calls on a well-formed table that no founding leads to.
     fn unfounded(random: &mut Random) -> Plan {
         let size = Size::pick(random);
         let start = tables::well_formed(random, size);
         let known = Picture::of(&start);
         let up = random.subset(rows::first(size.used), 4, 5);
-        Plan { start, calls: random.between(1, 9), opening: None, foundings: None, known, up }
+        Plan {
+            start,
+            ledger: Ledger::default(),
+            calls: random.between(1, 9),
+            opening: None,
+            foundings: None,
+            known,
+            up,
+        }
     }
 
     /// A few calls on a table with one rule broken.
     fn damaged(random: &mut Random) -> Plan {
         let (table, start) = damage::damaged(random);
         let up = table.all_used();
-        Plan { start, calls: random.between(2, 6), opening: None, foundings: None, known: Some(table), up }
+        Plan {
+            start,
+            ledger: Ledger::default(),
+            calls: random.between(2, 6),
+            opening: None,
+            foundings: None,
+            known: Some(table),
+            up,
+        }
     }
 
     /// Foundings, most with something wrong.
@@ -73,6 +119,7 @@ impl Plan {
         let start = random.bytes(length);
         Plan {
             start,
+            ledger: Ledger::default(),
             calls: random.between(2, 6),
             opening: Some(opening),
             foundings: Some(size),
@@ -83,6 +130,11 @@ impl Plan {
 
     pub fn table(&self) -> Vec<u8> {
         self.start.clone()
+    }
+
+    /// The book as it stands at the start.
+    pub fn ledger(&self) -> Ledger {
+        self.ledger.clone()
     }
 
     pub fn calls(&self) -> usize {
@@ -200,8 +252,8 @@ fn fitting(random: &mut Random, table: &Picture, up: u64) -> Call {
 /// Who answers the coordinator: by turns all, those up, a quorum and a little less, and rows without a list.
 fn answering(random: &mut Random, table: &Picture, up: u64, coordinator: usize, quorum: Quorum) -> u64 {
     let own = table.row(coordinator);
-    let listed = table.rows.iter().filter(|row| row.list != 0);
-    let newest = listed.max_by_key(|row| row.epoch).map_or(0, |row| row.list);
+    let in_force = table.newest(table.all_used());
+    let newest = in_force.members;
     let unlisted = table.unlisted();
     let choice = |list, name| Layout::of(list, &table.chain).choice(quorum, name);
     let set = match random.between(0, if unlisted == 0 { 9 } else { 11 }) {
@@ -212,7 +264,7 @@ fn answering(random: &mut Random, table: &Picture, up: u64, coordinator: usize, 
         6 => newest,
         7 => newest & !rows::only(random.row(newest)),
         8 => choice(own.list, own.name) | random.subset(up, 1, 4),
-        9 => choice(newest, random.byte().into()) & !rows::only(random.between(1, 64)),
+        9 => choice(in_force, random.byte().into()) & !rows::only(random.between(1, 64)),
         10 => unlisted,
         _ => newest | random.subset(unlisted, 1, 2),
     };

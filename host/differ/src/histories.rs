@@ -4,10 +4,11 @@ use crate::archive::Archive;
 use crate::call::Call;
 use crate::generate::Plan;
 use crate::guard::Edge;
+use crate::ledger::Ledger;
 use crate::random::Random;
 use crate::tables::{names_in_bytes, Picture};
 use crate::trial::{Case, Trial};
-use reference::{rows, Engine, Table};
+use reference::{rows, Engine, Rules, Table};
 
 fn set(members: &[usize]) -> u64 {
     members.iter().fold(0, |set, &row| set | rows::only(row))
@@ -38,23 +39,53 @@ fn join(name: u16) -> Call {
 }
 
 fn blank(capacity: usize, file_len: usize) -> Case {
-    Case { table: vec![0; Table::length(capacity, file_len)], calls: Vec::new(), edge: Edge::End }
+    let table = vec![0; Table::length(capacity, file_len)];
+    Case { table, ledger: Ledger::default(), calls: Vec::new(), edge: Edge::End }
 }
 
-/// Founds the names and makes the calls; each must give its refusal number and value.
-fn expect(names: &[u16], calls: &[(Call, u64, u64)]) {
-    expect_in(names.len(), names, calls);
+/// Founds the names and makes the calls; each must give its refusal number and value. Gives the grid marks that are left.
+fn expect(names: &[u16], calls: &[(Call, u64, u64)]) -> Vec<u8> {
+    expect_in(names.len(), names, calls)
 }
 
 /// The same in a table of so many rows.
-fn expect_in(capacity: usize, names: &[u16], calls: &[(Call, u64, u64)]) {
+fn expect_in(capacity: usize, names: &[u16], calls: &[(Call, u64, u64)]) -> Vec<u8> {
+    let founding = (found(capacity, names, 4), 0, names.len() as u64);
+    expect_from(&blank(capacity, 4), &[&[founding], calls].concat())
+}
+
+/// The same, founded before there were requests and taken over.
+fn expect_carried_over(names: &[u16], calls: &[(Call, u64, u64)]) -> Vec<u8> {
+    let case = carried_over(names, 4);
+    assert_eq!(marks(&case.table), vec![0; names.len()]);
+    expect_from(&case, calls)
+}
+
+fn expect_from(case: &Case, calls: &[(Call, u64, u64)]) -> Vec<u8> {
     let mut archive = Archive::new();
-    let mut trial = Trial::new(&mut archive, Engine::default(), &blank(capacity, 4));
-    let mut result = |call: &Call| trial.step(call).map(|step| step.result);
-    assert_eq!(result(&found(capacity, names, 4)), Ok(names.len() as u64));
+    let mut trial = Trial::new(&mut archive, Engine::default(), case);
     for (call, refusal, value) in calls {
-        assert_eq!(result(call), Ok((refusal << 32) + value), "{call}");
+        let result = trial.step(call).map(|step| step.result);
+        assert_eq!(result, Ok((refusal << 32) + value), "{call}");
     }
+    marks(trial.table())
+}
+
+/// The machines as a founding by the scope's rules alone leaves them, with the newest form.
+fn carried_over(names: &[u16], file_len: usize) -> Case {
+    let founding = found(names.len(), names, file_len);
+    let engine = Engine { rules: Rules::Published, ..Engine::default() };
+    let mut case = Case { ledger: Ledger::published(), ..blank(names.len(), file_len) };
+    let answer = founding.refer(engine, &mut case.table);
+    case.ledger.hear(&founding, &answer).expect("a plain founding");
+    case.ledger.take_over();
+    case
+}
+
+/// The grid mark of each row.
+fn marks(table: &[u8]) -> Vec<u8> {
+    let table = Picture::of(table).expect("a history leaves a well-formed table");
+    table.rows.iter().map(|row| row.list.mark).collect()
 }
 
 #[test]
@@ -79,7 +110,93 @@ fn quorums_of_the_club_room() {
     expect(&fourteen, &[(write(1, &[1, 3, 4, 6, 7, 11]), 0, 1)]);
     expect(&fourteen, &[(write(1, &[1, 3, 4, 6, 7]), 6, 0), (read(1, &[1, 3, 4, 6, 7]), 0, 0)]);
     expect(&[1, 2, 3], &[(read(1, &[1, 3]), 6, 0), (write(1, &[1, 2]), 0, 1)]);
-    expect(&[1, 2, 3, 4, 5], &[(read(1, &[1, 2, 4, 5]), 6, 0)]);
+    expect_carried_over(&[1, 2, 3, 4, 5], &[(read(1, &[1, 2, 4, 5]), 6, 0)]);
+    expect(&[1, 2, 3, 4, 5], &[(write(1, &[1, 2, 4, 5]), 0, 1)]);
+}
+
+/// Columns {1, 3, 5} and {2, 4}.
+#[test]
+fn five_bear_the_loss_of_the_third() {
+    let left = expect(
+        &[10, 20, 30, 40, 50],
+        &[
+            (read(1, &[1, 2, 4, 5]), 0, 0),
+            (write(5, &[1, 2, 4, 5]), 0, 1),
+            (read(4, &[4, 5]), 0, 1),
+            (read(1, &[1, 3, 5]), 6, 0),
+            (write(1, &[1, 2, 3]), 6, 0),
+            (read(1, &[1, 2, 3]), 0, 1),
+            (check(1, &[1, 2, 4, 5]), 0, 1),
+            (write(1, &[1, 2, 4]), 0, 2),
+        ],
+    );
+    assert_eq!(left, [0, 0, 1, 0, 0], "the row that is away keeps its list and grid");
+}
+
+/// Which rows a write took shows in the rows that the next one marks.
+#[test]
+fn a_choice_goes_by_the_grid_of_the_own_list() {
+    let names = [12, 21, 30, 40, 50];
+    let all = [1, 2, 3, 4, 5];
+    // In the new grid, columns {1, 3, 5} and {2, 4}, a write by 12 has the first, and row 2; by 21 the second, and row 1.
+    let by_12 = [(write(1, &all), 0, 1), (write(1, &[1, 2, 4, 5]), 0, 2)];
+    let behind = [(send(1, 4, &all), 0, 2), (send(1, 5, &all), 10, 0)];
+    expect(&names, &[by_12, behind].concat());
+    let by_21 = [(write(2, &all), 0, 1), (write(1, &[1, 3, 4, 5]), 0, 2)];
+    let behind = [(send(1, 3, &all), 0, 2), (send(1, 5, &all), 0, 2)];
+    expect(&names, &[by_21, behind].concat());
+    // In the published grid, columns {1, 4}, {2, 5} and {3}, a write by 12 has the first, and rows 2 and 3.
+    let by_12 = [(write(1, &all), 0, 1), (write(1, &[1, 3, 4, 5]), 0, 2)];
+    let behind = [(send(1, 4, &all), 10, 0), (send(1, 5, &all), 0, 2)];
+    expect_carried_over(&names, &[by_12, behind].concat());
+    // Row 5 missed the check. The choice of 50 is over five in the new grid, {1, 2, 3, 5}; the quorum is one of four.
+    let by_50 = [(check(1, &[1, 2, 3, 4]), 0, 1), (write(5, &all), 0, 1), (write(1, &[1, 2, 4, 5]), 0, 2)];
+    let behind = [(send(1, 4, &all), 0, 2), (send(1, 5, &all), 10, 0)];
+    expect(&names, &[&by_50[..], &behind].concat());
+}
+
+#[test]
+fn five_are_laid_anew_by_a_check_that_takes_the_fifth_in_again() {
+    let names = [1, 2, 3, 4, 5];
+    let away = (check(1, &[1, 2, 3, 4]), 0, 1);
+    let back = (check(1, &[1, 2, 3, 4, 5]), 0, 2);
+    assert_eq!(expect(&names, &[]), [1; 5]);
+    assert_eq!(expect(&names, std::slice::from_ref(&away)), [0, 0, 0, 0, 1]);
+    assert_eq!(expect(&names, &[away, back, (read(1, &[1, 2, 4, 5]), 0, 0)]), [1; 5]);
+}
+
+#[test]
+fn a_joining_makes_five() {
+    let all = [1, 2, 3, 4, 5];
+    let joined = [(join(25), 0, 5), (read(1, &[1, 2]), 0, 0)];
+    let checked = [(check(5, &all), 0, 1), (read(1, &[1, 2, 3, 4]), 0, 0), (read(1, &[1, 5, 4]), 6, 0)];
+    assert_eq!(expect_in(5, &[10, 20, 30, 40], &joined), [0; 5]);
+    assert_eq!(expect_in(5, &[10, 20, 30, 40], &[&joined[..], &checked].concat()), [1; 5]);
+}
+
+/// A published five in force dies with its third machine, and a check by all five leaves it in its grid. Two checks with the
+/// third machine on lay it anew.
+#[test]
+fn a_five_carried_over_keeps_its_grid_until_it_is_laid_anew() {
+    let names = [1, 2, 3, 4, 5];
+    let but_the_third = [1, 2, 4, 5];
+    let kept = [
+        (read(1, &but_the_third), 6, 0),
+        (write(1, &but_the_third), 6, 0),
+        (check(1, &but_the_third), 6, 0),
+        (read(1, &[1, 2, 3]), 0, 0),
+        (write(1, &[1, 2, 3]), 0, 1),
+        (check(1, &[1, 2, 3, 4, 5]), 0, 0),
+        (read(1, &but_the_third), 6, 0),
+    ];
+    let anew = [
+        (check(1, &[1, 2, 3, 4]), 0, 1),
+        (check(1, &[1, 2, 3, 4, 5]), 0, 2),
+        (read(1, &but_the_third), 0, 1),
+        (write(1, &but_the_third), 0, 2),
+    ];
+    assert_eq!(expect_carried_over(&names, &kept), [0; 5]);
+    assert_eq!(expect_carried_over(&names, &[&kept[..], &anew].concat()), [1; 5]);
 }
 
 #[test]
@@ -280,15 +397,20 @@ impl Explorer {
     /// Founds the machines in a table of so many rows, and tries all histories of `depth` calls; gives how many calls were
     /// made.
     fn explore(capacity: usize, names: &[u16], depth: u8) -> u64 {
-        let mut explorer = Explorer { archive: Archive::new(), calls: 0 };
-        let mut trial = Trial::new(&mut explorer.archive, Engine::default(), &blank(capacity, 1));
+        let mut archive = Archive::new();
+        let mut trial = Trial::new(&mut archive, Engine::default(), &blank(capacity, 1));
         trial.step(&found(capacity, names, 1)).expect("no difference");
         let (table, ledger) = trial.into_state();
-        explorer.descend(&table, &ledger, depth);
+        Explorer::explore_from(&table, &ledger, depth)
+    }
+
+    fn explore_from(table: &[u8], ledger: &Ledger, depth: u8) -> u64 {
+        let mut explorer = Explorer { archive: Archive::new(), calls: 0 };
+        explorer.descend(table, ledger, depth);
         explorer.calls
     }
 
-    fn descend(&mut self, table: &[u8], ledger: &crate::ledger::Ledger, depth: u8) {
+    fn descend(&mut self, table: &[u8], ledger: &Ledger, depth: u8) {
         for call in every_call(table, depth) {
             let mut trial =
                 Trial::resume(&mut self.archive, Engine::default(), table.to_vec(), ledger.clone());
@@ -329,20 +451,26 @@ fn every_call(table: &[u8], mark: u8) -> Vec<Call> {
 
 #[test]
 fn all_short_histories_on_few_machines() {
-    let few: [(usize, &[u16], u8); 8] = [
+    let few: [(usize, &[u16], u8); 10] = [
         (1, &[900], 8),
         (2, &[5, 6], 8),
         (3, &[31, 500, 501], 5),
         (4, &[10, 21, 35, 64], 4),
+        (5, &[10, 21, 35, 64, 70], 3),
         // With room to join.
         (3, &[900], 6),
         (3, &[5, 7], 6),
         (4, &[5, 7], 4),
         (4, &[31, 500, 502], 4),
+        (5, &[10, 21, 35, 64], 3),
     ];
     for (capacity, names, depth) in few {
         let calls = Explorer::explore(capacity, names, depth);
         println!("{} machines, {capacity} rows, {depth} calls deep: {calls} calls", names.len());
         assert!(calls > 0);
     }
+    let Case { table, ledger, .. } = carried_over(&[10, 21, 35, 64, 70], 1);
+    let calls = Explorer::explore_from(&table, &ledger, 3);
+    println!("5 machines carried over, 3 calls deep: {calls} calls");
+    assert!(calls > 0);
 }

@@ -1,15 +1,30 @@
 //! Keeps the plain book beside a history, and compares the answers with it.
 
 use crate::call::{result_shown, Answer, Call};
-use reference::{rows, Book, Quorum};
+use reference::{rows, Book, Quorum, Rules};
 
 /// Closed until a founding is done.
-#[derive(Clone, Default)]
+#[derive(Clone, Debug, Default)]
 pub struct Ledger {
+    /// How a founding's list is laid.
+    rules: Rules,
     book: Option<Book>,
 }
 
 impl Ledger {
+    /// For calls made before there were requests.
+    pub fn published() -> Ledger {
+        Ledger { rules: Rules::Published, book: None }
+    }
+
+    /// From now on lists are laid as now; the list in force keeps its grid.
+    pub fn take_over(&mut self) {
+        self.rules = Rules::Newest;
+        if let Some(book) = &mut self.book {
+            book.rules = self.rules;
+        }
+    }
+
     /// Was a founding done?
     pub fn is_open(&self) -> bool {
         self.book.is_some()
@@ -21,7 +36,7 @@ impl Ledger {
         if let (Call::Found { file_len, names, .. }, true) = (call, done) {
             let names: Vec<u16> =
                 names.chunks(2).map(|name| u16::from_le_bytes([name[0], name[1]])).collect();
-            self.book = Some(Book::open(*file_len as usize, &names));
+            self.book = Some(Book::open(self.rules, *file_len as usize, &names));
         }
         let Some(book) = &mut self.book else { return Ok(()) };
         match call {
@@ -86,7 +101,6 @@ fn agree(refusal: u32, result: u64) -> Result<(), String> {
 
 #[cfg(test)]
 mod tests {
-    use super::*;
     use crate::generate::Plan;
     use crate::random::Random;
     use reference::{Blunder, Engine};
@@ -97,9 +111,10 @@ mod tests {
         let mut made = 0;
         for case in 0.. {
             let mut random = Random::new(3, case);
-            let mut plan = Plan::founded(&mut random);
+            let mut plan =
+                if case % 4 == 0 { Plan::carried_over(&mut random) } else { Plan::founded(&mut random) };
             let mut table = plan.table();
-            let mut ledger = Ledger::default();
+            let mut ledger = plan.ledger();
             for _ in 0..plan.calls() {
                 let call = plan.next(&mut random, &table);
                 let answer = call.refer(engine, &mut table);
@@ -120,13 +135,14 @@ mod tests {
         assert!(!book_finds(None, 50_000));
     }
 
-    /// Good rows of a founded history hold the same bytes, so the book cannot tell which of them was read.
+    /// Good rows of a founded history hold the same bytes, so the book cannot tell which of them was read; and no
+    /// history leads to two marks in one epoch.
     #[test]
-    fn the_book_alone_finds_all_blunders_but_one() {
+    fn the_book_alone_finds_all_blunders_but_two() {
         for blunder in Blunder::ALL {
             assert_eq!(
                 book_finds(Some(blunder), 50_000),
-                blunder != Blunder::HighestGood,
+                !matches!(blunder, Blunder::HighestGood | Blunder::MarksOfEpoch),
                 "{}",
                 blunder.name()
             );

@@ -55,7 +55,7 @@ impl Run {
         let mut random = Random::new(self.seed, number);
         let edge = if random.chance(1, 2) { Edge::Start } else { Edge::End };
         let mut plan = Plan::pick(&mut random);
-        let mut case = Case { table: plan.table(), calls: Vec::new(), edge };
+        let mut case = Case { table: plan.table(), ledger: plan.ledger(), calls: Vec::new(), edge };
         let mut trial = Trial::new(&mut self.archive, self.reference, &case);
         for _ in 0..plan.calls() {
             let call = plan.next(&mut random, trial.table());

@@ -1,7 +1,7 @@
 //! How often each call was done and refused, on which kinds of tables, and at which sizes its twin was asked.
 
 use crate::call::Call;
-use reference::Table;
+use crate::tables::Picture;
 use std::collections::BTreeMap;
 use std::fmt;
 use std::ops::RangeInclusive;
@@ -21,6 +21,8 @@ pub struct Counts {
     grounds: [[u64; Ground::ALL.len()]; KINDS],
     /// For each kind of call, how often the scope's rules alone judged it too, on a well-formed table.
     published: [u64; KINDS],
+    /// For each kind of call and grid mark, how often a list of five judged it that the other grid would have judged otherwise.
+    fives: [[u64; 2]; KINDS],
 }
 
 /// The answers that each kind of call can give, 0 for done, in the order of `Call::KINDS`.
@@ -36,12 +38,17 @@ const POSSIBLE: [&[u32]; KINDS] = [
 /// The kinds of calls that the scope alone puts question 1 to.
 const PUBLISHED: RangeInclusive<usize> = 1..=4;
 
+/// The kinds of calls that ask for a quorum: read, write, check.
+const QUORUM: [usize; 3] = [1, 2, 4];
+
 /// The kinds of tables that a call is made on.
 #[derive(Clone, Copy, Debug, PartialEq, Eq)]
 pub enum Ground {
     Malformed,
-    /// Every row has a list.
-    Listed,
+    /// Every row has a list, and all lie in the published grid.
+    Published,
+    /// Every row has a list, and some lie in the new grid of five.
+    Marked,
     /// Some rows have a list, and some have none.
     Mixed,
     /// No row has a list.
@@ -49,13 +56,15 @@ pub enum Ground {
 }
 
 impl Ground {
-    const ALL: [Ground; 4] = [Ground::Malformed, Ground::Listed, Ground::Mixed, Ground::Unlisted];
+    const ALL: [Ground; 5] =
+        [Ground::Malformed, Ground::Published, Ground::Marked, Ground::Mixed, Ground::Unlisted];
 
-    /// Judges the bytes of a table, which is read if it is well formed.
-    pub fn of(bytes: &[u8], table: Option<&Table>) -> Ground {
+    /// Judges a table, which is there if it is well formed.
+    pub fn of(table: Option<&Picture>) -> Ground {
         let Some(table) = table else { return Ground::Malformed };
-        match (1..=table.used).filter(|&row| table.row(bytes, row).list == 0).count() {
-            0 => Ground::Listed,
+        match table.rows.iter().filter(|row| row.list.is_empty()).count() {
+            0 if table.rows.iter().all(|row| row.list.mark == 0) => Ground::Published,
+            0 => Ground::Marked,
             count if count < table.used => Ground::Mixed,
             _ => Ground::Unlisted,
         }
@@ -64,7 +73,8 @@ impl Ground {
     fn shown(self) -> &'static str {
         match self {
             Ground::Malformed => "malformed table",
-            Ground::Listed => "table whose rows all have a list",
+            Ground::Published => "table whose rows all have a list in the published grid",
+            Ground::Marked => "table whose rows all have a list, some in the new grid",
             Ground::Mixed => "table with and without lists",
             Ground::Unlisted => "table without a list",
         }
@@ -80,6 +90,8 @@ pub struct Step {
     pub twin_of: Option<usize>,
     /// Was the call judged by the scope's rules alone too?
     pub published: bool,
+    /// The mark of the list of five that judged the call, if the other grid would have judged otherwise.
+    pub five: Option<u8>,
 }
 
 impl Default for Counts {
@@ -89,6 +101,7 @@ impl Default for Counts {
             twins: [[0; 65]; KINDS],
             grounds: Default::default(),
             published: Default::default(),
+            fives: Default::default(),
         }
     }
 }
@@ -97,7 +110,10 @@ impl Counts {
     pub fn add(&mut self, call: &Call, step: Step) {
         *self.answers[call.kind()].entry((step.result >> 32) as u32).or_default() += 1;
         self.grounds[call.kind()][step.ground as usize] += 1;
-        self.published[call.kind()] += u64::from(step.published && step.ground == Ground::Listed);
+        self.published[call.kind()] += u64::from(step.published && step.ground == Ground::Published);
+        if let Some(mark) = step.five {
+            self.fives[call.kind()][usize::from(mark)] += 1;
+        }
         if let Some(used) = step.twin_of {
             self.twins[call.kind()][used] += 1;
         }
@@ -117,8 +133,13 @@ impl Counts {
         self.published.iter().sum()
     }
 
-    /// What never came: answers that a call can give, kinds of tables, twins of a call at each size, and the scope's
-    /// rules alone.
+    /// How often a list of five judged a call that the other grid would have judged otherwise.
+    pub fn fives(&self) -> u64 {
+        self.fives.iter().flatten().sum()
+    }
+
+    /// What never came: answers that a call can give, kinds of tables, twins of a call at each size, the scope's rules
+    /// alone, and lists of five whose grid tells.
     pub fn missing(&self) -> Vec<String> {
         let mut missing = Vec::new();
         for (kind, name) in Call::KINDS.into_iter().enumerate() {
@@ -135,6 +156,11 @@ impl Counts {
             if PUBLISHED.contains(&kind) && self.published[kind] == 0 {
                 missing.push(format!("{name} by the scope's rules alone"));
             }
+        }
+        for kind in QUORUM {
+            let marks = (0..2).filter(|&mark| self.fives[kind][mark] == 0);
+            missing
+                .extend(marks.map(|mark| format!("{} decided by a five of mark {mark}", Call::KINDS[kind])));
         }
         missing
     }
@@ -181,17 +207,17 @@ mod tests {
         ]
     }
 
-    /// A call that gave this answer, on a table whose rows all have a list.
+    /// A call that gave this answer, on a table whose rows all have a list in the published grid.
     fn step(answer: u32) -> Step {
         let result = u64::from(answer) << 32;
-        Step { result, ground: Ground::Listed, twin_of: None, published: false }
+        Step { result, ground: Ground::Published, twin_of: None, published: false, five: None }
     }
 
     #[test]
     fn every_answer_table_and_size_must_come() {
         let mut counts = Counts::default();
         let answers: usize = POSSIBLE.iter().map(|answers| answers.len()).sum();
-        assert_eq!(counts.missing().len(), answers + 5 * (64 + Ground::ALL.len()) + 4);
+        assert_eq!(counts.missing().len(), answers + 5 * (64 + Ground::ALL.len()) + 4 + 6);
         for (call, possible) in calls().iter().zip(POSSIBLE) {
             for &answer in possible {
                 counts.add(call, step(answer));
@@ -209,11 +235,19 @@ mod tests {
         }
         let rules =
             ["read", "write", "send", "check"].map(|name| format!("{name} by the scope's rules alone"));
-        assert_eq!(counts.missing(), rules);
+        let fives = ["read", "write", "check"]
+            .map(|name| [0, 1].map(|mark| format!("{name} decided by a five of mark {mark}")));
+        assert_eq!(counts.missing(), [&rules, fives.as_flattened()].concat());
         for call in &calls()[PUBLISHED] {
             counts.add(call, Step { published: true, ..step(0) });
         }
-        assert_eq!((counts.missing(), counts.published()), (vec![], 4));
+        assert_eq!((counts.missing(), counts.published()), (fives.as_flattened().to_vec(), 4));
+        for kind in QUORUM {
+            for mark in [0, 1] {
+                counts.add(&calls()[kind], Step { five: Some(mark), ..step(6) });
+            }
+        }
+        assert_eq!((counts.missing(), counts.fives()), (vec![], 6));
         assert_eq!(counts.impossible(), ["found 1"]);
     }
 

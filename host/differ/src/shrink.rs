@@ -1,6 +1,7 @@
 //! Cuts a failing case down to few and short calls.
 
 use crate::call::Call;
+use crate::ledger::Ledger;
 use crate::trial::{Case, Failure};
 use reference::{rows, Table, MAX_FILE, MAX_ROWS};
 
@@ -43,7 +44,7 @@ impl<'a> Shrinker<'a> {
     /// Starts from zero bytes, and founds few machines.
     fn simplify_table(&mut self) {
         let zero = vec![0; self.best.table.len()];
-        self.keep(Case { table: zero, ..self.best.clone() });
+        self.keep(Case { table: zero, ledger: Ledger::default(), ..self.best.clone() });
         let mut count = 1;
         while let Some(fewer) = on_fewer_machines(&self.best, count) {
             if self.keep(fewer) {
@@ -98,6 +99,7 @@ fn on_fewer_machines(case: &Case, count: usize) -> Option<Case> {
     names.truncate(2 * count);
     *capacity = rows as u64;
     fewer.table = vec![0; Table::length(rows, *file_len as usize)];
+    fewer.ledger = Ledger::default();
     fewer.calls.iter_mut().for_each(|call| call.cut_down(rows::first(rows)));
     Some(fewer)
 }

@@ -2,7 +2,7 @@
 
 use crate::random::Random;
 use reference::rows;
-use reference::{Row, Table, LIMIT};
+use reference::{Laid, Row, Table, LIMIT};
 use std::ops::Deref;
 
 /// A well-formed table with its used rows, kept apart from its bytes.
@@ -27,8 +27,15 @@ impl Picture {
 
     /// The rows with an empty list.
     pub fn unlisted(&self) -> u64 {
-        let unlisted = (1..).zip(&self.rows).filter(|(_, row)| row.list == 0);
+        let unlisted = (1..).zip(&self.rows).filter(|(_, row)| row.list.is_empty());
         unlisted.fold(0, |set, (row, _)| set | rows::only(row))
+    }
+
+    /// The list of the highest epoch among the rows of the set that have one; empty if none has.
+    pub fn newest(&self, set: u64) -> Laid {
+        let listed =
+            (1..).zip(&self.rows).filter(|(row, state)| rows::has(set, *row) && !state.list.is_empty());
+        listed.max_by_key(|(_, state)| state.epoch).map_or(Laid::EMPTY, |(_, state)| state.list)
     }
 
     /// The row at a place of the chain; places count from 0.
@@ -56,9 +63,10 @@ pub struct Size {
 impl Size {
     /// Mostly small, at times as large as a table can be.
     pub fn pick(random: &mut Random) -> Size {
-        let used = match random.between(0, 7) {
+        let used = match random.between(0, 8) {
             0..=4 => random.between(1, 7),
             5..=6 => random.between(1, 16),
+            7 => 5,
             _ => random.between(1, 64),
         };
         let capacity = match random.between(0, 3) {
@@ -138,21 +146,22 @@ const LONE_EPOCH: u32 = 900_000;
 
 /// For each row its epoch number and the list of that epoch. In half of the tables some rows, or all, have an empty list,
 /// and any epoch number.
-fn epochs(random: &mut Random, count: usize) -> Vec<(u32, u64)> {
+fn epochs(random: &mut Random, count: usize) -> Vec<(u32, Laid)> {
     let kinds = random.pick(&[1, 1, 2, 4]);
     let lowest = random.pick(&[0, 0, 0, LIMIT - kinds as u32, LIMIT + 1 - kinds as u32]);
     let outside = random.pick(&[0, 5, 9, 10]);
     let epoch_of: Vec<u32> = (0..count).map(|_| lowest + random.between(0, kinds - 1) as u32).collect();
-    let list_of: Vec<u64> = (0..kinds as u32)
+    let list_of: Vec<Laid> = (0..kinds as u32)
         .map(|kind| {
             let own = (1..).zip(&epoch_of).filter(|(_, &epoch)| epoch == lowest + kind);
-            own.fold(random.subset(rows::first(count), outside, 10), |list, (row, _)| list | rows::only(row))
+            let own = own.fold(0, |list, (row, _)| list | rows::only(row));
+            list(random, rows::first(count), own, outside)
         })
         .collect();
     let unlisted = random.pick(&[0, 0, 0, 0, 1, 3, 6, 10]);
     let of_row = |&epoch: &u32| {
         if random.chance(unlisted, 10) {
-            (random.pick(&[epoch, epoch, 0, LONE_EPOCH, LIMIT]), 0)
+            (random.pick(&[epoch, epoch, 0, LONE_EPOCH, LIMIT]), Laid::EMPTY)
         } else {
             (epoch, list_of[(epoch - lowest) as usize])
         }
@@ -160,21 +169,41 @@ fn epochs(random: &mut Random, count: usize) -> Vec<(u32, u64)> {
     epoch_of.iter().map(of_row).collect()
 }
 
+/// A list that has at least its own rows, and each other one with a chance of so many tenths; often one of five, if that
+/// can be. Five lie in either grid.
+fn list(random: &mut Random, among: u64, own: u64, tenths: u64) -> Laid {
+    let members = if random.chance(1, 3) {
+        filled(random, among, own, 5)
+    } else {
+        own | random.subset(among, tenths, 10)
+    };
+    Laid { members, mark: u8::from(members.count_ones() == 5 && random.chance(1, 2)) }
+}
+
+/// The set with random rows besides its own, as many as it takes for `length` members, or all.
+pub fn filled(random: &mut Random, among: u64, own: u64, length: u32) -> u64 {
+    let mut members = own;
+    while members.count_ones() < length && among & !members != 0 {
+        members |= rows::only(random.row(among & !members));
+    }
+    members
+}
+
 /// The same table with other bytes in the rows that did not answer; header, names and links stay.
 pub fn twin(random: &mut Random, bytes: &[u8], table: &Table, answering: u64) -> Vec<u8> {
     let mut twin = bytes.to_vec();
     let answered = rows::members(answering & table.all_used()).map(|row| table.row(bytes, row));
-    let taken: Vec<u32> = answered.filter(|row| row.list != 0).map(|row| row.epoch).collect();
+    let taken: Vec<u32> = answered.filter(|row| !row.list.is_empty()).map(|row| row.epoch).collect();
     let mut free = (0..=LIMIT).rev().filter(|epoch| !taken.contains(epoch)).step_by(random.between(1, 3));
     let unlisted = random.pick(&[0, 1, 5, 10]);
     for row in rows::members(table.all_used() & !answering) {
         let mut state = table.row(bytes, row);
         if random.chance(unlisted, 10) {
             let any = taken.first().copied().unwrap_or(0);
-            (state.epoch, state.list) = (random.pick(&[0, any, LONE_EPOCH, LIMIT]), 0);
+            (state.epoch, state.list) = (random.pick(&[0, any, LONE_EPOCH, LIMIT]), Laid::EMPTY);
         } else {
             state.epoch = free.next().expect("more epochs than rows");
-            state.list = random.subset(table.all_used(), 1, 2) | rows::only(row);
+            state.list = list(random, table.all_used(), rows::only(row), 5);
         }
         state.version = random.pick(&[0, 1, 7, LIMIT - 1]);
         state.stale = random.chance(1, 2);
@@ -202,8 +231,30 @@ mod tests {
         }
     }
 
+    /// None, one or both in a table, and so among the rows of a twin that did not answer.
     #[test]
-    fn rows_without_a_list_have_any_epoch_and_any_mark() {
+    fn fives_of_both_marks_are_made() {
+        let marks = |table: &Picture, set| {
+            let fives = rows::members(set).map(|row| table.row(row).list);
+            fives.filter(|list| list.members.count_ones() == 5).fold(0, |marks, list| marks | 1 << list.mark)
+        };
+        let (mut made, mut twins) = ([0; 4], [0; 4]);
+        for case in 0..2_000 {
+            let mut random = Random::new(1, case);
+            let size = Size::pick(&mut random);
+            let bytes = well_formed(&mut random, size);
+            let table = Picture::of(&bytes).expect("well formed");
+            made[marks(&table, table.all_used())] += 1;
+            let answering = random.next() & table.all_used();
+            let twin = twin(&mut random, &bytes, &table, answering);
+            let twin = Picture::of(&twin).expect("well formed");
+            twins[marks(&twin, twin.all_used() & !answering)] += 1;
+        }
+        assert!(made.into_iter().chain(twins).all(|count| count > 100), "{made:?} {twins:?}");
+    }
+
+    #[test]
+    fn rows_without_a_list_have_any_epoch_and_may_be_stale() {
         let mut grounds = Vec::new();
         let (mut lone, mut shared, mut stale) = (0, 0, 0);
         for case in 0..2_000 {
@@ -211,16 +262,16 @@ mod tests {
             let size = Size::pick(&mut random);
             let bytes = well_formed(&mut random, size);
             let table = Picture::of(&bytes).expect("well formed");
-            grounds.push(Ground::of(&bytes, Some(&table)));
-            let listed = table.rows.iter().filter(|row| row.list != 0);
+            grounds.push(Ground::of(Some(&table)));
+            let listed = table.rows.iter().filter(|row| !row.list.is_empty());
             let epochs: Vec<u32> = listed.map(|row| row.epoch).collect();
-            for row in table.rows.iter().filter(|row| row.list == 0) {
+            for row in table.rows.iter().filter(|row| row.list.is_empty()) {
                 lone += usize::from(row.epoch == LONE_EPOCH);
                 shared += usize::from(epochs.contains(&row.epoch));
                 stale += usize::from(row.stale);
             }
         }
-        for ground in [Ground::Listed, Ground::Mixed, Ground::Unlisted] {
+        for ground in [Ground::Published, Ground::Marked, Ground::Mixed, Ground::Unlisted] {
             assert!(grounds.iter().filter(|&&made| made == ground).count() > 100, "{ground:?}");
         }
         assert!(lone > 100 && shared > 100 && stale > 100, "{lone} {shared} {stale}");

@@ -6,13 +6,15 @@ use crate::guard::Edge;
 use crate::ledger::Ledger;
 use crate::random::Random;
 use crate::report::{Ground, Step};
-use crate::tables;
-use reference::{rows, Engine, Rules, Table, HEADER};
+use crate::tables::{self, Picture};
+use reference::{rows, Engine, Laid, Layout, Quorum, Rules, Table, HEADER};
 
 /// A table and the calls made on it.
 #[derive(Clone, Debug)]
 pub struct Case {
     pub table: Vec<u8>,
+    /// The book of the history that led to the table, if one did.
+    pub ledger: Ledger,
     pub calls: Vec<Call>,
     pub edge: Edge,
 }
@@ -43,7 +45,7 @@ pub fn replay(archive: &mut Archive, reference: Engine, case: &Case) -> Option<F
 impl<'a> Trial<'a> {
     pub fn new(archive: &'a mut Archive, reference: Engine, case: &Case) -> Trial<'a> {
         archive.edge = case.edge;
-        Trial::resume(archive, reference, case.table.clone(), Ledger::default())
+        Trial::resume(archive, reference, case.table.clone(), case.ledger.clone())
     }
 
     /// Goes on where a history stopped.
@@ -64,21 +66,23 @@ impl<'a> Trial<'a> {
     /// Makes one call; gives what happened, or what is wrong with it.
     pub fn step(&mut self, call: &Call) -> Result<Step, String> {
         let before = self.table.clone();
-        let judged = Table::decode(&before);
-        let ground = Ground::of(&before, judged.as_ref());
+        let judged = Picture::of(&before);
+        let ground = Ground::of(judged.as_ref());
         let answer = self.archive.call(&mut self.table, call)?;
         self.refer(self.reference, call, &answer, &before)?;
         let published = self.ask_published(call, &answer, &before, ground)?;
         frame(call, &answer, &before, &self.table)?;
-        let twin_of = match &judged {
-            Some(table) => self.ask_twin(call, &answer, &before, table)?,
-            None => None,
+        let (five, twin_of) = match &judged {
+            Some(table) => {
+                (deciding_five(call, &answer, table), self.ask_twin(call, &answer, &before, table)?)
+            }
+            None => (None, None),
         };
         self.ledger.hear(call, &answer)?;
         if self.ledger.is_open() && Table::decode(&self.table).is_none() {
             return Err("a founded history leaves a malformed table".into());
         }
-        Ok(Step { result: answer.result, ground, twin_of, published })
+        Ok(Step { result: answer.result, ground, twin_of, published, five })
     }
 
     /// Compares what the archive gave and left with what the engine gives and leaves.
@@ -88,8 +92,8 @@ impl<'a> Trial<'a> {
         compare(answer, &self.table, &expected, &expected_table)
     }
 
-    /// A table whose rows all have a list gives what the scope's rules alone make of it, and so does one that is
-    /// malformed: they ask for more. Says whether they were asked.
+    /// A table whose rows all have a list in the published grid gives what the scope's rules alone make of it, unless a
+    /// check lays a list of five; and so does one that is malformed: they ask for more. Says whether they were asked.
     fn ask_published(
         &self,
         call: &Call,
@@ -97,8 +101,10 @@ impl<'a> Trial<'a> {
         before: &[u8],
         ground: Ground,
     ) -> Result<bool, String> {
-        let of_the_scope = call.answering().is_some();
-        if !of_the_scope || matches!(ground, Ground::Mixed | Ground::Unlisted) {
+        let of_the_scope =
+            call.answering().is_some() && matches!(ground, Ground::Malformed | Ground::Published);
+        let by_five = matches!(call, Call::Check { answering, .. } if answering.count_ones() == 5);
+        if !of_the_scope || by_five && self.table != before {
             return Ok(false);
         }
         let engine = Engine { rules: Rules::Published, ..self.reference };
@@ -142,6 +148,23 @@ impl<'a> Trial<'a> {
             None => Ok(Some(table.used)),
         }
     }
+}
+
+/// The mark of the list in force among the rows that answered, if it has five members and the other grid of five would
+/// have answered question 6 otherwise.
+fn deciding_five(call: &Call, answer: &Answer, table: &Picture) -> Option<u8> {
+    let (answering, quorum) = match *call {
+        Call::Read { answering, .. } => (answering, Quorum::Read),
+        Call::Write { answering, .. } | Call::Check { answering, .. } => (answering, Quorum::Write),
+        Call::Found { .. } | Call::Send { .. } | Call::Join { .. } => return None,
+    };
+    let list = table.newest(answering);
+    if !matches!(answer.result >> 32, 0 | 6..=8) || list.members.count_ones() != 5 {
+        return None;
+    }
+    let [published, new] =
+        [0, 1].map(|mark| Layout::of(Laid { mark, ..list }, &table.chain).holds(quorum, answering));
+    (published != new).then_some(list.mark)
 }
 
 fn compare(answer: &Answer, table: &[u8], expected: &Answer, expected_table: &[u8]) -> Result<(), String> {

@@ -117,5 +117,8 @@ fn main() -> Result<(), Refusal> {
     relay.check(1, Rows::first(5))?;
     relay.send(1, fifth)?;
     assert_eq!(relay.read(fifth, Rows::first(5))?, *b"1/2");
+    // Any one of five may be away: here machine 25, the third in name order.
+    relay.write(1, Rows::first(4), b"0-0")?;
+    assert_eq!(relay.read(4, Rows::first(4))?, *b"0-0");
     Ok(())
 }

@@ -8,7 +8,7 @@
 
 use std::sync::OnceLock;
 
-/// Rises with every change of a signature below, as in the archive.
+/// Rises with every change of a signature below, as in the archive, and with nothing else: a table tells its form itself.
 pub const INTERFACE: u64 = 2;
 
 /// Panics unless the archive has the signatures that are declared here. The archive is asked once.

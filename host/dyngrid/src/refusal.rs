@@ -88,7 +88,9 @@ impl Refusal {
     /// What is wrong, and how to mend it.
     pub fn sentence(self) -> &'static str {
         match self {
-            Refusal::Malformed => "the table is malformed: restore its bytes from a good copy, or found it anew",
+            Refusal::Malformed => {
+                "the table is malformed: restore its bytes from a good copy, or found it anew (of form 1: set byte 0 to 2)"
+            }
             Refusal::NoSuchRow => "a row is not in use, or a send names one row twice: name rows from 1 to the rows used",
             Refusal::NotAnswering => "the coordinator, or an end of a send, is not among the rows that answered: add it",
             Refusal::OutOfRange => "the range is empty or ends beyond the file: name at least one byte, all inside the file",

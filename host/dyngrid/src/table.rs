@@ -2,6 +2,8 @@ use crate::{raw, Refusal, Rows};
 use std::error::Error;
 use std::fmt;
 
+/// The form of a table, in its first byte.
+const FORM: u8 = 2;
 const HEADER: usize = 16;
 const ROW_HEADER: usize = 32;
 
@@ -35,14 +37,44 @@ impl Table {
 
     /// Takes over the bytes of a table, as kept on a disk. If they are no well-formed table, the error gives them back.
     ///
+    /// The first byte of a table is its form, 2. A table of form 1 is taken over by setting that byte to 2. Every list then
+    /// keeps its grid: see [`Table::check`] for one of five.
+    ///
+    /// ```
+    /// # use dyngrid::{Refusal, Table};
+    /// # let mut kept = Table::found(4, 16, &[10, 20, 30, 40])?.into_bytes();
+    /// # kept[0] = 1;
+    /// let table = Table::from_bytes(kept).or_else(|error| {
+    ///     let form_1 = error.is_form_1();
+    ///     let mut bytes = error.into_bytes();
+    ///     if form_1 {
+    ///         bytes[0] = 2;
+    ///     }
+    ///     Table::from_bytes(bytes)
+    /// })?;
+    /// # assert_eq!(table.as_bytes()[0], 2);
+    /// # Ok::<(), Refusal>(())
+    /// ```
+    ///
     /// Panics if the archive has another interface than this wrapper.
     pub fn from_bytes(bytes: Vec<u8>) -> Result<Table, NotATable> {
         raw::assert_interface();
         let mut table = Table { bytes };
-        // A send between rows 0 is never done, and tells a malformed table from a well-formed one.
-        match table.send(0, 0, Rows::EMPTY) {
-            Err(Refusal::NoSuchRow) => Ok(table),
-            Err(refusal) => Err(NotATable { bytes: table.bytes, refusal }),
+        let Err(refusal) = table.judge() else { return Ok(table) };
+        let mut form_1 = table.bytes.first() == Some(&1);
+        if form_1 {
+            table.bytes[0] = FORM;
+            form_1 = table.judge().is_ok();
+            table.bytes[0] = 1;
+        }
+        Err(NotATable { bytes: table.bytes, refusal, form_1 })
+    }
+
+    /// Is the table well formed? A send between rows 0 is never done, and tells.
+    fn judge(&mut self) -> Result<(), Refusal> {
+        match self.send(0, 0, Rows::EMPTY) {
+            Err(Refusal::NoSuchRow) => Ok(()),
+            Err(refusal) => Err(refusal),
             Ok(_) => unreachable!("a send between rows 0 was done"),
         }
     }
@@ -138,6 +170,11 @@ impl Table {
     }
 
     /// Makes the rows that answered the list in force; gives the epoch number in force.
+    ///
+    /// A list of five, founded or laid by a check, lies in 3 rows and 2 columns: any one of its machines may be away. A
+    /// check by the list in force changes nothing. So five in a table taken over from form 1 stay in the published grid, of
+    /// which nobody can read while the third machine in name order is away, until two checks with that machine on lay them
+    /// anew: one by four of the five, and one by all five.
     pub fn check(&mut self, coordinator: usize, answering: Rows) -> Result<u32, Refusal> {
         let coordinator = coordinator as u64;
         // SAFETY: `&mut self` is live for the call, and its only slice.
@@ -202,12 +239,18 @@ impl TryFrom<Vec<u8>> for Table {
 pub struct NotATable {
     bytes: Vec<u8>,
     refusal: Refusal,
+    form_1: bool,
 }
 
 impl NotATable {
     /// How the library refused them: `Malformed`.
     pub fn refusal(&self) -> Refusal {
         self.refusal
+    }
+
+    /// Are they a table of form 1, which is well formed once its first byte is set to 2?
+    pub fn is_form_1(&self) -> bool {
+        self.form_1
     }
 
     /// The bytes that were given to [`Table::from_bytes`].
@@ -233,7 +276,12 @@ impl fmt::Debug for NotATable {
 
 impl fmt::Display for NotATable {
     fn fmt(&self, f: &mut fmt::Formatter) -> fmt::Result {
-        write!(f, "{} bytes are no table: {}", self.bytes.len(), self.refusal)
+        let length = self.bytes.len();
+        if self.form_1 {
+            write!(f, "{length} bytes are a table of form 1: set byte 0 to 2, and it is taken over")
+        } else {
+            write!(f, "{length} bytes are no table: {}", self.refusal)
+        }
     }
 }
 

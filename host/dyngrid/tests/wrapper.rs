@@ -47,6 +47,60 @@ fn what_is_shown_is_short() {
 }
 
 #[test]
+fn a_table_of_form_1_is_told_and_taken_over() {
+    let mut bytes = four().into_bytes();
+    bytes[0] = 1;
+    let error = Table::from_bytes(bytes.clone()).expect_err("form 1");
+    assert_eq!((error.refusal(), error.is_form_1()), (Refusal::Malformed, true));
+    assert_eq!(error.to_string(), "160 bytes are a table of form 1: set byte 0 to 2, and it is taken over");
+    assert_eq!(error.into_bytes(), bytes);
+    bytes[0] = 2;
+    assert_eq!(Table::from_bytes(bytes.clone()), Ok(four()));
+    // With another rule broken, or of another form, it is not one of form 1.
+    bytes[0] = 3;
+    let other = Table::from_bytes(bytes.clone()).expect_err("form 3");
+    bytes[..2].copy_from_slice(&[1, 5]);
+    let damaged = Table::from_bytes(bytes.clone()).expect_err("a row is missing");
+    for error in [other, damaged] {
+        assert!(
+            !error.is_form_1() && error.to_string().starts_with("160 bytes are no table: refused by 1: ")
+        );
+    }
+}
+
+#[test]
+fn five_bear_the_loss_of_any_one() {
+    let five = Table::found(5, 4, &[1, 2, 3, 4, 5]).expect("a plain founding");
+    assert!(five.rows().iter().all(|row| five.row(row).is_some_and(|row| row[24] == 1)));
+    for lost in five.rows() {
+        let left = five.rows() - Rows::of(&[lost]).expect("a row");
+        let by = left.iter().next().expect("four rows");
+        let mut table = five.clone();
+        assert_eq!(table.read(by, left, 0, &mut [0; 3]), Ok(0));
+        assert_eq!(table.write(by, left, 0, b"1-0"), Ok(1));
+        assert_eq!(table.check(by, left), Ok(1));
+        assert!(left.iter().all(|row| table.row(row).is_some_and(|row| row[24] == 0)));
+    }
+}
+
+/// Its third machine is a column by itself, until two checks that it answers have laid the five anew.
+#[test]
+fn five_taken_over_keep_their_grid_until_they_are_laid_anew() {
+    let mut bytes = Table::found(5, 4, &[1, 2, 3, 4, 5]).expect("a plain founding").into_bytes();
+    bytes[16..].chunks_mut(36).for_each(|row| row[24] = 0);
+    let mut table = Table::from_bytes(bytes).expect("a list of five in the published grid");
+    let (four, all) = (Rows::first(4), Rows::first(5));
+    let but_the_third = Rows::of(&[1, 2, 4, 5]).expect("rows");
+    let mut got = [0; 3];
+    assert_eq!(table.check(1, all), Ok(0));
+    assert_eq!(table.read(1, but_the_third, 0, &mut got), Err(Refusal::NoQuorum));
+    assert_eq!(table.check(1, but_the_third), Err(Refusal::NoQuorum));
+    assert_eq!(table.read(1, Rows::first(3), 0, &mut got), Ok(0));
+    assert_eq!((table.check(1, four), table.check(1, all)), (Ok(1), Ok(2)));
+    assert_eq!(table.read(1, but_the_third, 0, &mut got), Ok(0));
+}
+
+#[test]
 fn a_row_is_what_its_machine_holds() {
     let mut table = four();
     table.write(1, Rows::first(3), 1, b"ab").expect("a quorum answers");
@@ -118,7 +172,7 @@ fn a_joining_links_the_row_in_name_order() {
     assert_eq!([40, 10, 25].map(|name| table.join(name)), [Ok(3), Ok(4), Ok(5)]);
     assert_eq!((table.used(), table.rows()), (5, Rows::first(5)));
     let bytes = table.as_bytes();
-    assert_eq!(bytes[..4], [1, 5, 5, 4], "the chain begins with row 4");
+    assert_eq!(bytes[..4], [2, 5, 5, 4], "form 2, and the chain begins with row 4");
     let names_and_links = table.rows().iter().map(|row| table.row(row).expect("in use")[..3].to_vec());
     let expected = [[20, 0, 5], [30, 0, 3], [40, 0, 0], [10, 0, 1], [25, 0, 2]];
     assert_eq!(names_and_links.collect::<Vec<_>>(), expected);

@@ -1,7 +1,7 @@
 //! Mistakes to make on purpose: each turns the engine into a wrong one that the tests must find.
 
 use crate::rows::{self, Order};
-use crate::{Layout, Quorum, Table};
+use crate::{Laid, Layout, Quorum, Table, HEADER};
 
 #[derive(Clone, Copy, Debug, PartialEq, Eq)]
 pub enum Blunder {
@@ -31,10 +31,16 @@ pub enum Blunder {
     UnlistedEpoch,
     /// An empty list has a read quorum in any set, since it has no column without a member.
     VacuousQuorum,
+    /// The own choice is made in the published grid, whatever the list's mark.
+    PublishedChoice,
+    /// A check lays the new list with the mark of the old one.
+    OldGrid,
+    /// Rows of one epoch may have lists of two marks.
+    MarksOfEpoch,
 }
 
 impl Blunder {
-    pub const ALL: [Blunder; 13] = [
+    pub const ALL: [Blunder; 16] = [
         Blunder::OutsidersCount,
         Blunder::ShortColumnWhole,
         Blunder::DesiredIgnored,
@@ -48,6 +54,9 @@ impl Blunder {
         Blunder::LinkTooFar,
         Blunder::UnlistedEpoch,
         Blunder::VacuousQuorum,
+        Blunder::PublishedChoice,
+        Blunder::OldGrid,
+        Blunder::MarksOfEpoch,
     ];
 
     /// Its name on a command line.
@@ -66,6 +75,9 @@ impl Blunder {
             Blunder::LinkTooFar => "link-too-far",
             Blunder::UnlistedEpoch => "unlisted-epoch",
             Blunder::VacuousQuorum => "vacuous-quorum",
+            Blunder::PublishedChoice => "published-choice",
+            Blunder::OldGrid => "old-grid",
+            Blunder::MarksOfEpoch => "marks-of-epoch",
         }
     }
 
@@ -75,9 +87,21 @@ impl Blunder {
 }
 
 /// The highest epoch in the set and its list, rows with an empty list among them.
-pub fn highest_of_all(table: &Table, bytes: &[u8], set: u64) -> (u32, u64) {
+pub fn highest_of_all(table: &Table, bytes: &[u8], set: u64) -> (u32, Laid) {
     let polled = rows::members(set).map(|row| table.row(bytes, row));
-    polled.max_by_key(|row| row.epoch).map_or((0, 0), |row| (row.epoch, row.list))
+    polled.max_by_key(|row| row.epoch).map_or((0, Laid::EMPTY), |row| (row.epoch, row.list))
+}
+
+/// Reads a table that is well formed once each list of five has mark 0.
+pub fn decode_any_marks(bytes: &[u8]) -> Option<Table> {
+    let mut unmarked = bytes.to_vec();
+    let stride = bytes.len().checked_sub(HEADER)?.checked_div(usize::from(bytes[1]))?;
+    for row in unmarked[HEADER..].chunks_mut(stride.max(1)) {
+        if let Some((list, [mark @ 1, ..])) = row.get_mut(16..).and_then(|row| row.split_first_chunk_mut()) {
+            *mark = u8::from(u64::from_le_bytes(*list).count_ones() != 5);
+        }
+    }
+    Table::decode(&unmarked)
 }
 
 /// Counts each row outside the list in the place of the next member.
@@ -89,7 +113,7 @@ pub fn holds_with_outsiders(layout: &Layout, chain: &Order, quorum: Quorum, set:
         if rows::has(set, row.into()) {
             answers[position % grid.columns] += 1;
         }
-        position += usize::from(rows::has(layout.list, row.into()));
+        position += usize::from(rows::has(layout.list.members, row.into()));
     }
     let whole_column = || (1..).zip(&answers).any(|(column, &count)| count >= grid.height(column));
     answers.iter().all(|&count| count > 0) && (quorum == Quorum::Read || whole_column())
@@ -109,6 +133,6 @@ pub fn holds_long_column(layout: &Layout, quorum: Quorum, set: u64) -> bool {
 
 /// Wants all three of three for a write.
 pub fn holds_all_of_three(layout: &Layout, quorum: Quorum, set: u64) -> bool {
-    let all = layout.list & !set == 0;
+    let all = layout.list.members & !set == 0;
     layout.holds(quorum, set) && (quorum == Quorum::Read || layout.members.len() != 3 || all)
 }

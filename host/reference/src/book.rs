@@ -2,10 +2,12 @@
 //! a call was done; nothing comes from the table.
 
 use crate::rows::{self, Order};
-use crate::{Layout, Quorum};
+use crate::{Laid, Layout, Quorum, Rules};
 
-#[derive(Clone)]
+#[derive(Clone, Debug)]
 pub struct Book {
+    /// How lists are laid.
+    pub rules: Rules,
     /// For row i at place i - 1: its name.
     names: Vec<u16>,
     /// The rows in the order of their names.
@@ -14,16 +16,17 @@ pub struct Book {
     writes: usize,
     /// For row i at place i - 1: which of the done writes it has.
     has: Vec<Vec<bool>>,
-    in_force: u64,
+    in_force: Laid,
     /// For row i at place i - 1: its own list.
-    own: Vec<u64>,
+    own: Vec<Laid>,
 }
 
 impl Book {
     /// A done founding.
-    pub fn open(file_len: usize, names: &[u16]) -> Book {
-        let all = rows::first(names.len());
+    pub fn open(rules: Rules, file_len: usize, names: &[u16]) -> Book {
+        let all = rules.lay(rows::first(names.len()));
         Book {
+            rules,
             names: names.to_vec(),
             chain: Order::first(names.len()),
             file: vec![0; file_len],
@@ -55,11 +58,13 @@ impl Book {
         }
     }
 
-    /// A done check.
+    /// A done check. The list in force keeps its grid.
     pub fn check(&mut self, answering: u64) {
-        self.in_force = answering;
-        for row in rows::members(answering) {
-            self.own[row - 1] = answering;
+        if answering != self.in_force.members {
+            self.in_force = self.rules.lay(answering);
+            for row in rows::members(answering) {
+                self.own[row - 1] = self.in_force;
+            }
         }
     }
 
@@ -67,7 +72,7 @@ impl Book {
     pub fn join(&mut self, name: u16) {
         self.names.push(name);
         self.has.push(vec![false; self.writes]);
-        self.own.push(0);
+        self.own.push(Laid::EMPTY);
         let mut rows: Vec<usize> = (1..=self.names.len()).collect();
         rows.sort_by_key(|row| self.names[row - 1]);
         self.chain = rows.into_iter().collect();
@@ -115,7 +120,7 @@ impl Book {
         rows::members(set).any(|row| self.has_all(row))
     }
 
-    fn layout(&self, list: u64) -> Layout {
+    fn layout(&self, list: Laid) -> Layout {
         Layout::of(list, &self.chain)
     }
 }

@@ -2,7 +2,7 @@
 
 use crate::blunder::{self, Blunder};
 use crate::rows::{self, Order};
-use crate::{Layout, Quorum, Row, Rules, Table, LIMIT, MAX_FILE, MAX_ROWS, ROW_HEADER};
+use crate::{Laid, Layout, Quorum, Row, Rules, Table, LIMIT, MAX_FILE, MAX_ROWS, ROW_HEADER};
 use std::iter;
 
 /// Answers the calls on a table's bytes; with a blunder, wrongly.
@@ -17,7 +17,7 @@ struct Poll {
     set: u64,
     /// The highest epoch among the rows of the set that have a list, and that list; empty if none has.
     epoch: u32,
-    list: u64,
+    list: Laid,
     /// The unmarked rows of the highest version among unmarked rows, and that version.
     good: u64,
     version: u32,
@@ -44,7 +44,7 @@ fn result(answer: Answer) -> u64 {
 
 impl Engine {
     pub fn found(&self, bytes: &mut [u8], capacity: u64, file_len: u64, names: &[u8]) -> u64 {
-        result(found(bytes, capacity, file_len, names))
+        result(found(self.rules, bytes, capacity, file_len, names))
     }
 
     pub fn read(
@@ -91,7 +91,7 @@ impl Engine {
         length: u64,
         buffer: &mut [u8],
     ) -> Answer {
-        let table = Table::decode_by(self.rules, bytes).ok_or(1u32)?;
+        let table = self.judge(bytes)?;
         ask(2, is_used(&table, coordinator) && only_used(&table, answering))?;
         ask(3, answers(answering, coordinator))?;
         ask(4, range_fits(&table, offset, length))?;
@@ -116,7 +116,7 @@ impl Engine {
         offset: u64,
         patch: &[u8],
     ) -> Answer {
-        let table = Table::decode_by(self.rules, bytes).ok_or(1u32)?;
+        let table = self.judge(bytes)?;
         ask(2, is_used(&table, coordinator) && only_used(&table, answering))?;
         ask(3, answers(answering, coordinator))?;
         ask(4, range_fits(&table, offset, patch.len() as u64))?;
@@ -144,21 +144,25 @@ impl Engine {
     }
 
     fn try_check(&self, bytes: &mut [u8], coordinator: u64, answering: u64) -> Answer {
-        let table = Table::decode_by(self.rules, bytes).ok_or(1u32)?;
+        let table = self.judge(bytes)?;
         ask(2, is_used(&table, coordinator) && only_used(&table, answering))?;
         ask(3, answers(answering, coordinator))?;
         let poll = self.poll(&table, bytes, answering);
         let layout = Layout::of(poll.list, &table.chain);
         ask(6, self.holds(&table, &layout, Quorum::Write, answering))?;
-        if answering == poll.list {
+        if answering == poll.list.members {
             return Ok(poll.epoch);
         }
         ask(7, poll.current)?;
         ask(8, poll.epoch < LIMIT)?;
+        let mut list = self.rules.lay(answering);
+        if self.makes(Blunder::OldGrid) {
+            list.mark = poll.list.mark;
+        }
         for row in rows::members(answering) {
             let mut state = table.row(bytes, row);
             state.epoch = poll.epoch + 1;
-            state.list = answering;
+            state.list = list;
             if !rows::has(poll.good, row) {
                 mark(&mut state, poll.version);
             }
@@ -168,7 +172,7 @@ impl Engine {
     }
 
     fn try_send(&self, bytes: &mut [u8], from: u64, to: u64, answering: u64) -> Answer {
-        let table = Table::decode_by(self.rules, bytes).ok_or(1u32)?;
+        let table = self.judge(bytes)?;
         ask(2, is_used(&table, from) && is_used(&table, to) && only_used(&table, answering) && from != to)?;
         ask(3, answers(answering, from) && answers(answering, to))?;
         let (from, to) = (from as usize, to as usize);
@@ -183,7 +187,7 @@ impl Engine {
     }
 
     fn try_join(&self, bytes: &mut [u8], name: u16) -> Answer {
-        let table = Table::decode_by(self.rules, bytes).ok_or(1u32)?;
+        let table = self.judge(bytes)?;
         let mut place = table.chain.partition_point(|&row| table.row(bytes, row.into()).name < name);
         let in_use = table.chain.get(place).is_some_and(|&row| table.row(bytes, row.into()).name == name);
         ask(13, name != 0 && !in_use)?;
@@ -192,6 +196,16 @@ impl Engine {
             place = (place + 1).min(table.used);
         }
         Ok(table.link_in(bytes, name, place) as u32)
+    }
+
+    /// Question 1.
+    fn judge(&self, bytes: &[u8]) -> Result<Table, u32> {
+        let judged = if self.makes(Blunder::MarksOfEpoch) {
+            blunder::decode_any_marks(bytes)
+        } else {
+            Table::decode_by(self.rules, bytes)
+        };
+        judged.ok_or(1)
     }
 
     /// The set that a read or write works on: the coordinator's own choice as far as it answered, or else all that answered.
@@ -206,7 +220,10 @@ impl Engine {
         if self.makes(Blunder::SixByCount) {
             ask(6, answering.count_ones() as usize > table.used / 2)?;
         }
-        let own = table.row(bytes, coordinator);
+        let mut own = table.row(bytes, coordinator);
+        if self.makes(Blunder::PublishedChoice) {
+            own.list.mark = 0;
+        }
         let mut layout = Layout::of(own.list, &table.chain);
         let choice = layout.choice(quorum, own.name) & answering;
         if choice != 0 && !self.makes(Blunder::NoChoice) {
@@ -225,12 +242,12 @@ impl Engine {
 
     /// Polls the rows of a set that is not empty.
     fn poll(&self, table: &Table, bytes: &[u8], set: u64) -> Poll {
-        let mut poll = Poll { set, epoch: 0, list: 0, good: 0, version: 0, current: false };
+        let mut poll = Poll { set, epoch: 0, list: Laid::EMPTY, good: 0, version: 0, current: false };
         let mut desired = 0;
         for index in rows::members(set) {
             let row = table.row(bytes, index);
             // A row with an empty list is passed over.
-            if row.epoch >= poll.epoch && row.list != 0 {
+            if row.epoch >= poll.epoch && !row.list.is_empty() {
                 (poll.epoch, poll.list) = (row.epoch, row.list);
             }
             if row.stale {
@@ -250,7 +267,7 @@ impl Engine {
 
     /// Does the set hold a quorum of the list that is laid out? Of an empty one it does not.
     fn holds(&self, table: &Table, layout: &Layout, quorum: Quorum, set: u64) -> bool {
-        if layout.list == 0 && !self.makes(Blunder::VacuousQuorum) {
+        if layout.list.is_empty() && !self.makes(Blunder::VacuousQuorum) {
             return false;
         }
         match self.blunder {
@@ -266,7 +283,7 @@ impl Engine {
     }
 }
 
-fn found(bytes: &mut [u8], capacity: u64, file_len: u64, names: &[u8]) -> Answer {
+fn found(rules: Rules, bytes: &mut [u8], capacity: u64, file_len: u64, names: &[u8]) -> Answer {
     ask(11, names.len().is_multiple_of(2))?;
     let used = names.len() / 2;
     let names = names.chunks_exact(2).map(|name| u16::from_le_bytes([name[0], name[1]]));
@@ -282,9 +299,9 @@ fn found(bytes: &mut [u8], capacity: u64, file_len: u64, names: &[u8]) -> Answer
     let table = Table { capacity, used, file_len, chain: Order::first(used) };
     bytes.fill(0);
     table.write_header(bytes, 1);
+    let list = rules.lay(table.all_used());
     for (index, name) in (1..).zip(names) {
         let next = if index < used { index + 1 } else { 0 };
-        let list = table.all_used();
         let row = Row { name, next, stale: false, version: 0, desired: 0, epoch: 0, list };
         table.write_row(bytes, index, &row);
     }

@@ -9,6 +9,23 @@ pub enum Quorum {
     Write,
 }
 
+/// A list as it was laid: its members, and the mark of its grid.
+#[derive(Clone, Copy, Debug, PartialEq, Eq)]
+pub struct Laid {
+    pub members: u64,
+    /// 0 for the published grid, 1 for the new one of five.
+    pub mark: u8,
+}
+
+impl Laid {
+    /// What a row has from its joining on until a check takes it in.
+    pub const EMPTY: Laid = Laid { members: 0, mark: 0 };
+
+    pub fn is_empty(self) -> bool {
+        self.members == 0
+    }
+}
+
 /// The grid for a number of members: filled row by row, the last columns perhaps one shorter. Positions, rows and columns count from 1.
 #[derive(Clone, Copy, Debug, PartialEq, Eq)]
 pub struct Grid {
@@ -19,6 +36,10 @@ pub struct Grid {
 }
 
 impl Grid {
+    /// The new grid of five.
+    pub const NEW_FIVE: Grid = Grid { rows: 3, columns: 2, empty: 1 };
+
+    /// The published grid.
     pub fn of(length: usize) -> Grid {
         let root = usize::from((length as u8).isqrt());
         let columns = if root * root < length { root + 1 } else { root };
@@ -46,20 +67,21 @@ impl Grid {
 /// A list laid in its grid: its members in chain order.
 #[derive(Clone, Copy, Debug)]
 pub struct Layout {
-    pub list: u64,
+    pub list: Laid,
     pub grid: Grid,
     pub members: Order,
 }
 
 impl Layout {
-    /// Lays out `list`, whose members lie in `chain` in order.
-    pub fn of(list: u64, chain: &Order) -> Layout {
-        let members = chain.cut(list);
-        Layout { list, grid: Grid::of(members.len()), members }
+    /// Lays out `list`, whose members lie in `chain` in order, in its own grid.
+    pub fn of(list: Laid, chain: &Order) -> Layout {
+        let members = chain.cut(list.members);
+        let grid = if list.mark == 1 { Grid::NEW_FIVE } else { Grid::of(members.len()) };
+        Layout { list, grid, members }
     }
 
     /// Lays out another list, unless it is the one that is laid out already.
-    pub fn lay(&mut self, list: u64, chain: &Order) {
+    pub fn lay(&mut self, list: Laid, chain: &Order) {
         if list != self.list {
             *self = Layout::of(list, chain);
         }
@@ -118,7 +140,16 @@ mod tests {
     use super::*;
 
     fn list_of(length: usize) -> Layout {
-        Layout::of(rows::first(length), &Order::first(length))
+        laid(length, 0)
+    }
+
+    fn laid(length: usize, mark: u8) -> Layout {
+        Layout::of(Laid { members: rows::first(length), mark }, &Order::first(length))
+    }
+
+    /// Every list in the published grid, and five in the new one.
+    fn every_list() -> impl Iterator<Item = Layout> {
+        (1..=64).map(list_of).chain([laid(5, 1)])
     }
 
     fn set(positions: &[usize]) -> u64 {
@@ -144,11 +175,11 @@ mod tests {
 
     #[test]
     fn the_last_columns_are_one_shorter() {
-        for length in 1..=64 {
-            let grid = Grid::of(length);
+        for Layout { grid, members, .. } in every_list() {
             for column in 1..=grid.columns {
-                let members = (1..=length).filter(|&position| grid.column_of(position) == column).count();
-                assert_eq!(grid.height(column), members);
+                let positions = 1..=members.len();
+                let in_column = positions.filter(|&position| grid.column_of(position) == column).count();
+                assert_eq!(grid.height(column), in_column);
             }
         }
     }
@@ -162,6 +193,32 @@ mod tests {
         assert!(list_of(3).holds(Quorum::Write, set(&[1, 2])));
         assert!(!list_of(3).holds(Quorum::Read, set(&[1, 3])));
         assert!(!list_of(5).holds(Quorum::Read, set(&[1, 2, 4, 5])));
+        assert!(laid(5, 1).holds(Quorum::Write, set(&[1, 2, 4, 5])));
+    }
+
+    /// Columns {1, 3, 5} and {2, 4}: as numbers, bit k - 1 for position k.
+    #[test]
+    fn smallest_quorums_of_five() {
+        let smallest = |quorum, mark| -> Vec<u64> {
+            let list = laid(5, mark);
+            let holds = |set: &u64| list.holds(quorum, *set);
+            let smallest = |set: &u64| rows::members(*set).all(|row| !holds(&(set & !rows::only(row))));
+            (0..32).filter(holds).filter(smallest).collect()
+        };
+        assert_eq!(smallest(Quorum::Write, 0), [7, 14, 21, 28]);
+        assert_eq!(smallest(Quorum::Write, 1), [11, 14, 23, 26, 29]);
+        assert_eq!(smallest(Quorum::Read, 0), [7, 14, 21, 28]);
+        assert_eq!(smallest(Quorum::Read, 1), [3, 6, 9, 12, 18, 24]);
+    }
+
+    #[test]
+    fn choices_of_the_new_five() {
+        let five = laid(5, 1);
+        let choices = |name| [Quorum::Read, Quorum::Write].map(|quorum| five.choice(quorum, name));
+        // An even name has the first column, of three; an odd one the second, of two.
+        assert_eq!(choices(6), [set(&[1, 2]), set(&[1, 2, 3, 5])]);
+        assert_eq!(choices(7), [set(&[3, 4]), set(&[2, 3, 4])]);
+        assert_eq!(choices(8), [set(&[2, 5]), set(&[1, 2, 3, 5])]);
     }
 
     #[test]
@@ -179,8 +236,7 @@ mod tests {
 
     #[test]
     fn choices_are_quorums() {
-        for length in 1..=64 {
-            let list = list_of(length);
+        for list in every_list() {
             for name in 1..=200 {
                 assert!(list.holds(Quorum::Read, list.choice(Quorum::Read, name)));
                 assert!(list.holds(Quorum::Write, list.choice(Quorum::Write, name)));

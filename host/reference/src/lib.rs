@@ -1,4 +1,4 @@
-//! A second implementation of the grid table's calls, written from the scope alone: plain and obvious,
+//! A second implementation of the grid table's calls, written from the papers alone: plain and obvious,
 //! table bytes in, table bytes out. It shares no code with the library that it is compared with.
 //!
 //! [`Engine`] answers the calls, by the newest [`Rules`] or by the scope's alone; [`Book`] is the plain book, and a
@@ -14,5 +14,5 @@ mod table;
 pub use blunder::Blunder;
 pub use book::Book;
 pub use engine::Engine;
-pub use grid::{Grid, Layout, Quorum};
-pub use table::{Row, Rules, Table, HEADER, LIMIT, MAX_FILE, MAX_ROWS, ROW_HEADER};
+pub use grid::{Grid, Laid, Layout, Quorum};
+pub use table::{Row, Rules, Table, FORM, HEADER, LIMIT, MAX_FILE, MAX_ROWS, ROW_HEADER};

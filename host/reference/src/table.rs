@@ -1,28 +1,36 @@
 //! The table in memory: judging it, reading its rows, writing them.
 
 use crate::rows::{self, Order};
+use crate::Laid;
 
 pub const HEADER: usize = 16;
 pub const ROW_HEADER: usize = 32;
 pub const MAX_ROWS: usize = 64;
 pub const MAX_FILE: usize = 4096;
+/// The form of a table, in its first byte.
+pub const FORM: u8 = 2;
 /// The highest version, desired version and epoch number.
 pub const LIMIT: u32 = 1_000_000;
 
-/// Which papers a table is judged by.
+/// Which papers a table is judged by; its form is the newest by all of them.
 #[derive(Clone, Copy, Debug, Default, PartialEq, Eq)]
 pub enum Rules {
-    /// The scope alone: every row has a list.
+    /// The scope alone: every row has a list, and every list lies in the published grid.
     Published,
-    /// With joining: a row may have an empty list.
+    /// The requests too: a row may have an empty list, and a list of five is laid in the new grid.
     #[default]
-    Joining,
+    Newest,
 }
 
 impl Rules {
     /// Is a row with this list exempt from the rules on its own row and on one list for an epoch?
-    pub fn exempt(self, list: u64) -> bool {
-        list == 0 && self == Rules::Joining
+    pub fn exempt(self, list: Laid) -> bool {
+        list.is_empty() && self == Rules::Newest
+    }
+
+    /// The list of these members, laid now.
+    pub fn lay(self, members: u64) -> Laid {
+        Laid { members, mark: u8::from(members.count_ones() == 5 && self == Rules::Newest) }
     }
 }
 
@@ -35,7 +43,7 @@ pub struct Row {
     pub version: u32,
     pub desired: u32,
     pub epoch: u32,
-    pub list: u64,
+    pub list: Laid,
 }
 
 impl Row {
@@ -49,7 +57,7 @@ impl Row {
             version: number(4),
             desired: number(8),
             epoch: number(12),
-            list: u64::from(number(16)) | u64::from(number(20)) << 32,
+            list: Laid { members: u64::from(number(16)) | u64::from(number(20)) << 32, mark: bytes[24] },
         }
     }
 
@@ -61,15 +69,15 @@ impl Row {
         bytes[4..8].copy_from_slice(&self.version.to_le_bytes());
         bytes[8..12].copy_from_slice(&self.desired.to_le_bytes());
         bytes[12..16].copy_from_slice(&self.epoch.to_le_bytes());
-        bytes[16..24].copy_from_slice(&self.list.to_le_bytes());
-        bytes[24..32].fill(0);
+        bytes[16..24].copy_from_slice(&self.list.members.to_le_bytes());
+        bytes[24..32].copy_from_slice(&u64::from(self.list.mark).to_le_bytes());
     }
 
-    /// Is every field of the row in its range, whatever the other rows hold?
+    /// Is every field before the grid mark in its range, whatever the other rows hold?
     fn fits(&self, bytes: &[u8; ROW_HEADER]) -> bool {
         let numbers_fit = self.version <= LIMIT && self.desired <= LIMIT && self.epoch <= LIMIT;
         let desired_fits = if self.stale { self.desired > self.version } else { self.desired == 0 };
-        self.name > 0 && bytes[3] <= 1 && numbers_fit && desired_fits && all_zero(&bytes[24..])
+        self.name > 0 && bytes[3] <= 1 && numbers_fit && desired_fits
     }
 }
 
@@ -99,7 +107,7 @@ impl Table {
         let header = bytes.first_chunk::<HEADER>()?;
         let [capacity, used, first] = [1, 2, 3].map(|at| usize::from(header[at]));
         let file_len = usize::from(u16::from_le_bytes([header[4], header[5]]));
-        let header_fits = header[0] == 1
+        let header_fits = header[0] == FORM
             && (1..=MAX_ROWS).contains(&capacity)
             && (1..=capacity).contains(&used)
             && (1..=MAX_FILE).contains(&file_len)
@@ -117,7 +125,7 @@ impl Table {
     /// Writes the header; it begins the chain with row `first`.
     pub fn write_header(&self, bytes: &mut [u8], first: usize) {
         bytes[..HEADER].fill(0);
-        bytes[0] = 1;
+        bytes[0] = FORM;
         bytes[1] = self.capacity as u8;
         bytes[2] = self.used as u8;
         bytes[3] = first as u8;
@@ -128,7 +136,7 @@ impl Table {
     pub fn link_in(&self, bytes: &mut [u8], name: u16, place: usize) -> usize {
         let row = self.used + 1;
         let next = self.chain.get(place).map_or(0, |&row| row.into());
-        let joined = Row { name, next, stale: false, version: 0, desired: 0, epoch: 0, list: 0 };
+        let joined = Row { name, next, stale: false, version: 0, desired: 0, epoch: 0, list: Laid::EMPTY };
         self.write_row(bytes, row, &joined);
         let link = match place.checked_sub(1) {
             Some(before) => self.row_at(self.chain[before].into()) + 2,
@@ -170,36 +178,52 @@ impl Table {
     }
 
     /// Is every used row in order by itself, does its list name used rows only, and unless the row is exempt, its own
-    /// row among them, and is it the one list of its epoch?
+    /// row among them, and is it the one list of its epoch, in one grid?
     fn rows_fit(&self, rules: Rules, bytes: &[u8]) -> bool {
         let all_used = self.all_used();
         // The first row of each epoch; most tables have few epochs, and most rows that of the row before.
         let mut leaders = Order::EMPTY;
         // Epoch and list of the last row that is not exempt; an empty list stands for none.
         let mut before = (0, 0);
+        // The rows with more than zeros from the grid mark on: few.
+        let mut marked = 0;
         for index in 1..=self.used {
             let header = self.row_header(bytes, index);
             let row = Row::read(header);
-            if !row.fits(header) || row.list & !all_used != 0 {
+            let members = row.list.members;
+            if !row.fits(header) || members & !all_used != 0 {
                 return false;
             }
-            if !rows::has(row.list, index) {
+            marked |= u64::from(!all_zero(&header[24..])) << (index - 1);
+            if !rows::has(members, index) {
                 if rules.exempt(row.list) {
                     continue;
                 }
                 return false;
             }
-            if before != (row.epoch, row.list) {
+            if before != (row.epoch, members) {
                 let mut earlier = leaders.iter().map(|&leader| self.row(bytes, usize::from(leader)));
                 match earlier.find(|leader| leader.epoch == row.epoch) {
-                    Some(leader) if leader.list != row.list => return false,
+                    Some(leader) if leader.list.members != members => return false,
                     Some(_) => {}
                     None => leaders.push(index),
                 }
-                before = (row.epoch, row.list);
+                before = (row.epoch, members);
             }
         }
-        true
+        marked == 0 || self.marks_fit(rules, bytes, marked)
+    }
+
+    /// Has each of these rows the mark that its list would be laid with now, and zeros behind it, and has every row of
+    /// its epoch that mark? The others of its epoch have the same list, or none.
+    fn marks_fit(&self, rules: Rules, bytes: &[u8], marked: u64) -> bool {
+        rows::members(marked).all(|index| {
+            let header = self.row_header(bytes, index);
+            let Row { epoch, list, .. } = Row::read(header);
+            let now = u64::from(rules.lay(list.members).mark).to_le_bytes();
+            let mut unmarked = rows::members(list.members & !marked).map(|other| self.row(bytes, other));
+            header[24..] == now && unmarked.all(|other| other.epoch != epoch || other.list.is_empty())
+        })
     }
 
     /// Gathers the chain; does it visit each used row once, and do its names rise strictly?

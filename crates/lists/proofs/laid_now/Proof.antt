@@ -1,11 +1,17 @@
-use mathlib.Core.Path.{refl}
+use borrow.Author.Needs.{needs}
 use Rattle.protocol.specs.Lists.{laidNow}
 use Rattle.lists.proofs.laid_now.Statement.{statement}
 use Rattle.lists.proofs.laid_now.Tie as tie
 
+size-requires : tie.Need-size-requires
+size-requires c κs = search needs
+
+new-mark-requires : tie.Need-new-mark-requires
+new-mark-requires c κs = search needs
+
 returns : tie.Need-returns
 unfolding laidNow
-returns c = refl
+returns c = rw (c .new-mark .ensures, c .before .size .ensures)
 
 pub laid-now-spec : {M : Type 1} → statement M
-laid-now-spec = tie.close (tie.spec returns)
+laid-now-spec = tie.close (tie.spec size-requires new-mark-requires returns)
