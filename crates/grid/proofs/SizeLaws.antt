@@ -1,8 +1,7 @@
 -- The sizes of the published grid, for any length.
 use mathlib.Core.Path.{_≡_, refl, ap}
-use mathlib.Core.Bool.{Bool, true, false, cond, _&&_, _||_}
+use mathlib.Core.Bool.{Bool, true, false, cond, _&&_, _||_, and-false}
 use Prim.Native.Nat.{ℕ, zero, suc, _+_, _-_, _*_, _^_, _≤_, _<_}
-use native.Mathlib.Nat.{mul-le-mul-right}
 use native.Mathlib.Omega.{arith}
 use lib.Dec.{leb, ltb, eqb}
 use borrow.Author.Tests.{leb-true, leb-false, ltb-true, ltb-false, eqb-true, eqb-false}
@@ -104,6 +103,20 @@ pub by-published : (mark N : ℕ) → (eqb mark 1 && eqb N 5) ≡ false → cond
 unfolding gridBy
 by-published mark N e = rw e
 
--- two bytes multiplied
-pub byte-product : (a b : ℕ) → a < 256 → b < 256 → a * b < 65536
-byte-product a b h k = let q : a ≤ 255 = omega arith in omega (arith, mul-le-mul-right b q)
+-- a list of no members has no column
+no-column : (mark : ℕ) → gridBy mark 0 .cols ≡ 0
+unfolding gridBy published rootUp root
+no-column mark = rw (and-false (eqb mark 1))
+
+some-fits : (mark N : ℕ) → 1 ≤ gridBy mark N .cols → Fits (gridBy mark N) N
+some-fits mark zero h = absurd (omega (arith, no-column mark))
+some-fits mark (suc n) h = laid-fits mark (suc n) (omega arith)
+
+-- where it has a column, it fits the length
+pub taken-fits : (mark N : ℕ) (g : Grid) → g ≡ cond (leb N 64) (gridBy mark N) noGrid → 1 ≤ g .cols → Fits g N
+unfolding noGrid
+taken-fits mark N g e h = rw e (go (leb N 64) (rw e at h))
+  where
+    go : (b : Bool) → 1 ≤ cond b (gridBy mark N) noGrid .cols → Fits (cond b (gridBy mark N) noGrid) N
+    go true l = some-fits mark N l
+    go false l = absurd (omega arith)

@@ -3,8 +3,8 @@ use bools::both;
 ghost use mathlib.Core.Path.{_≡_};
 ghost use mathlib.Core.Bool.{cond};
 ghost use lib.Dec.{leb};
-ghost use Prim.Native.Nat.{_-_, _≤_};
-ghost use Rattle.grid.specs.Sizes.{published, noGrid, gridBy, markFits, newMark, height};
+ghost use Prim.Native.Nat.{_≤_};
+ghost use Rattle.grid.specs.Sizes.{published, noGrid, gridBy, markFits, newMark, height, Fits};
 
 // The sizes of a grid. (The table below has one for each length of a list.)
 pub struct Grid {
@@ -128,23 +128,10 @@ pub fn new_mark(length: usize) -> u8
     if length == 5 { 1 } else { 0 }
 }
 
-// a - b; 0 where b is more.
-fn less(a: usize, b: usize) -> usize
-    ensures { λ r. ⌜ r ≡ a - b ⌝ }
-{
-    if b < a { a - b } else { 0 }
-}
-
-// How many rows of column j are occupied.
+// How many rows of column j are occupied, in a grid that fits the length.
 pub fn height(g: Grid, length: usize, j: usize) -> usize
+    requires { ⌜ Fits g length × (1 ≤ j) × (j ≤ g .cols) ⌝ }
     ensures { λ r. ⌜ r ≡ height g length j ⌝ }
 {
-    let rows = g.rows as usize;
-    let columns = g.cols as usize;
-    let spare = less(rows * columns, length);
-    if j <= less(columns, spare) {
-        rows
-    } else {
-        less(rows, 1)
-    }
+    (length - j) / g.cols as usize + 1
 }
