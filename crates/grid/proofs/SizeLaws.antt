@@ -94,6 +94,22 @@ new-mark-small N = go (eqb N 5)
     go true = omega arith
     go false = omega arith
 
+-- ---- from four on, a list laid now has two columns or more, and two positions or more in each
+square-roomy : (N n : ℕ) → 4 ≤ N → eqb N 5 ≡ false → RootUp N n → (2 ≤ n) × (2 * n ≤ N)
+square-roomy N zero four other r = absurd (omega (arith, r .high))
+square-roomy N (suc zero) four other r = absurd (omega (arith, r .high))
+square-roomy N (suc (suc zero)) four other r = omega arith
+square-roomy N (suc (suc (suc zero))) four other r = omega (arith, eqb-false, r .low 2 refl)
+square-roomy N (suc (suc (suc (suc s)))) four other r = omega (arith, r .low (suc (suc (suc s))) (omega arith))
+
+pub roomy : (N : ℕ) → 4 ≤ N → (2 ≤ gridBy (newMark N) N .cols) × (2 * gridBy (newMark N) N .cols ≤ N)
+unfolding gridBy newMark newFive published
+roomy N four = go (eqb N 5) refl
+  where
+    go : (b : Bool) → eqb N 5 ≡ b → (2 ≤ cond (eqb (cond b 1 0) 1 && b) newFive (published N) .cols) × (2 * cond (eqb (cond b 1 0) 1 && b) newFive (published N) .cols ≤ N)
+    go true e = omega (arith, eqb-true)
+    go false e = square-roomy N (rootUp N) four e (root-up-is N (omega arith))
+
 -- ---- a mark's grid as the code finds it
 pub by-five : (mark N : ℕ) → (eqb mark 1 && eqb N 5) ≡ true → newFive ≡ cond (leb N 64) (gridBy mark N) noGrid
 unfolding gridBy
