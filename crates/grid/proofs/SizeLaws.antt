@@ -1,11 +1,12 @@
 -- The sizes of the published grid, for any length.
-use mathlib.Core.Path.{_≡_, refl, sym, ap}
+use mathlib.Core.Path.{_≡_, refl, sym, _∙_, ap}
+use mathlib.Core.Logic.{_≢_}
 use mathlib.Core.Bool.{Bool, true, false, cond, _&&_, _||_}
 use Prim.Native.Nat.{ℕ, zero, suc, _+_, _-_, _*_, _^_, _≤_, _<_}
 use native.Mathlib.Omega.{arith}
 use lib.Dec.{leb, ltb, eqb}
 use borrow.Author.Tests.{le-leb, leb-true, leb-false, ltb-true, ltb-false, eqb-true, eqb-false}
-use Rattle.bools.proofs.BoolLaws.{and-l, and-r}
+use Rattle.bools.proofs.BoolLaws.{and-l, and-r, clash}
 use Rattle.grid.specs.declared.Grid.{Grid}
 use Rattle.grid.specs.Sizes.{Fits, root, rootUp, published, newFive, exchanged, gridBy, markFits, newMark, noGrid}
 
@@ -128,6 +129,47 @@ new-mark-tall false N = go (eqb N 5)
     go : (b : Bool) → eqb (cond b 1 0) 2 ≡ false
     go true = refl
     go false = refl
+
+-- ---- from four on, a list laid now has two columns or more, and two positions or more in each
+abbrev Roomy : ℕ → Grid → Type 0
+Roomy N g = (2 ≤ g .cols) × (2 * g .cols ≤ N)
+
+square-roomy : (N n : ℕ) → 4 ≤ N → N ≢ 5 → RootUp N n → (2 ≤ n) × (2 * n ≤ N)
+square-roomy N zero four other r = absurd (omega (arith, r .high))
+square-roomy N (suc zero) four other r = absurd (omega (arith, r .high))
+square-roomy N (suc (suc zero)) four other r = omega arith
+square-roomy N (suc (suc (suc zero))) four other r = omega (arith, r .low 2 refl)
+square-roomy N (suc (suc (suc (suc s)))) four other r = omega (arith, r .low (suc (suc (suc s))) (omega arith))
+
+published-roomy : (N : ℕ) → 4 ≤ N → N ≢ 5 → Roomy N (published N)
+unfolding published
+published-roomy N four other = square-roomy N (rootUp N) four other (root-up-is N (omega arith))
+
+-- the published five is exchanged
+five-exchanged : eqb (published 5 .rows + 1) (published 5 .cols) ≡ true
+unfolding published rootUp root
+five-exchanged = refl
+
+exchanged-roomy : (N : ℕ) → 4 ≤ N → Roomy N (exchanged (published N))
+unfolding exchanged
+exchanged-roomy N four = either (Roomy N) (eqb (published N .rows + 1) (published N .cols))
+    (λ e. let c : published N .cols ≡ published N .rows + 1 = sym (eqb-true _ _ e) in
+    go (published N .rows) (published N .cols) (published-fits N (omega arith) .room) c (columns N (omega arith) .low (published N .rows) c))
+    (λ e. published-roomy N four (λ five. clash (sym e ∙ ap (λ (n : ℕ). eqb (published n .rows + 1) (published n .cols)) five ∙ five-exchanged)))
+  where
+    go : (m n : ℕ) → N ≤ m * n → n ≡ m + 1 → m * m < N → (2 ≤ m) × (2 * m ≤ N)
+    go zero n room e small = absurd (omega arith)
+    go (suc zero) n room e small = absurd (omega arith)
+    go (suc (suc m)) n room e small = (omega arith, omega arith)
+
+pub roomy : (tall : Bool) (N : ℕ) → 4 ≤ N → (2 ≤ gridBy (newMark tall N) N .cols) × (2 * gridBy (newMark tall N) N .cols ≤ N)
+unfolding gridBy newMark newFive
+roomy true N four = exchanged-roomy N four
+roomy false N four = go (eqb N 5) refl
+  where
+    go : (b : Bool) → eqb N 5 ≡ b → Roomy N (cond (eqb (cond b 1 0) 2) (exchanged (published N)) (cond (eqb (cond b 1 0) 1 && b) newFive (published N)))
+    go true e = omega (arith, eqb-true)
+    go false e = published-roomy N four (eqb-false N 5 e)
 
 -- ---- a mark's grid as the code finds it
 pub by-five : (mark N : ℕ) → (eqb mark 1 && eqb N 5) ≡ true → newFive ≡ cond (leb N 64) (gridBy mark N) noGrid

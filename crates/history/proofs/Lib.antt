@@ -7,3 +7,4 @@ pub mod Next
 pub mod Founded
 pub mod Theorems
 pub mod Reach
+pub mod Lost

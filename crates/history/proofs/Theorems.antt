@@ -83,7 +83,7 @@ later t b e S [] = (e, S)
 later t b e S (k ∷ ks) =
     let n = next t b e S k in later (outcome t k .table) (entered b k (eqb (outcome t k .refusal) 0)) (n .0) (n .1) ks
 
-reached : (t : List ℕ) (b : Book) → Reached t b → (e : ℕ) × State t b e
+pub reached : (t : List ℕ) (b : Book) → Reached t b → (e : ℕ) × State t b e
 reached t b (after t₀ a ks h) = later (outcome t₀ (founding a) .table) (opened a) 0 (opens t₀ a h) ks
 
 pub always-well-formed : AlwaysWellFormed

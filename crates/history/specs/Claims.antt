@@ -4,7 +4,8 @@ use mathlib.Core.Bool.{true, cond, _||_}
 use mathlib.Core.List.{List, [], _∷_}
 use Prim.Native.Nat.{ℕ, _≤_}
 use lib.Dec.{eqb}
-use Rattle.sets.specs.Sets.{has}
+use Rattle.sets.specs.Upto.{count}
+use Rattle.sets.specs.Sets.{has, losing}
 use Rattle.quorums.specs.declared.Kind.{Kind}
 use Rattle.quorums.specs.declared.Kind.the-variants.{Read, Write}
 use Rattle.table.specs.WellFormed.{wellFormed}
@@ -35,6 +36,23 @@ AlwaysWellFormed = (t : List ℕ) (b : Book) → Reached t b → wellFormed t �
 unfoldable pub ChecksByBook : Type 0
 ChecksByBook = (t : List ℕ) (b : Book) → Reached t b → (a : Checking) → firstNo (before 6 (questions t (check a))) ≡ 0
     → firstNo (before 8 (questions t (check a))) ≡ cond (holdsQuorum b Write (has (a .r))) (cond (eqb (a .r) (b .inForce .members) || someHasAll b (has (a .r))) 0 7) 6
+
+-- ---- "One machine lost"
+-- "a list of four or more .. in force, a check by all its members but one, some one of them having every done write": x is not there, and 1 to 3 are passed
+pub record AllButOneCheck (t : List ℕ) (b : Book) (x : ℕ) (a : Checking) : Type 0 where
+  pub four : 4 ≤ count 64 (has (b .inForce .members))
+  pub member : has (b .inForce .members) x ≡ true
+  pub others : has (a .r) ≡ losing (has (b .inForce .members)) x
+  pub current : someHasAll b (has (a .r)) ≡ true
+  pub passes : firstNo (before 6 (questions t (check a))) ≡ 0
+
+-- it "is not refused by 6 or 7". "so laid" is no premise: in a founded history every list in force was laid by its founding or by a check
+unfoldable pub OneLost : Type 0
+OneLost = (t : List ℕ) (b : Book) → Reached t b → (x : ℕ) (a : Checking) → AllButOneCheck t b x a → firstNo (before 8 (questions t (check a))) ≡ 0
+
+-- it is met with: there is such a history, such a member and such a check
+unfoldable pub OneLostMet : Type 0
+OneLostMet = (t : List ℕ) × (b : Book) × (x : ℕ) × (a : Checking) × Reached t b × AllButOneCheck t b x a
 
 -- ---- 1,000,000 from both sides
 -- k is a read or a write, with the answering set R

@@ -14,7 +14,7 @@ use Rattle.sets.proofs.SetLaws.{empty-at}
 use Rattle.bools.proofs.BoolLaws.{and-l, and-r, and-i, clash}
 use Rattle.quorums.specs.declared.Kind.{Kind}
 use Rattle.quorums.specs.declared.Kind.the-variants.{Read, Write}
-use Rattle.grid.specs.Sizes.{root, rootUp, published, newFive, gridBy, newMark, columnOf}
+use Rattle.grid.specs.Sizes.{root, rootUp, published, newFive, exchanged, gridBy, newMark, columnOf}
 use Rattle.quorums.specs.Quorums.{touches, covers, readQuorum, writeQuorum, quorum, choice}
 use Rattle.quorums.proofs.QuorumLaws as Q
 use Rattle.linking.specs.Linking.{inserted}
@@ -104,6 +104,6 @@ module _ (f : ℕ → ℕ) (x w : ℕ) (order : List ℕ) (v : Laid) (out : has 
   choice-more kind a i = let N = count 64 (has (v .members)) in ap (λ (rows : List ℕ). some N (λ k. choice kind (gridBy (v .mark) N) N a k && atSeat rows (eqb i) k)) seats-more
 
 -- a list of one row, which is there
-pub one-holds : listQuorum Write (1 ∷ []) (laidNow 1) (has 1) ≡ true
-unfolding listQuorum level laidNow seats keep atSeat has count every some root rootUp published newFive gridBy newMark columnOf touches covers readQuorum writeQuorum quorum
+pub one-holds : listQuorum Write (1 ∷ []) (laidNow false 1) (has 1) ≡ true
+unfolding listQuorum level laidNow seats keep atSeat has count every some root rootUp published newFive exchanged gridBy newMark columnOf touches covers readQuorum writeQuorum quorum
 one-holds = refl

@@ -15,7 +15,7 @@ use Rattle.quorums.specs.declared.Kind.{Kind}
 use Rattle.quorums.specs.declared.Kind.the-variants.{Read, Write}
 use Rattle.bytes.specs.Bytes.{number, part}
 use Rattle.fields.specs.Layout
-use Rattle.fields.specs.Layout.{get, mark, version, desired, epoch, list, noList, usedOf, firstOf, fileLengthOf, nameOf, linkOf, staleOf, versionOf, desiredOf, epochOf, listOf, contentsOf, rowBytes}
+use Rattle.fields.specs.Layout.{isTall, get, mark, version, desired, epoch, list, noList, usedOf, firstOf, fileLengthOf, nameOf, linkOf, staleOf, versionOf, desiredOf, epochOf, listOf, contentsOf, rowBytes}
 use Rattle.table.specs.Chain.{chain, orderOf}
 use Rattle.table.specs.WellFormed.{between, limit, onlyRows}
 use Rattle.bytes.proofs.ByteLaws.{part-part}
@@ -236,7 +236,7 @@ done-same t u (check a) r byCheck E ht hu = go (eqb (a .r) (inForce (answers t (
           value = ap (λ (p : Poll). highestEpoch p (has (a .r)) + 1) (sym (poll-same E));
           buffer = refl;
           rows = λ i m. changed-same E (check-rows t a y (ltb-true _ _ room))
-              (changed-as E refl (ap (λ (p : Poll). checkedRow (good p (has (a .r))) (goodVersion p (has (a .r))) (highestEpoch p (has (a .r)) + 1) (laidNow (a .r))) (poll-same E)) (check-rows u a z (ltb-true _ _ room-u)))
+              (changed-as E refl (ap (λ (p : Poll). checkedRow (good p (has (a .r))) (goodVersion p (has (a .r))) (highestEpoch p (has (a .r)) + 1) (laidNow (isTall (inForce p (has (a .r)))) (a .r))) (poll-same E)) (check-rows u a z (ltb-true _ _ room-u)))
               i (answered-used t (a .c) (a .r) [] (y .first) i m) m;
         })
 

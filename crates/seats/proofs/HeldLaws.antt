@@ -35,7 +35,7 @@ chosen-in kind mark order p a i h =
     rw (eqb-true i _ (and-r (leb 1 k && leb k (length (keep p order))) _ s)) (kept p order (k - 1) (omega arith))
 
 -- the row at position k passes
-at-seat : (rows : List ℕ) (q : ℕ → Bool) (k : ℕ) → Within (length rows) k → q (getD rows (k - 1) 0) ≡ true → atSeat rows q k ≡ true
+pub at-seat : (rows : List ℕ) (q : ℕ → Bool) (k : ℕ) → Within (length rows) k → q (getD rows (k - 1) 0) ≡ true → atSeat rows q k ≡ true
 unfolding atSeat
 at-seat rows q k w h = rw (le-leb 1 k (w .0), le-leb k (length rows) (w .1)) h
 

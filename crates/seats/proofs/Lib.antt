@@ -1,3 +1,4 @@
 pub mod RisingKept
 pub mod SeatLaws
 pub mod HeldLaws
+pub mod LossLaws

@@ -2,14 +2,18 @@
 use mathlib.Core.Path.{_≡_}
 use mathlib.Core.Bool.{Bool, true}
 use mathlib.Core.List.{List}
-use Prim.Native.Nat.{ℕ, _-_, _≤_}
+use Prim.Native.Nat.{ℕ, _-_, _^_, _≤_, _<_}
 use lib.ListN.{length, getD}
 use Rattle.sets.specs.Upto.{Within, count}
+use Rattle.sets.specs.Sets.{has}
+use Rattle.fields.specs.declared.Laid.{Laid}
 use Rattle.fields.specs.Layout.{usedOf}
 use Rattle.table.specs.Chain.{orderOf}
 use Rattle.table.specs.WellFormed.{wellFormed}
 use Rattle.quorums.specs.declared.Kind.{Kind}
-use Rattle.protocol.specs.Lists.{seats, level, levelChoice}
+use Rattle.quorums.specs.declared.Kind.the-variants.{Write}
+use Rattle.quorums.specs.Losses.{AllButOne}
+use Rattle.protocol.specs.Lists.{laidNow, seats, level, levelChoice, listQuorum}
 
 -- the row at position k of those that pass p, counted from 1
 unfoldable pub rowAt : List ℕ → (ℕ → Bool) → ℕ → ℕ
@@ -30,3 +34,8 @@ EveryListIsSeated = (t : List ℕ) → wellFormed t ≡ true → (p : ℕ → Bo
 unfoldable pub EveryChoiceHolds : Type 0
 EveryChoiceHolds = (t : List ℕ) → wellFormed t ≡ true → (p : ℕ → Bool) → ((i : ℕ) → p i ≡ true → Within (usedOf t) i) → 1 ≤ count 64 p
     → (kind : Kind) (mark a : ℕ) → (level kind mark (orderOf t) p (levelChoice kind mark (orderOf t) p a) ≡ true) × (level kind mark (orderOf t) p p ≡ true)
+
+-- "for each list of 4 to 64 members as now laid, the members without any one of them hold a write quorum": a list of used rows, and any set that misses at most one of them
+unfoldable pub ListBearsLoss : Type 0
+ListBearsLoss = (t : List ℕ) → wellFormed t ≡ true → (l : Laid) → l ≡ laidNow (l .members) → l .members < 2 ^ usedOf t → 4 ≤ count 64 (has (l .members))
+    → (s : ℕ → Bool) → AllButOne (has (l .members)) s → listQuorum Write (orderOf t) l s ≡ true

@@ -1,0 +1,97 @@
+-- One machine lost: a check by all members but one of the list in force is not refused by 6 or 7.
+use mathlib.Core.Path.{_≡_, refl, sym, _∙_, ap}
+use mathlib.Core.Bool.{Bool, true, false, cond, or-true}
+use mathlib.Core.List.{List, [], _∷_}
+use Prim.Native.Nat.{ℕ, _+_, _*_, _≤_}
+use native.Mathlib.Omega.{arith}
+use lib.Dec.{eqb}
+use lib.ListN.{length}
+use borrow.Author.Tests.{eq-eqb}
+use Rattle.sets.specs.Upto.{every, some, count}
+use Rattle.sets.specs.Sets.{has, losing}
+use Rattle.sets.proofs.SetLaws.{has-lose}
+use Rattle.quorums.specs.declared.Kind.the-variants.{Write}
+use Rattle.quorums.proofs.LossLaws.{losing-one}
+use Rattle.bytes.specs.Bytes.{zeros}
+use Rattle.bytes.proofs.ByteLaws.{length-zeros}
+use Rattle.fields.specs.Layout.{stride, usedOf}
+use Rattle.table.specs.WellFormed.{between, onlyRows}
+use Rattle.table.proofs.FormLaws.{well-formed-of}
+use Rattle.asking.specs.Asking.{firstNo, before}
+use Rattle.protocol.specs.Lists.{laidNow, listQuorum}
+use Rattle.protocol.specs.Calls.{Founding, Call, founding, join, read, write, send, check, isUsed, byCoordinator, questions, outcome, namesIn, namesRising}
+use Rattle.protocol.proofs.QuestionLaws.{refusal-is}
+use Rattle.seats.specs.Seats.{ListBearsLoss}
+use Rattle.seats.proofs.LossLaws.{list-bears-loss}
+use Rattle.history.specs.Book.{Book, opened, hasAll, holdsQuorum, someHasAll, written, passedOn, agreed, checked, admitted, entered}
+use Rattle.history.specs.Claims.{tableAfter, bookAfter, Reached, after, ChecksByBook, OneLost, OneLostMet}
+use Rattle.history.proofs.State.{State, chain-is}
+use Rattle.history.proofs.Theorems.{opens, reached, checks-by-book}
+
+-- ---- the list in force is as now laid: of the book alone
+abbrev LaidSo : Book → Type 0
+LaidSo b = b .inForce ≡ laidNow (b .inForce .members)
+
+laid-entered : (b : Book) → LaidSo b → (k : Call) (d : Bool) → LaidSo (entered b k d)
+unfolding entered opened admitted written passedOn checked agreed laidNow
+laid-entered b l k false = l
+laid-entered b l (founding a) true = refl
+laid-entered b l (join a) true = l
+laid-entered b l (read a) true = l
+laid-entered b l (write a) true = l
+laid-entered b l (send a) true = l
+laid-entered b l (check a) true = go (eqb (a .r) (b .inForce .members))
+  where
+    go : (x : Bool) → LaidSo (cond x b (agreed b (a .r)))
+    go true = l
+    go false = refl
+
+laid-after : (t : List ℕ) (b : Book) → LaidSo b → (ks : List Call) → LaidSo (bookAfter t b ks)
+unfolding bookAfter
+laid-after t b l [] = l
+laid-after t b l (k ∷ ks) = laid-after (outcome t k .table) _ (laid-entered b l k (eqb (outcome t k .refusal) 0)) ks
+
+laid-reached : (t : List ℕ) (b : Book) → Reached t b → LaidSo b
+unfolding opened laidNow
+laid-reached t b (after t₀ a ks h) = laid-after (outcome t₀ (founding a) .table) (opened a) refl ks
+
+-- ---- so all members but one hold a write quorum of it
+others-hold : (t : List ℕ) (b : Book) → Reached t b → 4 ≤ count 64 (has (b .inForce .members)) → (x : ℕ) → holdsQuorum b Write (losing (has (b .inForce .members)) x) ≡ true
+unfolding holdsQuorum ListBearsLoss
+others-hold t b r four x =
+    let l = reached t b r in
+    let S = l .1 in
+    ap (λ (o : List ℕ). listQuorum Write o (b .inForce) (losing (has (b .inForce .members)) x)) (sym (chain-is t b (l .0) S))
+    ∙ list-bears-loss t (well-formed-of t (S .formed)) (b .inForce) (laid-reached t b r) (S .inv .epochs .bound) four (losing (has (b .inForce .members)) x) (losing-one (has (b .inForce .members)) x)
+
+pub one-lost : OneLost
+unfolding OneLost ChecksByBook
+one-lost t b r x a c =
+    let q : holdsQuorum b Write (has (a .r)) ≡ true = ap (holdsQuorum b Write) (c .others) ∙ others-hold t b r (omega (arith, c .four)) x in
+    checks-by-book t b r a (c .passes) ∙ rw (q, c .current, or-true (eqb (a .r) (b .inForce .members)))
+
+-- ---- four machines, just founded: the fourth is lost
+unfoldable fourMachines : Founding
+fourMachines = record { capacity = 4; fileLength = 1; names = 10 ∷ 0 ∷ 20 ∷ 0 ∷ 30 ∷ 0 ∷ 40 ∷ 0 ∷ [] }
+
+blank : List ℕ
+blank = zeros (16 + 4 * stride 1)
+
+founds : outcome blank (founding fourMachines) .refusal ≡ 0
+unfolding fourMachines blank questions firstNo namesIn namesRising between
+founds = refusal-is blank (founding fourMachines) ∙ rw (eq-eqb (length (zeros (16 + 4 * stride 1))) (16 + 4 * stride 1) (length-zeros (16 + 4 * stride 1)))
+
+passes-three : (t : List ℕ) → State t (opened fourMachines) 0 → firstNo (before 6 (questions t (check (record { c = 1; r = 7 })))) ≡ 0
+unfolding fourMachines opened namesIn questions before byCoordinator firstNo isUsed between onlyRows has
+passes-three t S = let u : usedOf t ≡ 4 = S .used in rw (well-formed-of t (S .formed), u)
+
+pub one-lost-met : OneLostMet
+unfolding OneLostMet fourMachines opened namesIn laidNow someHasAll hasAll every some count has tableAfter bookAfter
+one-lost-met = (
+  outcome blank (founding fourMachines) .table,
+  opened fourMachines,
+  4,
+  record { c = 1; r = 7 },
+  after blank fourMachines [] founds,
+  record { four = omega arith; member = refl; others = has-lose 15 4 (omega arith); current = refl; passes = passes-three _ (opens blank fourMachines founds) },
+)
