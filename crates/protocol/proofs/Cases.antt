@@ -164,6 +164,12 @@ cases =
     ∷ malformed (set (row2 + 24) 1 0 (full 5))
     ∷ malformed (remarked 6 1 (full 6))
     ∷ malformed (set (row2 + 24) 1 1 (unlisted 0))
+    -- a tall table: every list has mark 2, whatever its epoch; an empty one has mark 0
+    ∷ formed (remarked 2 2 pair)
+    ∷ malformed (set (row1 + 24) 1 2 pair)
+    ∷ malformed (set (row2 + 24) 1 2 pair)
+    ∷ formed (set (row1 + 24) 1 2 (unlisted 0))
+    ∷ malformed (remarked 2 2 (unlisted 0))
     -- zeros of a row; its contents; an unused row
     ∷ malformed (set (row1 + 25) 1 1 pair)
     ∷ malformed (set (row2 + 31) 1 1 pair)
@@ -231,6 +237,9 @@ cases =
     ∷ founds 4_145 1 4_097 (10 ∷ 0 ∷ []) 12 0
     ∷ founds 48 1 1 (10 ∷ 0 ∷ []) 12 0
     ∷ founds 50 1 1 (10 ∷ 0 ∷ []) 12 0
+    -- ---- the choice is 0 or 1
+    ∷ On (zeros 49) (fo 1 1 (10 ∷ 0 ∷ []) 1) 0 1 []
+    ∷ On (zeros 49) (fo 1 1 (10 ∷ 0 ∷ []) 2) 11 0 []
     -- ---- 11 before 12
     ∷ founds 0 0 0 [] 11 0
     ∷ []

@@ -357,4 +357,25 @@ histories =
           Contents 5 (5 ∷ []) ∷
           [];
     }
+    -- a tall table: either of two machines reads, both write; a check lays its list tall again, a list of five too
+    ∷ record {
+      capacity = 5;
+      fileLength = 1;
+      names = 10 ∷ 0 ∷ 20 ∷ 0 ∷ [];
+      choice = 1;
+      steps =
+          Head 2 ((20 ∷ 0 ∷ zeros 14) ++ ((3 ∷ zeros 7) ++ (2 ∷ zeros 7))) ∷
+          Made (rd 1 1 0 1 (9 ∷ [])) 0 0 (0 ∷ []) ∷
+          Made (wr 1 1 0 (7 ∷ [])) 6 0 [] ∷
+          Made (wr 2 3 0 (7 ∷ [])) 0 1 [] ∷
+          Made (rd 2 2 0 1 (9 ∷ [])) 0 1 (7 ∷ []) ∷
+          Made (jn 30) 0 3 [] ∷
+          Made (jn 40) 0 4 [] ∷
+          Made (jn 50) 0 5 [] ∷
+          Made (ck 3 31) 0 1 [] ∷
+          Head 5 ((50 ∷ 0 ∷ 0 ∷ 1 ∷ 0 ∷ 0 ∷ 0 ∷ 0 ∷ 1 ∷ 0 ∷ 0 ∷ 0 ∷ []) ++ ((1 ∷ 0 ∷ 0 ∷ 0 ∷ []) ++ ((31 ∷ zeros 7) ++ (2 ∷ zeros 7)))) ∷
+          Made (rd 1 3 0 1 (9 ∷ [])) 0 1 (7 ∷ []) ∷
+          Made (rd 1 5 0 1 (9 ∷ [])) 6 0 (9 ∷ []) ∷
+          [];
+    }
     ∷ []

@@ -9,7 +9,7 @@ use lib.Dec.{eqb}
 use borrow.Author.Tests.{eqb-true}
 use Rattle.sets.specs.Upto.{Within, count}
 use Rattle.grid.specs.Sizes.{markFits}
-use Rattle.grid.proofs.SizeLaws.{new-mark-fits, new-mark-tall}
+use Rattle.grid.proofs.SizeLaws.{new-mark-fits}
 use Rattle.sets.specs.Sets.{has}
 use Rattle.bools.proofs.BoolLaws.{and-l, clash}
 use Rattle.sets.proofs.CountLaws.{count-one}
@@ -22,6 +22,7 @@ use Rattle.table.proofs.FormLaws.{RowFacts, OneShape, Formed, formed, header-fa
 use Rattle.protocol.specs.Polls.{polled, listed, highestEpoch, inForce, goodVersion, good, current, quorumHeld}
 use Rattle.protocol.specs.Calls.{Writing, Sending, Checking, answers, workSet}
 use Rattle.protocol.proofs.RowLaws.{fieldAt, Becomes, fieldsOf, changed, listIn, relisted, becomes-list}
+use Rattle.protocol.proofs.ListLaws.{laid-shape}
 use Rattle.protocol.proofs.PollLaws.{leads, good-at, good-of, version-le, current-desired, worked-in}
 use Rattle.protocol.proofs.FrameLaws.{same-used, same-header, same-long, same-visits, same-rise, zero-stays}
 use Rattle.protocol.proofs.QuestionLaws.{answered-used, WriteYes, SendYes, CheckYes}
@@ -63,11 +64,6 @@ Agreed t n = (i j : ℕ) → Within n i → Within n j → isEmpty (listOf t i) 
 one-list : {t : List ℕ} → Formed t → Agreed t (usedOf t)
 unfolding epochOf listOf
 one-list w = w .agree
-
--- a list laid now is tall where it is to be
-laid-shape : (tall : Bool) (r : ℕ) → isTall (laidNow tall r) ≡ tall
-unfolding isTall laidNow
-laid-shape tall r = new-mark-tall tall (count 64 (has r))
 
 -- where epochs and lists stay
 still-agreed : {t : List ℕ} (u : List ℕ) → Formed t → ((i : ℕ) → Within (usedOf t) i → (epochOf u i ≡ epochOf t i) × (listOf u i ≡ listOf t i)) → Agreed u (usedOf t)
