@@ -2,7 +2,7 @@
 use mathlib.Core.Path.{_≡_, refl, sym, _∙_, ap, subst}
 use mathlib.Core.Bool.{Bool, true, false, cond}
 use mathlib.Core.List.{List, []}
-use Prim.Native.Nat.{ℕ, zero, _+_, _-_, _^_, _≤_, _<_}
+use Prim.Native.Nat.{ℕ, zero, _+_, _^_, _≤_, _<_}
 use native.Mathlib.Decide.{ℕ-discrete}
 use native.Mathlib.Omega.{arith}
 use lib.Dec.{eqb}
@@ -19,7 +19,7 @@ use Rattle.fields.specs.Layout.{get, name, link, desired, epoch, list, isEmpty,
 use Rattle.protocol.specs.Lists.{laidNow}
 use Rattle.table.specs.WellFormed.{limit}
 use Rattle.table.proofs.FormLaws.{RowFacts, OneShape, Formed, formed, header-facts}
-use Rattle.protocol.specs.Polls.{polled, listed, highestEpoch, inForce, goodVersion, good, current, quorumHeld}
+use Rattle.protocol.specs.Polls.{polled, highestEpoch, inForce, goodVersion, good, current, quorumHeld}
 use Rattle.protocol.specs.Calls.{Writing, Sending, Checking, answers, workSet}
 use Rattle.protocol.proofs.RowLaws.{fieldAt, Becomes, fieldsOf, changed, listIn, relisted, becomes-list}
 use Rattle.protocol.proofs.ListLaws.{laid-shape}
