@@ -128,23 +128,22 @@ fn quorums_of_the_club_room() {
     expect(&[1, 2, 3, 4, 5], &[(write(1, &[1, 2, 4, 5]), 0, 1)]);
 }
 
-/// Columns {1, 3, 5} and {2, 4}.
+/// Columns {1, 3, 5} and {2, 4}, in a wide table and in a tall one.
 #[test]
 fn five_bear_the_loss_of_the_third() {
-    let left = expect(
-        &[10, 20, 30, 40, 50],
-        &[
-            (read(1, &[1, 2, 4, 5]), 0, 0),
-            (write(5, &[1, 2, 4, 5]), 0, 1),
-            (read(4, &[4, 5]), 0, 1),
-            (read(1, &[1, 3, 5]), 6, 0),
-            (write(1, &[1, 2, 3]), 6, 0),
-            (read(1, &[1, 2, 3]), 0, 1),
-            (check(1, &[1, 2, 4, 5]), 0, 1),
-            (write(1, &[1, 2, 4]), 0, 2),
-        ],
-    );
-    assert_eq!(left, [0, 0, 1, 0, 0], "the row that is away keeps its list and grid");
+    let names = [10, 20, 30, 40, 50];
+    let calls = [
+        (read(1, &[1, 2, 4, 5]), 0, 0),
+        (write(5, &[1, 2, 4, 5]), 0, 1),
+        (read(4, &[4, 5]), 0, 1),
+        (read(1, &[1, 3, 5]), 6, 0),
+        (write(1, &[1, 2, 3]), 6, 0),
+        (read(1, &[1, 2, 3]), 0, 1),
+        (check(1, &[1, 2, 4, 5]), 0, 1),
+        (write(1, &[1, 2, 4]), 0, 2),
+    ];
+    assert_eq!(expect(&names, &calls), [0, 0, 1, 0, 0], "the row that is away keeps its list and grid");
+    assert_eq!(expect_tall(5, &names, &calls), [TALL; 5]);
 }
 
 /// Which rows a write took shows in the rows that the next one marks.
@@ -232,25 +231,6 @@ fn tall_two() {
     assert_eq!(left, [TALL; 2]);
     // One row and two columns: nobody reads alone.
     expect(&[10, 21], &[(read(1, &[1]), 6, 0), (read(2, &[2]), 6, 0), (write(1, &[1, 2]), 0, 1)]);
-}
-
-/// Columns {1, 3, 5} and {2, 4}, as in a wide table.
-#[test]
-fn tall_five() {
-    let left = expect_tall(
-        5,
-        &[10, 20, 30, 40, 50],
-        &[
-            (read(1, &[1, 2, 4, 5]), 0, 0),
-            (write(5, &[1, 2, 4, 5]), 0, 1),
-            (read(4, &[4, 5]), 0, 1),
-            (read(1, &[1, 3, 5]), 6, 0),
-            (write(1, &[1, 2, 3]), 6, 0),
-            (check(1, &[1, 2, 4, 5]), 0, 1),
-            (write(1, &[1, 2, 4]), 0, 2),
-        ],
-    );
-    assert_eq!(left, [TALL; 5]);
 }
 
 /// Columns {1, 3, 5} and {2, 4, 6}; in a wide table {1, 4}, {2, 5} and {3, 6}.
