@@ -257,7 +257,12 @@ fn mark_and_zeros(header: &[u8; ROW_HEADER]) -> u64 {
     u64::from_le_bytes(*header.last_chunk().expect("eight bytes of 32"))
 }
 
-/// Folds all bytes into one, which vectorizes.
+/// Folds blocks of bytes, which vectorizes. (Without blocks the loop takes two vectors a turn, and its same instructions were
+/// seen to take 1.8 times as long in another place of the program.)
 fn all_zero(bytes: &[u8]) -> bool {
-    bytes.iter().fold(0, |bits, byte| bits | byte) == 0
+    fn zero(bytes: &[u8]) -> bool {
+        bytes.iter().fold(0, |bits, byte| bits | byte) == 0
+    }
+    let (blocks, rest) = bytes.as_chunks::<128>();
+    blocks.iter().all(|block| zero(block)) && zero(rest)
 }
