@@ -20,7 +20,7 @@ static const char *meaning(uint32_t refusal)
     case GRID_AT_LIMIT: return "a million versions or epochs: found a new table";
     case GRID_SENDER_STALE: return "the sender is stale itself: send from another machine";
     case GRID_RECEIVER_NOT_BEHIND: return "the receiver is not stale, or desires more than the sender has";
-    case GRID_BAD_NAMES: return "names must be 1 to 64, rise strictly, and none be 0";
+    case GRID_BAD_NAMES: return "names must be 1 to 64, rise strictly, and none be 0; the choice must be wide or tall";
     case GRID_BAD_SIZE: return "capacity, file length and table length do not fit together";
     case GRID_NAME_NOT_FREE: return "the name is 0 or in use: join with another one";
     case GRID_NO_ROOM: return "every row of the table is in use: found a larger table";
@@ -52,7 +52,7 @@ int main(void)
         fprintf(stderr, "libdyngrid.a and dyngrid.h are of two versions: take both from one checkout\n");
         return 1;
     }
-    if (!report("found", grid_found(table, sizeof table, MACHINES, FILE_BYTES, names, sizeof names)))
+    if (!report("found", grid_found(table, sizeof table, MACHINES, FILE_BYTES, names, sizeof names, GRID_WIDE)))
         return 1;
 
     /* Machine 10, row 1, imports a score while row 4 is away. */

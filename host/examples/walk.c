@@ -12,7 +12,7 @@ int main(void)
     uint8_t table[160], byte[1], names[] = {1, 0, 2, 0, 3, 0, 4, 0};
     if (!grid_interface_agrees())
         return 1;
-    if (grid_found(table, sizeof table, 4, 4, names, sizeof names) != 4)
+    if (grid_found(table, sizeof table, 4, 4, names, sizeof names, GRID_WIDE) != 4)
         return 1;
     line(1, "write", grid_write(table, sizeof table, 1, 0x7, 0, (const uint8_t *)"a", 1));
     line(2, "read", grid_read(table, sizeof table, 4, 0xc, 0, 1, byte, sizeof byte));

@@ -41,7 +41,7 @@ extern "C" {
 
 /* Rises with every change of a signature in this header, and with nothing else: a new form of the table does not raise it,
    for a table tells its form itself, and one of another form is refused by 1. */
-#define DYNGRID_INTERFACE 2
+#define DYNGRID_INTERFACE 3
 
 /* The number of the archive. */
 uint64_t grid_interface(void);
@@ -66,7 +66,7 @@ enum grid_refusals {
     GRID_AT_LIMIT = 8,             /* the version, or the epoch, is at 1,000,000: found a new table */
     GRID_SENDER_STALE = 9,         /* the sending row is stale itself: send from another one */
     GRID_RECEIVER_NOT_BEHIND = 10, /* the receiving row is not stale, or desires more than the sender has */
-    GRID_BAD_NAMES = 11,           /* names must be 1 to 64, rise strictly, and none be 0 */
+    GRID_BAD_NAMES = 11,           /* names must be 1 to 64, rise strictly, and none be 0; the choice must be wide or tall */
     GRID_BAD_SIZE = 12,            /* capacity (1 to 64, no fewer than the names), file (1 to 4,096) and table length must fit */
     GRID_NAME_NOT_FREE = 13,       /* the name is 0 or in use: join with another one, 1 to 65,535 */
     GRID_NO_ROOM = 14              /* every row of the table is in use: found a larger table and carry the file over */
@@ -74,6 +74,9 @@ enum grid_refusals {
 
 /* The form of a table, in its first byte. */
 enum grid_forms { GRID_FORM = 2 };
+
+/* The choices of a founding. */
+enum grid_shapes { GRID_WIDE = 0, GRID_TALL = 1 };
 
 /* Limits of a table. */
 enum grid_limits { GRID_MAX_ROWS = 64, GRID_MAX_FILE = 4096, GRID_HEADER = 16, GRID_ROW_HEADER = 32 };
@@ -103,9 +106,14 @@ static inline uint64_t grid_row(unsigned row)
 }
 
 /* Founds a table: names fill rows 1 upward, the file is all zero. What the table held before is of no account.
-   Value: the rows used. Refusals: 11, 12. */
+   Value: the rows used. Refusals: 11, 12.
+
+   The choice is GRID_WIDE or GRID_TALL, and holds for all lists that are ever laid in the table. A tall list lies in the
+   published grid with rows and columns exchanged wherever that has one row less than columns (2, 5, 6, 10 to 12, 17 to 20
+   members and so on): there a read calls one machine less than in the published grid, and a write needs a longer column whole.
+   Found tall what is read hundreds of times for each write. */
 uint64_t grid_found(uint8_t *table, size_t table_len, uint64_t capacity, uint64_t file_len,
-                    const uint8_t *names, size_t names_len);
+                    const uint8_t *names, size_t names_len, uint64_t choice);
 
 /* Reads length bytes from offset on into the buffer. Value: the version read. Refusals: 1 to 7. */
 uint64_t grid_read(const uint8_t *table, size_t table_len, uint64_t coordinator, uint64_t answering,
@@ -120,9 +128,10 @@ uint64_t grid_send(uint8_t *table, size_t table_len, uint64_t from, uint64_t to,
 
 /* Epoch check: makes the answering rows the list in force. Value: the epoch number in force. Refusals: 1 to 3, 6 to 8.
 
-   A list of five, founded or laid by a check, lies in 3 rows and 2 columns and bears the loss of any one machine (byte 24 of
-   its rows, the grid mark, is 1). Every other list lies in the published grid (mark 0). A check by the list in force changes
-   nothing, its grid included. */
+   Byte 24 of a row is the mark of the grid that its list lies in. In a tall table every list has mark 2, the new one too. In a
+   wide table a list of five, founded or laid by a check, lies in 3 rows and 2 columns (mark 1), and every other list in the
+   published grid (mark 0). From four machines on, lists laid now bear the loss of any one machine, wide and tall. A check by
+   the list in force changes nothing, its grid included. */
 uint64_t grid_check(uint8_t *table, size_t table_len, uint64_t coordinator, uint64_t answering);
 
 /* Joins a machine: the first unused row gets the name and its place in the chain, and is zero otherwise. Nobody need answer.

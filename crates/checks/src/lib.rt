@@ -34,7 +34,8 @@ pub fn check(t: &mut [u8], c: usize, r: u64) -> u64
         return result(8, 0);
     }
     let epoch = v.epoch + 1;
-    let list = lists::laid_now(answering);
+    let tall = v.list.is_tall();
+    let list = lists::laid_now(tall, answering);
     enroll::check_rows(t, answering, v.good, v.version, epoch, list);
     result(0, epoch)
 }

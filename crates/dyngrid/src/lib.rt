@@ -5,16 +5,22 @@ ghost use Rattle.protocol.specs.Calls.{founding, join, read, write, send, check
 // The number of this interface: it rises with every change of a signature, so that header and archive can be compared.
 #[no_mangle]
 pub extern "C" fn grid_interface() -> u64
-    ensures { λ r. ⌜ r ≡ 2 ⌝ }
+    ensures { λ r. ⌜ r ≡ 3 ⌝ }
 {
-    2
+    3
 }
 
 #[no_mangle]
-pub extern "C" fn grid_found(table: &mut [u8], capacity: u64, file: u64, names: &[u8]) -> u64
-    ensures { λ r. ⌜ (let o = outcome (now (table .entry)) (founding (record { capacity = capacity; fileLength = file; names = now (names .entry) })) in (r ≡ resultOf o) × (now (table .exit) ≡ o .table)) ⌝ }
+pub extern "C" fn grid_found(
+    table: &mut [u8],
+    capacity: u64,
+    file: u64,
+    names: &[u8],
+    choice: u64,
+) -> u64
+    ensures { λ r. ⌜ (let o = outcome (now (table .entry)) (founding (record { capacity = capacity; fileLength = file; names = now (names .entry); choice = choice })) in (r ≡ resultOf o) × (now (table .exit) ≡ o .table)) ⌝ }
 {
-    founding::found(table, capacity as usize, file as usize, names)
+    founding::found(table, capacity as usize, file as usize, names, choice)
 }
 
 #[no_mangle]

@@ -69,6 +69,10 @@ noList = record { members = 0; mark = 0 }
 unfoldable pub isEmpty : Laid → Bool
 isEmpty l = eqb (l .members) 0
 
+-- "A table with grid mark 2 is tall": a list that is laid tall
+unfoldable pub isTall : Laid → Bool
+isTall l = eqb (l .mark) 2
+
 -- a row's part: "3 stale mark; 4 to 7 version; 8 to 11 desired version; .. to 31 zero; then L contents bytes"
 unfoldable pub mark : Field
 mark = record { place = 3; width = 1 }

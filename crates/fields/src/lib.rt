@@ -4,7 +4,7 @@ ghost use mathlib.Core.Bool.{true};
 ghost use Prim.Native.Nat.{_+_, _≤_};
 ghost use lib.Dec.{eqb};
 ghost use lib.ListN.{length};
-ghost use Rattle.fields.specs.Layout.{get, store, name, link, mark, version, desired, epoch, members, gridMark, list, storeList, isEmpty, contents, storeContents};
+ghost use Rattle.fields.specs.Layout.{get, store, name, link, mark, version, desired, epoch, members, gridMark, list, storeList, isEmpty, isTall, contents, storeContents};
 ghost use Rattle.bytes.specs.Bytes.{part};
 
 // A list of rows as it was laid: bit i − 1 of `members` for row i; the mark of its grid.
@@ -25,6 +25,13 @@ impl Laid {
         ensures { λ r. ⌜ r ≡ isEmpty self ⌝ }
     {
         self.members == 0
+    }
+
+    // Is it laid tall?
+    pub fn is_tall(self) -> bool
+        ensures { λ r. ⌜ r ≡ isTall self ⌝ }
+    {
+        self.mark == 2
     }
 
     // Are they the same list?

@@ -37,23 +37,26 @@ module _ (names : List ℕ) (k low : ℕ) (ok : Bool) (so-far : (ok && namesRisi
       let z : drop k names ≡ [] = ap (λ (n : ℕ). drop n names) e ∙ drop-length names in
       sym (and-true ok) ∙ ap (λ (xs : List ℕ). ok && namesRising low xs) (sym z) ∙ so-far
 
--- ---- the two questions
+-- ---- the two questions, 11 and 12
 module _ (t : List ℕ) (a : Founding) where
   abbrev pub NamesRight : Bool
   NamesRight = eqb (length (a .names) % 2) 0 && between 1 (length (namesIn (a .names))) 64 && namesRising 0 (namesIn (a .names))
 
-  abbrev pub SizesRight : Bool
-  SizesRight = between 1 (a .capacity) 64 && leb (length (namesIn (a .names))) (a .capacity) && between 1 (a .fileLength) 4_096 && eqb (length t) (16 + a .capacity * stride (a .fileLength))
+  abbrev pub Eleven : Bool
+  Eleven = NamesRight && leb (a .choice) 1
 
-  pub found-answers : (x y : Bool) → NamesRight ≡ x → SizesRight ≡ y → cond x (cond y 0 12) 11 ≡ firstNo (questions t (founding a))
+  abbrev pub Twelve : Bool
+  Twelve = between 1 (a .capacity) 64 && leb (length (namesIn (a .names))) (a .capacity) && between 1 (a .fileLength) 4_096 && eqb (length t) (16 + a .capacity * stride (a .fileLength))
+
+  pub found-answers : (x y : Bool) → Eleven ≡ x → Twelve ≡ y → cond x (cond y 0 12) 11 ≡ firstNo (questions t (founding a))
   unfolding questions firstNo
   found-answers x y ex ey = rw (ex, ey) refl
 
   -- as many bytes as two for each name
-  pub two-each : NamesRight ≡ true → length (a .names) ≡ 2 * length (namesIn (a .names))
-  two-each h = names-even (a .names) (eqb-true (length (a .names) % 2) 0 (and-l _ _ (and-l (eqb (length (a .names) % 2) 0 && between 1 (length (namesIn (a .names))) 64) _ h)))
+  pub two-each : Eleven ≡ true → length (a .names) ≡ 2 * length (namesIn (a .names))
+  two-each h = names-even (a .names) (eqb-true (length (a .names) % 2) 0 (and-l _ _ (and-l (eqb (length (a .names) % 2) 0 && between 1 (length (namesIn (a .names))) 64) _ (and-l NamesRight _ h))))
 
-  module _ (eleven : NamesRight ≡ true) (twelve : SizesRight ≡ true) where
+  module _ (eleven : Eleven ≡ true) (twelve : Twelve ≡ true) where
     all-yes : firstNo (questions t (founding a)) ≡ 0
     all-yes = sym (found-answers true true eleven twelve)
 
@@ -68,7 +71,7 @@ module _ (t : List ℕ) (a : Founding) where
         )
 
     pub found-done : (0 * 2 ^ 32 + length (namesIn (a .names)) ≡ resultOf (outcome t (founding a)))
-        × (founded (a .capacity) (a .fileLength) (namesIn (a .names)) ≡ outcome t (founding a) .table)
+        × (founded (a .choice) (a .capacity) (a .fileLength) (namesIn (a .names)) ≡ outcome t (founding a) .table)
     unfolding done resultOf
     found-done =
         let o = when-done t (founding a) (refusal-is t (founding a) ∙ all-yes) in

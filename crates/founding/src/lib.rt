@@ -29,7 +29,7 @@ fn names_rise(names: &[u8]) -> bool
     ok
 }
 
-// Question 11: 1 to 64 names, two bytes each, strictly rising, none 0?
+// Are there 1 to 64 names, two bytes each, strictly rising, none 0?
 fn names_right(names: &[u8]) -> bool
     ensures { λ r. ⌜ r ≡ (eqb (length (now (names .entry)) % 2) 0 && between 1 (length (namesIn (now (names .entry)))) 64 && namesRising 0 (namesIn (now (names .entry)))) ⌝ }
 {
@@ -53,17 +53,18 @@ fn sizes_right(bytes: usize, capacity: usize, file: usize, n: usize) -> bool
     bytes == header::HEADER + capacity * table::row_size(file)
 }
 
-// A founding: a table of so many rows for a file of so many bytes, with the named machines in it. Value: how many.
-pub fn found(t: &mut [u8], capacity: usize, file: usize, names: &[u8]) -> u64
-    ensures { λ x. ⌜ (let o = outcome (now (t .entry)) (founding (record { capacity = capacity; fileLength = file; names = now (names .entry) })) in (x ≡ resultOf o) × (now (t .exit) ≡ o .table)) ⌝ }
+// A founding: a table of so many rows for a file of so many bytes, with the named machines in it; choice 0 wide, 1 tall. Value: how many.
+pub fn found(t: &mut [u8], capacity: usize, file: usize, names: &[u8], choice: u64) -> u64
+    ensures { λ x. ⌜ (let o = outcome (now (t .entry)) (founding (record { capacity = capacity; fileLength = file; names = now (names .entry); choice = choice })) in (x ≡ resultOf o) × (now (t .exit) ≡ o .table)) ⌝ }
 {
-    if !names_right(names) {
+    // question 11
+    if !both(names_right(names), choice <= 1) {
         return result(11, 0);
     }
     let n = names.len() / 2;
     if !sizes_right(t.len(), capacity, file, n) {
         return result(12, 0);
     }
-    laying::lay_table(t, capacity, file, names);
+    laying::lay_table(t, capacity, file, names, choice);
     result(0, n as u32)
 }

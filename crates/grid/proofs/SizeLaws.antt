@@ -1,13 +1,14 @@
 -- The sizes of the published grid, for any length.
-use mathlib.Core.Path.{_≡_, refl, ap}
-use mathlib.Core.Bool.{Bool, true, false, cond, _&&_, _||_, and-false}
+use mathlib.Core.Path.{_≡_, refl, sym, _∙_, ap}
+use mathlib.Core.Logic.{_≢_}
+use mathlib.Core.Bool.{Bool, true, false, cond, _&&_, _||_}
 use Prim.Native.Nat.{ℕ, zero, suc, _+_, _-_, _*_, _^_, _≤_, _<_}
 use native.Mathlib.Omega.{arith}
 use lib.Dec.{leb, ltb, eqb}
-use borrow.Author.Tests.{leb-true, leb-false, ltb-true, ltb-false, eqb-true, eqb-false}
-use Rattle.bools.proofs.BoolLaws.{and-r}
+use borrow.Author.Tests.{le-leb, leb-true, leb-false, ltb-true, ltb-false, eqb-true, eqb-false}
+use Rattle.bools.proofs.BoolLaws.{and-l, and-r, clash}
 use Rattle.grid.specs.declared.Grid.{Grid}
-use Rattle.grid.specs.Sizes.{Fits, root, rootUp, published, newFive, gridBy, markFits, newMark, noGrid}
+use Rattle.grid.specs.Sizes.{Fits, root, rootUp, published, newFive, exchanged, gridBy, markFits, newMark, noGrid}
 
 -- s is the square root of N rounded down
 pub record Root (N s : ℕ) : Type 0 where
@@ -70,59 +71,136 @@ five-fits : Fits newFive 5
 unfolding newFive
 five-fits = omega arith
 
+-- the published columns are the root rounded up
+pub columns : (N : ℕ) → 1 ≤ N → RootUp N (published N .cols)
+unfolding published
+columns N pos = root-up-is N pos
+
+no-exchange : exchanged noGrid ≡ noGrid
+unfolding exchanged noGrid
+no-exchange = refl
+
+-- exchanged, where rows are columns less one: a square of those rows was too small, so the columns were the root rounded up
+exchanged-fits : (N : ℕ) → 1 ≤ N → Fits (exchanged (published N)) N
+unfolding exchanged
+exchanged-fits N pos = either (λ (g : Grid). Fits g N) (eqb (published N .rows + 1) (published N .cols))
+    (λ e. let c : published N .cols ≡ published N .rows + 1 = sym (eqb-true _ _ e) in
+    go (published N .rows) (published N .cols) (published-fits N pos .room) (published-fits N pos .narrow) c (columns N pos .low (published N .rows) c))
+    (λ e. published-fits N pos)
+  where
+    go : (m n : ℕ) → N ≤ m * n → n ≤ N → n ≡ m + 1 → m * m < N → Fits (record { rows = n; cols = m }) N
+    go zero n room narrow e small = absurd (omega arith)
+    go (suc m) n room narrow e small = let r : N ≤ suc m * (suc m + 1) = rw (← e) room in rw e (omega arith)
+
 -- every mark's grid fits every length from 1 on
 pub laid-fits : (mark N : ℕ) → 1 ≤ N → Fits (gridBy mark N) N
 unfolding gridBy
-laid-fits mark N pos = either (λ (g : Grid). Fits g N) (eqb mark 1 && eqb N 5)
-    (λ e. let five : N ≡ 5 = eqb-true N 5 (and-r (eqb mark 1) _ e) in rw five five-fits)
-    (λ e. published-fits N pos)
+laid-fits mark N pos = either (λ (g : Grid). Fits g N) (eqb mark 2)
+    (λ e. exchanged-fits N pos)
+    (λ e. either (λ (g : Grid). Fits g N) (eqb mark 1 && eqb N 5)
+    (λ f. let five : N ≡ 5 = eqb-true N 5 (and-r (eqb mark 1) _ f) in rw five five-fits)
+    (λ f. published-fits N pos))
 
 -- ---- the mark of a list laid now
-pub new-mark-fits : (N : ℕ) → markFits (newMark N) N ≡ true
+pub new-mark-fits : (tall : Bool) (N : ℕ) → 1 ≤ N → markFits (newMark tall N) N ≡ true
 unfolding markFits newMark
-new-mark-fits N = go (eqb N 5) refl
+new-mark-fits true N some = le-leb 1 N some
+new-mark-fits false N some = go (eqb N 5) refl
   where
-    go : (b : Bool) → eqb N 5 ≡ b → (eqb (cond b 1 0) 0 || (eqb (cond b 1 0) 1 && b)) ≡ true
+    go : (b : Bool) → eqb N 5 ≡ b → (eqb (cond b 1 0) 0 || ((eqb (cond b 1 0) 1 && b) || (eqb (cond b 1 0) 2 && leb 1 N))) ≡ true
     go true e = refl
     go false e = refl
 
-pub new-mark-small : (N : ℕ) → newMark N < 256 ^ 1
+pub new-mark-small : (tall : Bool) (N : ℕ) → newMark tall N < 256 ^ 1
 unfolding newMark
-new-mark-small N = go (eqb N 5)
+new-mark-small true N = omega arith
+new-mark-small false N = go (eqb N 5)
   where
     go : (b : Bool) → cond b 1 0 < 256 ^ 1
     go true = omega arith
     go false = omega arith
 
+-- it is 2 in a tall table, and in no other
+pub new-mark-tall : (tall : Bool) (N : ℕ) → eqb (newMark tall N) 2 ≡ tall
+unfolding newMark
+new-mark-tall true N = refl
+new-mark-tall false N = go (eqb N 5)
+  where
+    go : (b : Bool) → eqb (cond b 1 0) 2 ≡ false
+    go true = refl
+    go false = refl
+
 -- ---- from four on, a list laid now has two columns or more, and two positions or more in each
-square-roomy : (N n : ℕ) → 4 ≤ N → eqb N 5 ≡ false → RootUp N n → (2 ≤ n) × (2 * n ≤ N)
+abbrev Roomy : ℕ → Grid → Type 0
+Roomy N g = (2 ≤ g .cols) × (2 * g .cols ≤ N)
+
+square-roomy : (N n : ℕ) → 4 ≤ N → N ≢ 5 → RootUp N n → (2 ≤ n) × (2 * n ≤ N)
 square-roomy N zero four other r = absurd (omega (arith, r .high))
 square-roomy N (suc zero) four other r = absurd (omega (arith, r .high))
 square-roomy N (suc (suc zero)) four other r = omega arith
-square-roomy N (suc (suc (suc zero))) four other r = omega (arith, eqb-false, r .low 2 refl)
+square-roomy N (suc (suc (suc zero))) four other r = omega (arith, r .low 2 refl)
 square-roomy N (suc (suc (suc (suc s)))) four other r = omega (arith, r .low (suc (suc (suc s))) (omega arith))
 
-pub roomy : (N : ℕ) → 4 ≤ N → (2 ≤ gridBy (newMark N) N .cols) × (2 * gridBy (newMark N) N .cols ≤ N)
-unfolding gridBy newMark newFive published
-roomy N four = go (eqb N 5) refl
+published-roomy : (N : ℕ) → 4 ≤ N → N ≢ 5 → Roomy N (published N)
+unfolding published
+published-roomy N four other = square-roomy N (rootUp N) four other (root-up-is N (omega arith))
+
+-- the published five is exchanged
+five-exchanged : eqb (published 5 .rows + 1) (published 5 .cols) ≡ true
+unfolding published rootUp root
+five-exchanged = refl
+
+exchanged-roomy : (N : ℕ) → 4 ≤ N → Roomy N (exchanged (published N))
+unfolding exchanged
+exchanged-roomy N four = either (Roomy N) (eqb (published N .rows + 1) (published N .cols))
+    (λ e. let c : published N .cols ≡ published N .rows + 1 = sym (eqb-true _ _ e) in
+    go (published N .rows) (published N .cols) (published-fits N (omega arith) .room) c (columns N (omega arith) .low (published N .rows) c))
+    (λ e. published-roomy N four (λ five. clash (sym e ∙ ap (λ (n : ℕ). eqb (published n .rows + 1) (published n .cols)) five ∙ five-exchanged)))
   where
-    go : (b : Bool) → eqb N 5 ≡ b → (2 ≤ cond (eqb (cond b 1 0) 1 && b) newFive (published N) .cols) × (2 * cond (eqb (cond b 1 0) 1 && b) newFive (published N) .cols ≤ N)
+    go : (m n : ℕ) → N ≤ m * n → n ≡ m + 1 → m * m < N → (2 ≤ m) × (2 * m ≤ N)
+    go zero n room e small = absurd (omega arith)
+    go (suc zero) n room e small = absurd (omega arith)
+    go (suc (suc m)) n room e small = (omega arith, omega arith)
+
+pub roomy : (tall : Bool) (N : ℕ) → 4 ≤ N → (2 ≤ gridBy (newMark tall N) N .cols) × (2 * gridBy (newMark tall N) N .cols ≤ N)
+unfolding gridBy newMark newFive
+roomy true N four = exchanged-roomy N four
+roomy false N four = go (eqb N 5) refl
+  where
+    go : (b : Bool) → eqb N 5 ≡ b → Roomy N (cond (eqb (cond b 1 0) 2) (exchanged (published N)) (cond (eqb (cond b 1 0) 1 && b) newFive (published N)))
     go true e = omega (arith, eqb-true)
-    go false e = square-roomy N (rootUp N) four e (root-up-is N (omega arith))
+    go false e = published-roomy N four (eqb-false N 5 e)
 
 -- ---- a mark's grid as the code finds it
 pub by-five : (mark N : ℕ) → (eqb mark 1 && eqb N 5) ≡ true → newFive ≡ cond (leb N 64) (gridBy mark N) noGrid
 unfolding gridBy
-by-five mark N e = let few : leb N 64 ≡ true = ap (λ (n : ℕ). leb n 64) (eqb-true N 5 (and-r (eqb mark 1) _ e)) in rw (few, e)
+by-five mark N e =
+    let few : leb N 64 ≡ true = ap (λ (n : ℕ). leb n 64) (eqb-true N 5 (and-r (eqb mark 1) _ e)) in
+    let one : mark ≡ 1 = eqb-true mark 1 (and-l _ _ e) in
+    let wide : eqb mark 2 ≡ false = ap (λ (m : ℕ). eqb m 2) one in
+    rw (few, wide, e)
 
-pub by-published : (mark N : ℕ) → (eqb mark 1 && eqb N 5) ≡ false → cond (leb N 64) (published N) noGrid ≡ cond (leb N 64) (gridBy mark N) noGrid
+pub by-tall : (mark N : ℕ) → eqb mark 2 ≡ true → exchanged (cond (leb N 64) (published N) noGrid) ≡ cond (leb N 64) (gridBy mark N) noGrid
 unfolding gridBy
-by-published mark N e = rw e
+by-tall mark N e = rw e (go (leb N 64))
+  where
+    go : (b : Bool) → exchanged (cond b (published N) noGrid) ≡ cond b (exchanged (published N)) noGrid
+    go true = refl
+    go false = no-exchange
+
+pub by-published : (mark N : ℕ) → (eqb mark 1 && eqb N 5) ≡ false → eqb mark 2 ≡ false → cond (leb N 64) (published N) noGrid ≡ cond (leb N 64) (gridBy mark N) noGrid
+unfolding gridBy
+by-published mark N e f = rw (f, e)
 
 -- a list of no members has no column
 no-column : (mark : ℕ) → gridBy mark 0 .cols ≡ 0
-unfolding gridBy published rootUp root
-no-column mark = rw (and-false (eqb mark 1))
+unfolding gridBy exchanged published rootUp root
+no-column mark = go (eqb mark 2) (eqb mark 1)
+  where
+    go : (a b : Bool) → cond a (exchanged (published 0)) (cond (b && eqb 0 5) newFive (published 0)) .cols ≡ 0
+    go true b = refl
+    go false true = refl
+    go false false = refl
 
 some-fits : (mark N : ℕ) → 1 ≤ gridBy mark N .cols → Fits (gridBy mark N) N
 some-fits mark zero h = absurd (omega (arith, no-column mark))

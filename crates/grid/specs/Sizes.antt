@@ -17,22 +17,26 @@ rootUp N = cond (eqb (root N * root N) N) (root N) (root N + 1)
 unfoldable pub published : ℕ → Grid
 published N = record { rows = cond (ltb (root N * rootUp N) N) (root N + 1) (root N); cols = rootUp N }
 
--- ---- the grid in which a list was laid: row byte 24 is its grid mark, "0 published, 1 the new five"
+-- ---- the grid in which a list was laid: row byte 24 is its grid mark, "0 published, 1 the new five", 2 tall
 -- "New lists of five are laid in 3 rows and 2 columns."
 unfoldable pub newFive : Grid
 newFive = record { rows = 3; cols = 2 }
 
--- the grid of a list of N members by its mark
+-- "exchanges m and n wherever m is n − 1"
+unfoldable pub exchanged : Grid → Grid
+exchanged g = cond (eqb (g .rows + 1) (g .cols)) (record { rows = g .cols; cols = g .rows }) g
+
+-- the grid of a list of N members by its mark; "tall starts from the published grid"
 unfoldable pub gridBy : ℕ → ℕ → Grid
-gridBy mark N = cond (eqb mark 1 && eqb N 5) newFive (published N)
+gridBy mark N = cond (eqb mark 2) (exchanged (published N)) (cond (eqb mark 1 && eqb N 5) newFive (published N))
 
--- "Mark 1 needs a list of five": a list of N members can have the mark
+-- "Mark 1 needs a list of five"; mark 2 any list that is not empty: a list of N members can have the mark
 unfoldable pub markFits : ℕ → ℕ → Bool
-markFits mark N = eqb mark 0 || (eqb mark 1 && eqb N 5)
+markFits mark N = eqb mark 0 || ((eqb mark 1 && eqb N 5) || (eqb mark 2 && leb 1 N))
 
--- the mark of a list of N members that is laid now
-unfoldable pub newMark : ℕ → ℕ
-newMark N = cond (eqb N 5) 1 0
+-- the mark of a list of N members that is laid now, in a tall table or in a wide one
+unfoldable pub newMark : Bool → ℕ → ℕ
+newMark isTall N = cond isTall 2 (cond (eqb N 5) 1 0)
 
 -- no rows and no columns
 unfoldable pub noGrid : Grid

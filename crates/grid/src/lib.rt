@@ -1,10 +1,11 @@
 // The grid of a list: how many rows and columns it has.
+use bools::any;
 use bools::both;
 ghost use mathlib.Core.Path.{_≡_};
 ghost use mathlib.Core.Bool.{cond};
 ghost use lib.Dec.{leb};
 ghost use Prim.Native.Nat.{_≤_};
-ghost use Rattle.grid.specs.Sizes.{published, noGrid, gridBy, markFits, newMark, height, Fits};
+ghost use Rattle.grid.specs.Sizes.{published, noGrid, exchanged, gridBy, markFits, newMark, height, Fits};
 
 // The sizes of a grid. (The table below has one for each length of a list.)
 pub struct Grid {
@@ -101,6 +102,19 @@ pub fn published(length: usize) -> Grid
     entry(length)
 }
 
+// Rows and columns exchanged where the rows are one less than the columns.
+fn exchanged(g: Grid) -> Grid
+    ensures { λ r. ⌜ r ≡ exchanged g ⌝ }
+{
+    if g.rows as usize + 1 == g.cols as usize {
+        return Grid {
+            rows: g.cols,
+            cols: g.rows,
+        };
+    }
+    g
+}
+
 // The grid that a list of `length` members with this mark was laid in; no rows and no columns where the length is 0 or above 64.
 pub fn of_mark(mark: u8, length: usize) -> Grid
     ensures { λ r. ⌜ r ≡ cond (leb length 64) (gridBy mark length) noGrid ⌝ }
@@ -108,7 +122,11 @@ pub fn of_mark(mark: u8, length: usize) -> Grid
     if both(mark == 1, length == 5) {
         return Grid { rows: 3, cols: 2 };
     }
-    published(length)
+    let g = published(length);
+    if mark == 2 {
+        return exchanged(g);
+    }
+    g
 }
 
 // Can a list of `length` members have the mark?
@@ -118,13 +136,16 @@ pub fn mark_fits(mark: u8, length: usize) -> bool
     if mark == 0 {
         return true;
     }
-    both(mark == 1, length == 5)
+    any(both(mark == 1, length == 5), both(mark == 2, 1 <= length))
 }
 
-// The mark of a list of `length` members that is laid now.
-pub fn new_mark(length: usize) -> u8
-    ensures { λ r. ⌜ r ≡ newMark length ⌝ }
+// The mark of a list of `length` members that is laid now, in a tall table or in a wide one.
+pub fn new_mark(tall: bool, length: usize) -> u8
+    ensures { λ r. ⌜ r ≡ newMark tall length ⌝ }
 {
+    if tall {
+        return 2;
+    }
     if length == 5 { 1 } else { 0 }
 }
 

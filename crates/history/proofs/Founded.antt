@@ -17,7 +17,7 @@ use Rattle.protocol.specs.Lists.{laidNow}
 use Rattle.protocol.specs.Polls.{polled}
 use Rattle.bytes.specs.Bytes.{zeros}
 use Rattle.bytes.proofs.ByteLaws.{length-zeros}
-use Rattle.protocol.specs.Calls.{Founding, namesIn, founded}
+use Rattle.protocol.specs.Calls.{Founding, namesIn, foundedList, founded}
 use Rattle.protocol.proofs.ListLaws.{inhabited}
 use Rattle.protocol.proofs.FoundedLaws.{Founds, founded-used, founded-file, founded-name, founded-formed, at-row, row-list, zero-mark, zero-version, zero-epoch, row-contents}
 use Rattle.history.specs.Book.{order, nameIn, opened}
@@ -29,16 +29,16 @@ module _ (a : Founding) (f : Founds a) where
   names = namesIn (a .names)
 
   t : List ℕ
-  t = founded (a .capacity) (a .fileLength) names
+  t = founded (a .choice) (a .capacity) (a .fileLength) names
 
   -- each row: epoch, version and desired version 0, no mark, all rows its list, zero bytes
   epoch-zero : (i : ℕ) → Within (length names) i → epochOf t i ≡ 0
   unfolding epochOf t
   epoch-zero = at-row a f (λ i r. get epoch r ≡ 0) (zero-epoch a f)
 
-  list-all : (i : ℕ) → Within (length names) i → listOf t i ≡ laidNow (2 ^ length names - 1)
+  list-all : (i : ℕ) → Within (length names) i → listOf t i ≡ foundedList (a .choice) (length names)
   unfolding listOf t
-  list-all = at-row a f (λ i r. list r ≡ laidNow (2 ^ length names - 1)) (row-list a f)
+  list-all = at-row a f (λ i r. list r ≡ foundedList (a .choice) (length names)) (row-list a f)
 
   version-zero : (i : ℕ) → Within (length names) i → versionOf t i ≡ 0
   unfolding versionOf t
@@ -53,7 +53,7 @@ module _ (a : Founding) (f : Founds a) where
   zero-contents = at-row a f (λ i r. contents r ≡ zeros (a .fileLength)) (row-contents a f)
 
   start : Inv (length names) (whole t) (contentsOf t) (opened a) 0
-  unfolding opened aim whole polled laidNow
+  unfolding opened aim whole polled foundedList laidNow
   start = record {
     epochs = record {
       below = λ i u. rw (epoch-zero i u) (omega arith);
@@ -71,12 +71,12 @@ module _ (a : Founding) (f : Founds a) where
       kept = λ k h. rw (version-zero i u) (sym (lt-leb k 0 (omega arith)));
     };
     live = λ s h.
-        let w = inhabited (order (opened a)) (laidNow (2 ^ length names - 1)) Read s h in
+        let w = inhabited (order (opened a)) (foundedList (a .choice) (length names)) Read s h in
         let u = has-within (length names) (2 ^ length names - 1) (w .0) (ones-lt (length names)) (w .1) in
         (w .0, u, w .2, rw (no-mark (w .0) u) (version-zero (w .0) u));
   }
 
-  pub founded-state : State (founded (a .capacity) (a .fileLength) (namesIn (a .names))) (opened a) 0
+  pub founded-state : State (founded (a .choice) (a .capacity) (a .fileLength) (namesIn (a .names))) (opened a) 0
   unfolding opened nameIn t
   founded-state = record {
     formed = founded-formed a f;

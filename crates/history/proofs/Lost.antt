@@ -14,12 +14,13 @@ use Rattle.quorums.specs.declared.Kind.the-variants.{Write}
 use Rattle.quorums.proofs.LossLaws.{losing-one}
 use Rattle.bytes.specs.Bytes.{zeros}
 use Rattle.bytes.proofs.ByteLaws.{length-zeros}
-use Rattle.fields.specs.Layout.{stride, usedOf}
+use Rattle.fields.specs.Layout.{isTall, stride, usedOf}
 use Rattle.table.specs.WellFormed.{between, onlyRows}
 use Rattle.table.proofs.FormLaws.{well-formed-of}
 use Rattle.asking.specs.Asking.{firstNo, before}
 use Rattle.protocol.specs.Lists.{laidNow, listQuorum}
-use Rattle.protocol.specs.Calls.{Founding, Call, founding, join, read, write, send, check, isUsed, byCoordinator, questions, outcome, namesIn, namesRising}
+use Rattle.protocol.specs.Calls.{Founding, Call, founding, join, read, write, send, check, isUsed, byCoordinator, questions, outcome, namesIn, namesRising, foundedList}
+use Rattle.protocol.proofs.ListLaws.{laid-shape}
 use Rattle.protocol.proofs.QuestionLaws.{refusal-is}
 use Rattle.seats.specs.Seats.{ListBearsLoss}
 use Rattle.seats.proofs.LossLaws.{list-bears-loss}
@@ -30,12 +31,15 @@ use Rattle.history.proofs.Theorems.{opens, reached, checks-by-book}
 
 -- ---- the list in force is as now laid: of the book alone
 abbrev LaidSo : Book → Type 0
-LaidSo b = b .inForce ≡ laidNow (b .inForce .members)
+LaidSo b = b .inForce ≡ laidNow (isTall (b .inForce)) (b .inForce .members)
+
+laid-so : (tall : Bool) (r : ℕ) → laidNow tall r ≡ laidNow (isTall (laidNow tall r)) r
+laid-so tall r = ap (λ (x : Bool). laidNow x r) (sym (laid-shape tall r))
 
 laid-entered : (b : Book) → LaidSo b → (k : Call) (d : Bool) → LaidSo (entered b k d)
-unfolding entered opened admitted written passedOn checked agreed laidNow
+unfolding entered opened foundedList admitted written passedOn checked agreed laidNow
 laid-entered b l k false = l
-laid-entered b l (founding a) true = refl
+laid-entered b l (founding a) true = laid-so (eqb (a .choice) 1) _
 laid-entered b l (join a) true = l
 laid-entered b l (read a) true = l
 laid-entered b l (write a) true = l
@@ -44,7 +48,7 @@ laid-entered b l (check a) true = go (eqb (a .r) (b .inForce .members))
   where
     go : (x : Bool) → LaidSo (cond x b (agreed b (a .r)))
     go true = l
-    go false = refl
+    go false = laid-so (isTall (b .inForce)) (a .r)
 
 laid-after : (t : List ℕ) (b : Book) → LaidSo b → (ks : List Call) → LaidSo (bookAfter t b ks)
 unfolding bookAfter
@@ -52,8 +56,8 @@ laid-after t b l [] = l
 laid-after t b l (k ∷ ks) = laid-after (outcome t k .table) _ (laid-entered b l k (eqb (outcome t k .refusal) 0)) ks
 
 laid-reached : (t : List ℕ) (b : Book) → Reached t b → LaidSo b
-unfolding opened laidNow
-laid-reached t b (after t₀ a ks h) = laid-after (outcome t₀ (founding a) .table) (opened a) refl ks
+unfolding opened foundedList laidNow
+laid-reached t b (after t₀ a ks h) = laid-after (outcome t₀ (founding a) .table) (opened a) (laid-so (eqb (a .choice) 1) _) ks
 
 -- ---- so all members but one hold a write quorum of it
 others-hold : (t : List ℕ) (b : Book) → Reached t b → 4 ≤ count 64 (has (b .inForce .members)) → (x : ℕ) → holdsQuorum b Write (losing (has (b .inForce .members)) x) ≡ true
@@ -62,7 +66,7 @@ others-hold t b r four x =
     let l = reached t b r in
     let S = l .1 in
     ap (λ (o : List ℕ). listQuorum Write o (b .inForce) (losing (has (b .inForce .members)) x)) (sym (chain-is t b (l .0) S))
-    ∙ list-bears-loss t (well-formed-of t (S .formed)) (b .inForce) (laid-reached t b r) (S .inv .epochs .bound) four (losing (has (b .inForce .members)) x) (losing-one (has (b .inForce .members)) x)
+    ∙ list-bears-loss t (well-formed-of t (S .formed)) (isTall (b .inForce)) (b .inForce) (laid-reached t b r) (S .inv .epochs .bound) four (losing (has (b .inForce .members)) x) (losing-one (has (b .inForce .members)) x)
 
 pub one-lost : OneLost
 unfolding OneLost ChecksByBook
@@ -72,7 +76,7 @@ one-lost t b r x a c =
 
 -- ---- four machines, just founded: the fourth is lost
 unfoldable fourMachines : Founding
-fourMachines = record { capacity = 4; fileLength = 1; names = 10 ∷ 0 ∷ 20 ∷ 0 ∷ 30 ∷ 0 ∷ 40 ∷ 0 ∷ [] }
+fourMachines = record { capacity = 4; fileLength = 1; names = 10 ∷ 0 ∷ 20 ∷ 0 ∷ 30 ∷ 0 ∷ 40 ∷ 0 ∷ []; choice = 0 }
 
 blank : List ℕ
 blank = zeros (16 + 4 * stride 1)
@@ -82,11 +86,11 @@ unfolding fourMachines blank questions firstNo namesIn namesRising between
 founds = refusal-is blank (founding fourMachines) ∙ rw (eq-eqb (length (zeros (16 + 4 * stride 1))) (16 + 4 * stride 1) (length-zeros (16 + 4 * stride 1)))
 
 passes-three : (t : List ℕ) → State t (opened fourMachines) 0 → firstNo (before 6 (questions t (check (record { c = 1; r = 7 })))) ≡ 0
-unfolding fourMachines opened namesIn questions before byCoordinator firstNo isUsed between onlyRows has
+unfolding fourMachines opened foundedList namesIn questions before byCoordinator firstNo isUsed between onlyRows has
 passes-three t S = let u : usedOf t ≡ 4 = S .used in rw (well-formed-of t (S .formed), u)
 
 pub one-lost-met : OneLostMet
-unfolding OneLostMet fourMachines opened namesIn laidNow someHasAll hasAll every some count has tableAfter bookAfter
+unfolding OneLostMet fourMachines opened foundedList namesIn laidNow someHasAll hasAll every some count has tableAfter bookAfter
 one-lost-met = (
   outcome blank (founding fourMachines) .table,
   opened fourMachines,

@@ -1,6 +1,6 @@
 -- The table after a call against the book after it.
 use mathlib.Core.Path.{_≡_, refl, sym, _∙_, ap, subst}
-use mathlib.Core.Bool.{Bool, true, false}
+use mathlib.Core.Bool.{Bool, true, false, cond}
 use mathlib.Core.Logic.{⊎-elim, inr}
 use mathlib.Core.List.{List}
 use Prim.Native.Nat.{ℕ, suc, _+_, _-_, _<_}
@@ -11,7 +11,7 @@ use borrow.Author.Tests.{eqb-false, eq-eqb, ne-eqb}
 use Rattle.sets.specs.Upto.{Within}
 use Rattle.sets.specs.Sets.{has}
 use Rattle.quorums.specs.declared.Kind.the-variants.{Write}
-use Rattle.fields.specs.Layout.{get, mark, version, desired, epoch, list, contents, rowBytes, usedOf, nameOf, staleOf, versionOf, desiredOf, contentsOf, epochOf, listOf}
+use Rattle.fields.specs.Layout.{get, mark, version, desired, epoch, list, contents, rowBytes, usedOf, nameOf, staleOf, versionOf, desiredOf, contentsOf, epochOf, listOf, isTall}
 use Rattle.table.specs.WellFormed.{limit}
 use Rattle.bytes.specs.Bytes.{zeros}
 use Rattle.bytes.proofs.ByteLaws.{length-put}
@@ -23,6 +23,7 @@ use Rattle.joining.proofs.FrameLaws.{joined-alters}
 use Rattle.joining.proofs.RowLaws.{more-used, file-kept, kept, contents-kept, list-kept, new-says, more-chain, more-formed}
 use Rattle.joining.proofs.OrderLaws.{Joined}
 use Rattle.sets.proofs.UptoLaws.{last}
+use Rattle.protocol.specs.Lists.{laidNow}
 use Rattle.protocol.specs.Polls.{polled, highestEpoch, inForce, goodVersion, good, current}
 use Rattle.protocol.specs.Calls.{Joining, Writing, Sending, Checking, answers, workSet}
 use Rattle.protocol.proofs.RowLaws.{fieldAt, fieldsOf, changed, relisted}
@@ -206,7 +207,7 @@ module _ (t : List ℕ) (b : Book) (e : ℕ) (S : State t b e) (a : Checking) (y
     unfolding cu whole polled relisted changed fieldsOf fieldAt staleOf versionOf desiredOf contentsOf
     rows-checked = record {
       epoch = rw (sym (epoch-whole t b e S (a .r) (has (a .r)) all)) (λ i v. check-membership t a y room cur i v .0);
-      list = λ i v. check-membership t a y room cur i v .1;
+      list = λ i v. check-membership t a y room cur i v .1 ∙ ap (λ (l : Laid). cond (has (a .r) i) (laidNow (isTall l) (a .r)) (listOf t i)) (force-is .1);
       out = λ i v m. stays-of t cu i (check-leaves t a y room .out i v m);
       taken = rw (sym (good-whole t b e S (a .r) (has (a .r)) all)) (λ i v m g. is-of t cu i (check-taken t a y room i v m g));
       marked = rw (sym (good-whole t b e S (a .r) (has (a .r)) all), sym (version-whole t b e S (a .r) (has (a .r)) all)) (λ i v m g. is-of t cu i (check-marked t a y room i v m g));

@@ -2,7 +2,7 @@
 use mathlib.Core.Path.{_≡_, refl, sym, _∙_, ap, subst}
 use mathlib.Core.Bool.{Bool, true, false, cond, _&&_, _||_}
 use mathlib.Core.List.{List, [], _∷_}
-use Prim.Native.Nat.{ℕ, zero, suc, _+_, _-_, _*_, _<_, _≤_}
+use Prim.Native.Nat.{ℕ, zero, suc, _+_, _*_, _<_, _≤_}
 use native.Mathlib.Decide.{ℕ-discrete}
 use native.Mathlib.Omega.{arith}
 use lib.Dec.{eqb}
@@ -24,7 +24,7 @@ use Rattle.protocol.specs.Lists.{laidNow, listChoice}
 use Rattle.protocol.specs.Polls.{goodVersion, current, quorumHeld}
 use Rattle.asking.specs.Asking.{firstNo, before}
 use Rattle.bytes.specs.Bytes.{zeros}
-use Rattle.protocol.specs.Calls.{Founding, Writing, founding, write, isUsed, inFile, byCoordinator, questions, outcome, answers, workSet, namesIn, namesRising}
+use Rattle.protocol.specs.Calls.{Founding, Writing, founding, write, isUsed, inFile, byCoordinator, questions, outcome, answers, workSet, namesIn, namesRising, foundedList}
 use Rattle.protocol.proofs.ListLaws.{one-holds}
 use Rattle.protocol.proofs.PollLaws.{cut-in}
 use Rattle.protocol.proofs.QuestionLaws.{refusal-is, ByCoordinator}
@@ -41,7 +41,7 @@ again = record { c = 1; r = 1; offset = 0; patch = 7 ∷ [] }
 -- the book of a file of one byte on one machine
 record Lone (b : Book) : Type 0 where
   pub names : b .names ≡ 10 ∷ []
-  pub list : b .inForce ≡ laidNow 1
+  pub list : b .inForce ≡ laidNow false 1
   pub file : length (b .file) ≡ 1
   pub all : hasAll b 1 ≡ true
 
@@ -109,7 +109,7 @@ module _ (b : Book) (L : Lone b) where
 
 -- one machine, named 10, and a file of one byte
 unfoldable alone : Founding
-alone = record { capacity = 1; fileLength = 1; names = 10 ∷ 0 ∷ [] }
+alone = record { capacity = 1; fileLength = 1; names = 10 ∷ 0 ∷ []; choice = 0 }
 
 blank : List ℕ
 blank = zeros (16 + stride 1)
@@ -119,7 +119,7 @@ unfolding alone blank questions firstNo namesIn namesRising between
 founds = refusal-is blank (founding alone) ∙ rw (eq-eqb (length (zeros (16 + stride 1))) (16 + 1 * stride 1) (length-zeros (16 + stride 1) ∙ omega arith))
 
 first : Lone (opened alone)
-unfolding alone opened namesIn zeros hasAll every
+unfolding alone opened foundedList namesIn zeros hasAll every
 first = record { names = refl; list = refl; file = refl; all = refl }
 
 -- m writes more

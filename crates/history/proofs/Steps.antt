@@ -3,7 +3,7 @@ use mathlib.Core.Path.{_≡_, refl, sym, _∙_, ap}
 use mathlib.Core.Bool.{Bool, true, false, cond, _&&_, _||_, or-false}
 use mathlib.Core.Logic.{_⊎_, inl, inr, _≢_}
 use mathlib.Core.List.{List}
-use Prim.Native.Nat.{ℕ, suc, _+_, _-_, _^_, _<_, _≤_}
+use Prim.Native.Nat.{ℕ, suc, _+_, _^_, _<_, _≤_}
 use native.Mathlib.Decide.{ℕ-discrete}
 use native.Mathlib.Omega.{arith}
 use lib.Dec.{leb, eqb}
@@ -15,7 +15,7 @@ use Rattle.sets.proofs.SetLaws.{has-within}
 use Rattle.quorums.specs.declared.Kind.the-variants.{Read, Write}
 use Rattle.bytes.specs.Bytes.{put}
 use Rattle.fields.specs.declared.Laid.{Laid}
-use Rattle.fields.specs.Layout.{isEmpty}
+use Rattle.fields.specs.Layout.{isEmpty, isTall}
 use Rattle.protocol.specs.Lists.{laidNow, listQuorum}
 use Rattle.protocol.specs.Polls.{Poll, highestEpoch, inForce, goodVersion, good, current}
 use Rattle.protocol.proofs.ListLaws.{shared, inhabited, reads, has-list}
@@ -191,7 +191,7 @@ module _ (n : ℕ) (p : Poll) (c : ℕ → List ℕ) (b : Book) (e : ℕ) (few :
   -- ---- the rows after a check over r that makes epoch x
   pub record Checked (r x : ℕ) : Type 0 where
     pub epoch : (i : ℕ) → Within n i → p′ .epoch i ≡ cond (has r i) x (p .epoch i)
-    pub list : (i : ℕ) → Within n i → p′ .list i ≡ cond (has r i) (laidNow r) (p .list i)
+    pub list : (i : ℕ) → Within n i → p′ .list i ≡ cond (has r i) (laidNow (isTall (b .inForce)) r) (p .list i)
     pub out : (i : ℕ) → Within n i → has r i ≡ false → Stays p c p′ c′ i
     pub taken : (i : ℕ) → Within n i → has r i ≡ true → good p (has r) i ≡ true → Stays p c p′ c′ i
     pub marked : (i : ℕ) → Within n i → has r i ≡ true → good p (has r) i ≡ false → Is p′ c′ i true (p .version i) (goodVersion p (has r)) (c i)
@@ -212,14 +212,14 @@ module _ (n : ℕ) (p : Poll) (c : ℕ → List ℕ) (b : Book) (e : ℕ) (few :
       new : goodVersion p (has r) ≡ b .writes
       new = version-is n p c b e few I (has r) ins check-q cur
 
-      new-epochs : Epochs n (order b) (λ i. cond (has r i) (suc e) (p .epoch i)) (λ i. cond (has r i) (laidNow r) (p .list i)) (laidNow r) (λ i. cond (has r i) (laidNow r) (b .own i)) (suc e)
+      new-epochs : Epochs n (order b) (λ i. cond (has r i) (suc e) (p .epoch i)) (λ i. cond (has r i) (laidNow (isTall (b .inForce)) r) (p .list i)) (laidNow (isTall (b .inForce)) r) (λ i. cond (has r i) (laidNow (isTall (b .inForce)) r) (b .own i)) (suc e)
       unfolding holdsQuorum laidNow
       new-epochs = record {
         below = λ i u. below i u (has r i);
         inside = λ i u m. rw m (refl, refl);
         forced = λ i u. forced i u (has r i);
         bare = λ i u. bare i u (has r i) refl;
-        owned = λ i u. ap (λ (x : Laid). cond (has r i) (laidNow r) x) (I .epochs .owned i u);
+        owned = λ i u. ap (λ (x : Laid). cond (has r i) (laidNow (isTall (b .inForce)) r) x) (I .epochs .owned i u);
         bound = us;
         dead = λ i u. dead i u (has r i);
       }
@@ -228,12 +228,12 @@ module _ (n : ℕ) (p : Poll) (c : ℕ → List ℕ) (b : Book) (e : ℕ) (few :
           below i u true = omega arith
           below i u false = omega (arith, I .epochs .below i u)
 
-          forced : (i : ℕ) → Within n i → (x : Bool) → isEmpty (cond x (laidNow r) (p .list i)) ≡ false → cond x (suc e) (p .epoch i) ≡ suc e → cond x (laidNow r) (p .list i) ≡ laidNow r
+          forced : (i : ℕ) → Within n i → (x : Bool) → isEmpty (cond x (laidNow (isTall (b .inForce)) r) (p .list i)) ≡ false → cond x (suc e) (p .epoch i) ≡ suc e → cond x (laidNow (isTall (b .inForce)) r) (p .list i) ≡ laidNow (isTall (b .inForce)) r
           forced i u true l h = refl
           forced i u false l h = absurd (omega (arith, I .epochs .below i u))
 
-          bare : (i : ℕ) → Within n i → (x : Bool) → has r i ≡ x → isEmpty (cond x (laidNow r) (p .list i)) ≡ true → cond x (suc e) (p .epoch i) ≡ 0
-          bare i u true m l = absurd (clash (sym (has-list (laidNow r) i m) ∙ l))
+          bare : (i : ℕ) → Within n i → (x : Bool) → has r i ≡ x → isEmpty (cond x (laidNow (isTall (b .inForce)) r) (p .list i)) ≡ true → cond x (suc e) (p .epoch i) ≡ 0
+          bare i u true m l = absurd (clash (sym (has-list (laidNow (isTall (b .inForce)) r) i m) ∙ l))
           bare i u false m l = I .epochs .bare i u l
 
           under : (i j : ℕ) (x : Bool) → p .epoch i ≤ e → cond x (suc e) (p .epoch j) ≤ p .epoch i → p .epoch j ≤ p .epoch i
@@ -242,7 +242,7 @@ module _ (n : ℕ) (p : Poll) (c : ℕ → List ℕ) (b : Book) (e : ℕ) (few :
 
           dead : (i : ℕ) → Within n i → (x : Bool) → cond x (suc e) (p .epoch i) < suc e → (s : ℕ → Bool)
               → ((j : ℕ) → Within n j → s j ≡ true → cond (has r j) (suc e) (p .epoch j) ≤ cond x (suc e) (p .epoch i))
-              → listQuorum Read (order b) (cond x (laidNow r) (p .list i)) s ≡ true → ⊥
+              → listQuorum Read (order b) (cond x (laidNow (isTall (b .inForce)) r) (p .list i)) s ≡ true → ⊥
           dead i u true l s f h = omega arith
           dead i u false l s f h = go (ℕ-discrete (p .epoch i) e)
             where
@@ -274,9 +274,9 @@ module _ (n : ℕ) (p : Poll) (c : ℕ → List ℕ) (b : Book) (e : ℕ) (few :
               short (yes z) = absurd (clash (sym g ∙ good-of p (has r) i (record { inside = m; clean = clean n p c b e few I i u z; newest = z ∙ sym new })))
           go false m y g = versions-of (w .out i u m) v
 
-      new-live : (s : ℕ → Bool) → listQuorum Read (order b) (laidNow r) s ≡ true → (i : ℕ) × Within n i × (s i ≡ true) × (aim p′ i ≡ b .writes)
+      new-live : (s : ℕ → Bool) → listQuorum Read (order b) (laidNow (isTall (b .inForce)) r) s ≡ true → (i : ℕ) × Within n i × (s i ≡ true) × (aim p′ i ≡ b .writes)
       unfolding laidNow
-      new-live s h = let m = inhabited (order b) (laidNow r) Read s h in (m .0, ins (m .0) (m .1), m .2, go (m .0) (m .1) (good p (has r) (m .0)) refl)
+      new-live s h = let m = inhabited (order b) (laidNow (isTall (b .inForce)) r) Read s h in (m .0, ins (m .0) (m .1), m .2, go (m .0) (m .1) (good p (has r) (m .0)) refl)
         where
           go : (i : ℕ) → has r i ≡ true → (y : Bool) → good p (has r) i ≡ y → aim p′ i ≡ b .writes
           go i m true g = let d = good-at p (has r) i g in aim-of (w .taken i (ins i m) m g) ∙ rw (d .clean) (d .newest ∙ new)

@@ -1,7 +1,7 @@
 -- "The plain book": fed each call's arguments and whether it was done. Nothing comes from the table.
 use mathlib.Core.Bool.{Bool, true, false, not, cond, _&&_, _||_}
 use mathlib.Core.List.{List, [], _∷_, _++_}
-use Prim.Native.Nat.{ℕ, suc, _+_, _-_, _^_}
+use Prim.Native.Nat.{ℕ, suc, _+_, _-_}
 use lib.Dec.{eqb}
 use lib.ListN.{length, getD}
 use Rattle.sets.specs.Upto.{every, some}
@@ -10,10 +10,10 @@ use Rattle.quorums.specs.declared.Kind.{Kind}
 use Rattle.quorums.specs.declared.Kind.the-variants.{Write}
 use Rattle.bytes.specs.Bytes.{put, zeros}
 use Rattle.fields.specs.declared.Laid.{Laid}
-use Rattle.fields.specs.Layout.{noList}
+use Rattle.fields.specs.Layout.{noList, isTall}
 use Rattle.linking.specs.Linking.{byName}
 use Rattle.protocol.specs.Lists.{laidNow, listQuorum, listChoice}
-use Rattle.protocol.specs.Calls.{Founding, Call, founding, join, read, write, send, check, namesIn}
+use Rattle.protocol.specs.Calls.{Founding, Call, founding, join, read, write, send, check, namesIn, foundedList}
 
 pub record Book : Type 0 where
   -- the names of rows 1 upward, from the arguments of the founding and of joinings
@@ -42,8 +42,8 @@ opened a =
       names = names;
       file = zeros (a .fileLength);
       writes = 0;
-      inForce = laidNow (2 ^ length names - 1);
-      own = λ i. laidNow (2 ^ length names - 1);
+      inForce = foundedList (a .choice) (length names);
+      own = λ i. foundedList (a .choice) (length names);
       hasWrite = λ i k. false;
     }
 
@@ -88,14 +88,14 @@ passedOn b f t = record {
   hasWrite = λ i k. b .hasWrite i k || (eqb i t && b .hasWrite f k);
 }
 
--- "R becomes the list in force, and the own list of each row of R"
+-- "R becomes the list in force, and the own list of each row of R": tall where the list in force was
 unfoldable pub agreed : Book → ℕ → Book
 agreed b r = record {
   names = b .names;
   file = b .file;
   writes = b .writes;
-  inForce = laidNow r;
-  own = λ i. cond (has r i) (laidNow r) (b .own i);
+  inForce = laidNow (isTall (b .inForce)) r;
+  own = λ i. cond (has r i) (laidNow (isTall (b .inForce)) r) (b .own i);
   hasWrite = b .hasWrite;
 }
 

@@ -1,26 +1,25 @@
 -- What a joining alters, byte for byte.
-use mathlib.Core.Path.{_≡_, refl, sym, _∙_, ap}
+use mathlib.Core.Path.{_≡_, refl, _∙_, ap}
 use mathlib.Core.Bool.{true, cond}
-use mathlib.Core.Logic.{_⊎_, ⊎-elim, inl, inr}
+use mathlib.Core.Logic.{⊎-elim, inl, inr}
 use mathlib.Core.List.{List, _++_}
 use Prim.Native.Nat.{ℕ, zero, suc, _+_, _*_, _≤_, _<_}
 use native.Mathlib.Omega.{arith}
 use lib.Dec.{eqb, ltb}
 use lib.ListN.{length, take, drop, length-drop}
 use borrow.Author.Tests.{eq-eqb, ne-eqb}
-use Rattle.sets.specs.Upto.{Within}
 use Rattle.bytes.specs.Bytes.{bytesOf, part, put, zeros}
 use Rattle.bytes.proofs.ByteLaws.{length-bytes, drop-put-after, first-zeros, split-zeros, zeros-are}
 use Rattle.blocks.specs.Blocks.{block, withBlock}
-use Rattle.fields.specs.Layout.{Field, get, store, used, first, fileLength, name, link, bodyLength, stride, capacityOf, usedOf, firstOf, fileLengthOf, rowLength, rowsEnd, rowBytes, nameOf, linkOf, withRow}
+use Rattle.fields.specs.Layout.{Field, store, used, first, fileLength, name, link, bodyLength, stride, capacityOf, usedOf, firstOf, fileLengthOf, rowLength, rowsEnd, rowBytes, nameOf, linkOf, withRow}
 use Rattle.fields.proofs.FieldLaws.{length-store, stored-bytes, get-other, part-store, contents-room}
-use Rattle.table.specs.Chain.{orderOf, among}
+use Rattle.table.specs.Chain.{orderOf}
 use Rattle.table.specs.WellFormed.{wellFormed, unusedZero}
-use Rattle.table.proofs.FormLaws.{Formed, formed}
+use Rattle.table.proofs.FormLaws.{formed}
 use Rattle.table.proofs.WellFormedLaws.{sized, header, long, rows-in, linked, link-in}
 use Rattle.table.proofs.RisingLaws.{among-e, order-within}
-use Rattle.table.proofs.TableLaws.{Like, like-length, like-end, Roomy, row-long, Changed, one-row}
-use Rattle.linking.specs.Linking.{lastOf, behind}
+use Rattle.table.proofs.TableLaws.{Like, like-end, Roomy, row-long, Changed, one-row}
+use Rattle.linking.specs.Linking.{behind}
 use Rattle.linking.proofs.InsertLaws.{last-among}
 use Rattle.joining.specs.Joining.{rowBefore, namedRow, joinedBehind, joined}
 use Rattle.joining.specs.Claims.{OneMore}

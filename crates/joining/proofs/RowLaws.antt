@@ -3,29 +3,27 @@ use mathlib.Core.Path.{_≡_, refl, sym, _∙_, ap, subst}
 use mathlib.Core.Bool.{Bool, true, false, cond, _&&_}
 use mathlib.Core.Logic.{_⊎_, ⊎-elim, inl, inr}
 use mathlib.Core.List.{List, _++_}
-use Prim.Native.Nat.{ℕ, zero, suc, _+_, _-_, _*_, _^_, _≤_, _<_}
+use Prim.Native.Nat.{ℕ, zero, suc, _+_, _*_, _≤_, _<_}
 use native.Mathlib.Nat.{lt-of-lt-of-le}
 use native.Mathlib.Omega.{arith}
-use lib.Dec.{eqb, ltb}
+use lib.Dec.{eqb}
 use lib.Pow.{pow-mono, pow-pos}
-use lib.ListN.{length, take, drop, length-append}
+use lib.ListN.{length, drop}
 use lib.Seq.{drop-drop}
-use borrow.Author.Tests.{eqb-true, eq-eqb, ne-eqb}
+use borrow.Author.Tests.{eq-eqb, ne-eqb}
 use Rattle.bools.proofs.BoolLaws.{and-l, and-r, clash}
 use Rattle.sets.specs.Upto.{Within}
 use Rattle.sets.proofs.UptoLaws.{last}
 use Rattle.bytes.specs.Bytes.{number, bytesOf, part, zeros, allZero}
-use Rattle.bytes.proofs.ByteLaws.{length-bytes, number-bytes, part-part, length-zeros, first-zeros, zero-drop}
+use Rattle.bytes.proofs.ByteLaws.{number-bytes, part-part, length-zeros, first-zeros, zero-drop}
 use Rattle.grid.specs.Sizes.{markFits}
-use Rattle.fields.specs.declared.Laid.{Laid}
-use Rattle.fields.specs.Layout.{Field, get, store, form, formValue, capacity, used, first, fileLength, name, link, mark, version, desired, epoch, members, gridMark, list, noList, isEmpty, reserved, contents, bodyLength, stride, capacityOf, usedOf, firstOf, fileLengthOf, rowLength, rowsEnd, rowBytes, nameOf, linkOf}
+use Rattle.fields.specs.Layout.{Field, get, store, form, formValue, capacity, used, first, fileLength, name, link, mark, version, desired, epoch, members, gridMark, list, noList, isEmpty, isTall, reserved, contents, bodyLength, stride, capacityOf, usedOf, firstOf, fileLengthOf, rowLength, rowsEnd, rowBytes, nameOf, linkOf, listOf}
 use Rattle.fields.proofs.FieldLaws.{Apart, get-store, get-other, reserved-store, contents-store, body-room, contents-part, list-is}
-use Rattle.table.specs.Chain.{orderOf, among}
 use Rattle.table.specs.WellFormed.{between, limit, wellFormed, headerValues, lengthRight, unusedZero}
-use Rattle.table.proofs.FormLaws.{is-between, RowFacts, OneList, Formed, formed}
+use Rattle.table.proofs.FormLaws.{is-between, RowFacts, OneList, OneShape, Formed, formed}
 use Rattle.table.proofs.WellFormedLaws.{sized, header, linked, length-is, row-long}
 use Rattle.table.proofs.RisingLaws.{order-within}
-use Rattle.linking.specs.Linking.{lastOf, behind}
+use Rattle.linking.specs.Linking.{behind}
 use Rattle.joining.specs.Joining.{rowBefore}
 use Rattle.joining.specs.Claims.{OneMore}
 use Rattle.joining.proofs.FrameLaws.{before-used, behind-used}
@@ -274,6 +272,15 @@ module _ (t u : List ℕ) (x : ℕ) (e : wellFormed t ≡ true) (room : usedOf t
             ∙ formed t e .agree i j v w (rw (list-kept i v) at a) (rw (list-kept j w) at b) (sym (kept epoch (inr (omega arith)) i v) ∙ q ∙ kept epoch (inr (omega arith)) j w)
             ∙ sym (list-kept j w)
 
+    one-shape : OneShape u (suc (usedOf t))
+    unfolding listOf
+    one-shape i j v w a b = go (last (usedOf t) i v) (last (usedOf t) j w)
+      where
+        go : (i ≡ suc (usedOf t)) ⊎ Within (usedOf t) i → (j ≡ suc (usedOf t)) ⊎ Within (usedOf t) j → isTall (list (rowBytes u i)) ≡ isTall (list (rowBytes u j))
+        go (inl z) d = absurd (clash (sym (rw z at a) ∙ empty-new))
+        go (inr v) (inl z) = absurd (clash (sym (rw z at b) ∙ empty-new))
+        go (inr v) (inr w) = ap isTall (list-kept i v) ∙ formed t e .shape i j v w (rw (list-kept i v) at a) (rw (list-kept j w) at b) ∙ sym (ap isTall (list-kept j w))
+
     rest-zero : unusedZero u ≡ true
     unfolding unusedZero rowsEnd
     rest-zero =
@@ -286,9 +293,10 @@ module _ (t u : List ℕ) (x : ℕ) (e : wellFormed t ≡ true) (room : usedOf t
     more-formed = record {
       header = more-header;
       long = eq-eqb _ _ (o .bytes ∙ length-is (sized e) ∙ sym (same-end (capacityOf t)) ∙ ap (rowsEnd u) (sym same-capacity));
-      rows = rw (more-used) row-facts;
+      rows = rw more-used row-facts;
       visits = joined-visits t e u x more-chain;
       rise = joined-rise t e u x more-chain (h .0) free;
       zero = rest-zero;
-      agree = rw (more-used) one-list;
+      agree = rw more-used one-list;
+      shape = rw more-used one-shape;
     }

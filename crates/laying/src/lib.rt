@@ -28,13 +28,13 @@ fn found_row(row: &mut [u8], x: u16, next: u8, list: Laid)
     fields::set_list(row, list);
 }
 
-// A table of so many rows for a file of so many bytes, with the named rows in it.
-pub fn lay_table(t: &mut [u8], capacity: usize, file: usize, names: &[u8])
+// A table of so many rows for a file of so many bytes, with the named rows in it; by choice 1 it is tall.
+pub fn lay_table(t: &mut [u8], capacity: usize, file: usize, names: &[u8], choice: u64)
     requires { ⌜ (length (now t) ≡ 16 + capacity * stride file) × Within 4_096 file × (capacity ≤ 64) × (length (now names) ≡ 2 * length (namesIn (now names))) × Within capacity (length (namesIn (now names))) ⌝ }
-    ensures { λ r. ⌜ now (t .exit) ≡ founded capacity file (namesIn (now (names .entry))) ⌝ }
+    ensures { λ r. ⌜ now (t .exit) ≡ founded choice capacity file (namesIn (now (names .entry))) ⌝ }
 {
     let n = names.len() / 2;
-    let list = lists::laid_now(RowSet::first(n));
+    let list = lists::laid_now(choice == 1, RowSet::first(n));
     let size = table::row_size(file);
     // the rows stand behind the header, up to the end
     let mut at = t.len() - capacity * size;

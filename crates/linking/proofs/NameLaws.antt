@@ -6,7 +6,6 @@ use mathlib.Core.List.{List, [], _∷_}
 use Prim.Native.Nat.{ℕ, zero, suc, _≤_, _<_}
 use native.Mathlib.Decide.{ℕ-discrete}
 use native.Mathlib.Omega.{arith}
-use lib.Dec.{eqb, ltb}
 use borrow.Author.Tests.{eqb-true, eq-eqb, ne-eqb}
 use Rattle.bools.proofs.BoolLaws.{or-l, or-r, or-e, clash, same-test}
 use Rattle.sets.specs.Upto.{Within}
@@ -15,9 +14,8 @@ use Rattle.fields.specs.Layout.{usedOf, nameOf}
 use Rattle.table.specs.Chain.{orderOf, among, risesFrom}
 use Rattle.table.specs.WellFormed.{wellFormed}
 use Rattle.table.proofs.ChainLaws.{order-each, order-rises}
-use Rattle.table.proofs.RisingLaws.{among-head, among-tail, among-e, rises-head, rises-tail, rises-above, rises-once, order-within}
+use Rattle.table.proofs.RisingLaws.{among-head, among-e, rises-tail, rises-above, rises-once, order-within}
 use Rattle.linking.specs.Linking.{inserted, byName}
-use Rattle.linking.proofs.PathLaws.{rises-same}
 use Rattle.linking.proofs.InsertLaws.{inserted-among, inserted-same, inserted-rises}
 
 module _ (f : ℕ → ℕ) where

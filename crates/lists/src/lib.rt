@@ -108,13 +108,13 @@ fn standing(rows: &[u8; 64], count: usize, positions: RowSet) -> RowSet
     set
 }
 
-// The list that a founding or a check lays of these rows.
-pub fn laid_now(set: RowSet) -> Laid
-    ensures { λ r. ⌜ r ≡ laidNow (set .bits) ⌝ }
+// The list that a founding or a check lays of these rows, in a tall table or in a wide one.
+pub fn laid_now(tall: bool, set: RowSet) -> Laid
+    ensures { λ r. ⌜ r ≡ laidNow tall (set .bits) ⌝ }
 {
     Laid {
         members: set.bits,
-        mark: grid::new_mark(set.size()),
+        mark: grid::new_mark(tall, set.size()),
     }
 }
 

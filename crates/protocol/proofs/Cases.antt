@@ -66,7 +66,7 @@ twoBytes (x ∷ xs) = x ∷ 0 ∷ twoBytes xs
 
 -- n rows founded, named 10, 11, ..; and with the grid mark of each put to a number
 unfoldable pub full : ℕ → List ℕ
-full n = outcome (zeros (16 + n * 33)) (fo n 1 (twoBytes (upward n 10))) .table
+full n = outcome (zeros (16 + n * 33)) (fo n 1 (twoBytes (upward n 10)) 0) .table
 
 unfoldable pub remarked : (n mark : ℕ) → List ℕ → List ℕ
 remarked zero mark t = t
@@ -82,7 +82,7 @@ formed t = On t (ck 0 0) 2 0 []
 
 -- a founding on so many bytes
 unfoldable pub founds : (length capacity fileLength : ℕ) (names : List ℕ) (refusal value : ℕ) → Case
-founds length capacity fileLength names refusal value = On (zeros length) (fo capacity fileLength names) refusal value []
+founds length capacity fileLength names refusal value = On (zeros length) (fo capacity fileLength names 0) refusal value []
 
 unfoldable pub cases : List Case
 cases =
@@ -159,10 +159,17 @@ cases =
     ∷ malformed (remarked 4 1 (full 4))
     ∷ formed (full 5)
     ∷ formed (remarked 5 0 (full 5))
-    ∷ malformed (remarked 5 2 (full 5))
+    ∷ formed (remarked 5 2 (full 5))
+    ∷ malformed (remarked 5 3 (full 5))
     ∷ malformed (set (row2 + 24) 1 0 (full 5))
     ∷ malformed (remarked 6 1 (full 6))
     ∷ malformed (set (row2 + 24) 1 1 (unlisted 0))
+    -- a tall table: every list has mark 2, whatever its epoch; an empty one has mark 0
+    ∷ formed (remarked 2 2 pair)
+    ∷ malformed (set (row1 + 24) 1 2 pair)
+    ∷ malformed (set (row2 + 24) 1 2 pair)
+    ∷ formed (set (row1 + 24) 1 2 (unlisted 0))
+    ∷ malformed (remarked 2 2 (unlisted 0))
     -- zeros of a row; its contents; an unused row
     ∷ malformed (set (row1 + 25) 1 1 pair)
     ∷ malformed (set (row2 + 31) 1 1 pair)
@@ -230,6 +237,9 @@ cases =
     ∷ founds 4_145 1 4_097 (10 ∷ 0 ∷ []) 12 0
     ∷ founds 48 1 1 (10 ∷ 0 ∷ []) 12 0
     ∷ founds 50 1 1 (10 ∷ 0 ∷ []) 12 0
+    -- ---- the choice is 0 or 1
+    ∷ On (zeros 49) (fo 1 1 (10 ∷ 0 ∷ []) 1) 0 1 []
+    ∷ On (zeros 49) (fo 1 1 (10 ∷ 0 ∷ []) 2) 11 0 []
     -- ---- 11 before 12
     ∷ founds 0 0 0 [] 11 0
     ∷ []

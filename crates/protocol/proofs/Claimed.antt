@@ -2,7 +2,7 @@
 use mathlib.Core.Path.{_≡_, refl, sym, _∙_, subst}
 use mathlib.Core.Bool.{Bool, true, false, cond}
 use mathlib.Core.List.{List}
-use Prim.Native.Nat.{ℕ, zero, suc, _+_, _-_, _^_, _≤_, _<_}
+use Prim.Native.Nat.{ℕ, zero, suc, _+_, _^_, _≤_, _<_}
 use native.Mathlib.Omega.{arith}
 use lib.Dec.{eqb, ltb}
 use borrow.Author.Tests.{eqb-true, ltb-true}
@@ -17,7 +17,7 @@ use Rattle.table.proofs.FormLaws.{formed, well-formed-of, header-facts}
 use Rattle.protocol.specs.Polls.{highestEpoch, inForce}
 use Rattle.protocol.specs.Calls
 use Rattle.asking.specs.Asking.{firstNo}
-use Rattle.protocol.specs.Calls.{Checking, Call, founding, join, read, write, send, check, questions, done, outcome, answers, workSet}
+use Rattle.protocol.specs.Calls.{Call, founding, join, read, write, send, check, questions, done, outcome, answers, workSet}
 use Rattle.protocol.specs.Claims
 use Rattle.joining.proofs.FrameLaws.{joined-alters}
 use Rattle.joining.proofs.RowLaws.{more-formed}

@@ -2,7 +2,7 @@
 use mathlib.Core.Path.{_≡_, refl, sym, _∙_, ap, subst}
 use mathlib.Core.Bool.{Bool, true, false, cond}
 use mathlib.Core.List.{List, []}
-use Prim.Native.Nat.{ℕ, zero, suc, _+_, _-_, _^_, _≤_, _<_}
+use Prim.Native.Nat.{ℕ, zero, suc, _+_, _^_, _≤_, _<_}
 use native.Mathlib.Nat.{lt-of-lt-of-le}
 use native.Mathlib.Omega.{arith}
 use lib.Dec.{eqb}
@@ -14,12 +14,12 @@ use Rattle.sets.specs.Sets.{has}
 use Rattle.quorums.specs.declared.Kind.the-variants.{Write}
 use Rattle.grid.proofs.SizeLaws.{new-mark-small}
 use Rattle.bytes.specs.Bytes.{put}
-use Rattle.fields.specs.Layout.{get, name, link, contents, rowLength, rowBytes, usedOf, nameOf, epochOf, versionOf, contentsOf, withRow, withRows}
+use Rattle.fields.specs.Layout.{isTall, get, name, link, contents, rowLength, rowBytes, usedOf, nameOf, epochOf, versionOf, contentsOf, withRow, withRows}
 use Rattle.table.specs.Chain.{orderOf}
 use Rattle.table.specs.WellFormed.{limit}
 use Rattle.fields.proofs.FieldLaws.{contents-room}
 use Rattle.table.proofs.FormLaws.{RowFacts, Formed, formed, header-facts, rows-room}
-use Rattle.protocol.specs.Polls.{Poll, polled, highestEpoch, goodVersion, good}
+use Rattle.protocol.specs.Polls.{Poll, polled, highestEpoch, inForce, goodVersion, good}
 use Rattle.protocol.specs.Lists.{laidNow}
 use Rattle.protocol.specs.Rows.{refreshedRow, wroteRow, checkedRow}
 use Rattle.protocol.specs.Calls.{Writing, Sending, Checking, answers, workSet}
@@ -193,7 +193,7 @@ module _ (t : List ℕ) (a : Checking) (y : CheckYes t a) (room : highestEpoch (
   check-version = version-small t (a .c) (a .r) (y .first) (has (a .r)) (λ i m. m)
 
   unfoldable pub checkTable : List ℕ
-  checkTable = withRows t (has (a .r)) (checkedRow (good (answers t (a .r)) (has (a .r))) (goodVersion (answers t (a .r)) (has (a .r))) (highestEpoch (answers t (a .r)) (has (a .r)) + 1) (laidNow (a .r))) (usedOf t)
+  checkTable = withRows t (has (a .r)) (checkedRow (good (answers t (a .r)) (has (a .r))) (goodVersion (answers t (a .r)) (has (a .r))) (highestEpoch (answers t (a .r)) (has (a .r)) + 1) (laidNow (isTall (inForce (answers t (a .r)) (has (a .r)))) (a .r))) (usedOf t)
 
   list-fits : a .r < 256 ^ 8
   list-fits =
@@ -202,37 +202,37 @@ module _ (t : List ℕ) (a : Checking) (y : CheckYes t a) (room : highestEpoch (
       lt-of-lt-of-le (y .first .rows) (pow-mono few)
 
   enrolled : (i : ℕ) → Within (usedOf t) i → (b : Bool) → cg i ≡ b
-      → Becomes (rowBytes t i) (checkedRow cg cv ce (laidNow (a .r)) i (rowBytes t i))
-      (relisted (changed (cond b (fieldsOf (rowBytes t i)) (changed (changed (fieldsOf (rowBytes t i)) 3 1) 5 cv)) 6 ce) (laidNow (a .r))) (contents (rowBytes t i))
+      → Becomes (rowBytes t i) (checkedRow cg cv ce (laidNow (isTall (inForce (answers t (a .r)) (has (a .r)))) (a .r)) i (rowBytes t i))
+      (relisted (changed (cond b (fieldsOf (rowBytes t i)) (changed (changed (fieldsOf (rowBytes t i)) 3 1) 5 cv)) 6 ce) (laidNow (isTall (inForce (answers t (a .r)) (has (a .r)))) (a .r))) (contents (rowBytes t i))
   unfolding checkedRow cv ce limit laidNow
-  enrolled i u true e = rw e (then-enrolled (rowBytes t i) (long-row t cw i u) ce (laidNow (a .r)) (omega arith) list-fits (new-mark-small _) (unchanged (rowBytes t i)))
-  enrolled i u false e = rw e (then-enrolled (rowBytes t i) (long-row t cw i u) ce (laidNow (a .r)) (omega arith) list-fits (new-mark-small _) (marked-row (rowBytes t i) (long-row t cw i u) cv (omega (arith, check-version))))
+  enrolled i u true e = rw e (then-enrolled (rowBytes t i) (long-row t cw i u) ce (laidNow (isTall (inForce (answers t (a .r)) (has (a .r)))) (a .r)) (omega arith) list-fits (new-mark-small _ _) (unchanged (rowBytes t i)))
+  enrolled i u false e = rw e (then-enrolled (rowBytes t i) (long-row t cw i u) ce (laidNow (isTall (inForce (answers t (a .r)) (has (a .r)))) (a .r)) (omega arith) list-fits (new-mark-small _ _) (marked-row (rowBytes t i) (long-row t cw i u) cv (omega (arith, check-version))))
 
-  check-changed : Changed t checkTable (usedOf t) (has (a .r)) (checkedRow cg cv ce (laidNow (a .r)))
+  check-changed : Changed t checkTable (usedOf t) (has (a .r)) (checkedRow cg cv ce (laidNow (isTall (inForce (answers t (a .r)) (has (a .r)))) (a .r)))
   unfolding checkTable cg cv ce
-  check-changed = many-rows t (has (a .r)) (checkedRow cg cv ce (laidNow (a .r))) (usedOf t) (rows-room t cw) (λ i u m. enrolled i u (cg i) refl .long ∙ row-length t cw i u)
+  check-changed = many-rows t (has (a .r)) (checkedRow cg cv ce (laidNow (isTall (inForce (answers t (a .r)) (has (a .r)))) (a .r))) (usedOf t) (rows-room t cw) (λ i u m. enrolled i u (cg i) refl .long ∙ row-length t cw i u)
 
   pub check-rows : Changed t checkTable (usedOf t) (has (a .r))
-      (checkedRow (good (answers t (a .r)) (has (a .r))) (goodVersion (answers t (a .r)) (has (a .r))) (highestEpoch (answers t (a .r)) (has (a .r)) + 1) (laidNow (a .r)))
+      (checkedRow (good (answers t (a .r)) (has (a .r))) (goodVersion (answers t (a .r)) (has (a .r))) (highestEpoch (answers t (a .r)) (has (a .r)) + 1) (laidNow (isTall (inForce (answers t (a .r)) (has (a .r)))) (a .r)))
   unfolding cg cv ce
   check-rows = check-changed
 
   pub check-leaves : Leaves t checkTable (has (a .r))
   unfolding relisted changed fieldsOf fieldAt
-  check-leaves = leaves-of t checkTable (has (a .r)) (checkedRow cg cv ce (laidNow (a .r))) check-changed (λ i u m. go i u (cg i) refl)
+  check-leaves = leaves-of t checkTable (has (a .r)) (checkedRow cg cv ce (laidNow (isTall (inForce (answers t (a .r)) (has (a .r)))) (a .r))) check-changed (λ i u m. go i u (cg i) refl)
     where
       go : (i : ℕ) → Within (usedOf t) i → (b : Bool) → cg i ≡ b
-          → (f : ℕ → ℕ) × (d : List ℕ) × Becomes (rowBytes t i) (checkedRow cg cv ce (laidNow (a .r)) i (rowBytes t i)) f d × (f 1 ≡ get name (rowBytes t i)) × (f 2 ≡ get link (rowBytes t i))
+          → (f : ℕ → ℕ) × (d : List ℕ) × Becomes (rowBytes t i) (checkedRow cg cv ce (laidNow (isTall (inForce (answers t (a .r)) (has (a .r)))) (a .r)) i (rowBytes t i)) f d × (f 1 ≡ get name (rowBytes t i)) × (f 2 ≡ get link (rowBytes t i))
       go i u true e = (_, _, enrolled i u true e, refl, refl)
       go i u false e = (_, _, enrolled i u false e, refl, refl)
 
   pub check-taken : (i : ℕ) → Within (usedOf t) i → has (a .r) i ≡ true → good (answers t (a .r)) (has (a .r)) i ≡ true
-      → RowBecomes t checkTable i (relisted (changed (fieldsOf (rowBytes t i)) 6 (highestEpoch (answers t (a .r)) (has (a .r)) + 1)) (laidNow (a .r))) (contents (rowBytes t i))
+      → RowBecomes t checkTable i (relisted (changed (fieldsOf (rowBytes t i)) 6 (highestEpoch (answers t (a .r)) (has (a .r)) + 1)) (laidNow (isTall (inForce (answers t (a .r)) (has (a .r)))) (a .r))) (contents (rowBytes t i))
   unfolding cg cv ce
   check-taken i u m e = becomes-at (changed-row check-changed i u m) (enrolled i u true e)
 
   pub check-marked : (i : ℕ) → Within (usedOf t) i → has (a .r) i ≡ true → good (answers t (a .r)) (has (a .r)) i ≡ false
       → RowBecomes t checkTable i
-      (relisted (changed (changed (changed (fieldsOf (rowBytes t i)) 3 1) 5 (goodVersion (answers t (a .r)) (has (a .r)))) 6 (highestEpoch (answers t (a .r)) (has (a .r)) + 1)) (laidNow (a .r))) (contents (rowBytes t i))
+      (relisted (changed (changed (changed (fieldsOf (rowBytes t i)) 3 1) 5 (goodVersion (answers t (a .r)) (has (a .r)))) 6 (highestEpoch (answers t (a .r)) (has (a .r)) + 1)) (laidNow (isTall (inForce (answers t (a .r)) (has (a .r)))) (a .r))) (contents (rowBytes t i))
   unfolding cg cv ce
   check-marked i u m e = becomes-at (changed-row check-changed i u m) (enrolled i u false e)

@@ -19,9 +19,11 @@ use Rattle.grid.proofs.SizeLaws.{new-mark-fits, new-mark-small}
 use Rattle.bools.proofs.BoolLaws.{and-l, and-r, and-i, or-l, or-r, clash}
 use Rattle.sets.proofs.UptoLaws.{every-of}
 use Rattle.sets.proofs.SetLaws.{has-all}
+use Rattle.sets.proofs.CountLaws.{count-one}
 use Rattle.bytes.specs.Bytes.{number, bytesOf, part, zeros, allZero}
 use Rattle.blocks.specs.Blocks.{block}
-use Rattle.fields.specs.Layout.{get, form, formValue, capacity, used, first, fileLength, name, link, mark, version, desired, epoch, members, gridMark, list, reserved, contents, bodyLength, stride, rowLength, rowsEnd, rowBytes, capacityOf, usedOf, firstOf, fileLengthOf, nameOf, linkOf}
+use Rattle.fields.specs.declared.Laid.{Laid}
+use Rattle.fields.specs.Layout.{isTall, get, form, formValue, capacity, used, first, fileLength, name, link, mark, version, desired, epoch, members, gridMark, list, reserved, contents, bodyLength, stride, rowLength, rowsEnd, rowBytes, capacityOf, usedOf, firstOf, fileLengthOf, nameOf, linkOf, listOf}
 use Rattle.table.specs.Chain.{chain, orderOf, among, risesFrom}
 use Rattle.table.specs.WellFormed.{between, limit, headerValues, lengthRight, visitsEach, namesRise, unusedZero}
 use Rattle.bytes.proofs.ByteLaws.{length-bytes, number-bytes, length-zeros, zeros-zero, first-zeros}
@@ -43,9 +45,10 @@ pub record Founds (a : Calls.Founding) : Type 0 where
 pub founds-of : (t : List ℕ) (a : Calls.Founding) → firstNo (Calls.questions t (Calls.founding a)) ≡ 0 → Founds a
 unfolding Calls.questions
 founds-of t a h =
-    let x = yes-first 10 (eqb (length (a .names) % 2) 0 && between 1 (length (Calls.namesIn (a .names))) 64 && Calls.namesRising 0 (Calls.namesIn (a .names))) _ h in
+    let x = yes-first 10 (eqb (length (a .names) % 2) 0 && between 1 (length (Calls.namesIn (a .names))) 64 && Calls.namesRising 0 (Calls.namesIn (a .names)) && leb (a .choice) 1) _ h in
     let b = yes-first 11 (between 1 (a .capacity) 64 && leb (length (Calls.namesIn (a .names))) (a .capacity) && between 1 (a .fileLength) 4_096 && eqb (length t) (16 + a .capacity * stride (a .fileLength))) _ (x .1) in
-    let a1 = and-l (eqb (length (a .names) % 2) 0 && between 1 (length (Calls.namesIn (a .names))) 64) _ (x .0) in
+    let a0 = and-l (eqb (length (a .names) % 2) 0 && between 1 (length (Calls.namesIn (a .names))) 64 && Calls.namesRising 0 (Calls.namesIn (a .names))) _ (x .0) in
+    let a1 = and-l (eqb (length (a .names) % 2) 0 && between 1 (length (Calls.namesIn (a .names))) 64) _ a0 in
     let b1 = and-l (between 1 (a .capacity) 64 && leb (length (Calls.namesIn (a .names))) (a .capacity) && between 1 (a .fileLength) 4_096) _ (b .0) in
     let b2 = and-l (between 1 (a .capacity) 64 && leb (length (Calls.namesIn (a .names))) (a .capacity)) _ b1 in
     record {
@@ -53,7 +56,7 @@ founds-of t a h =
       room = leb-true _ _ (and-r (between 1 (a .capacity) 64) _ b2);
       most = between-is 1 (a .capacity) 64 (and-l _ _ b2) .1;
       bytes = between-is 1 (a .fileLength) 4_096 (and-r (between 1 (a .capacity) 64 && leb (length (Calls.namesIn (a .names))) (a .capacity)) _ b1);
-      rising = and-r (eqb (length (a .names) % 2) 0 && between 1 (length (Calls.namesIn (a .names))) 64) _ (x .0);
+      rising = and-r (eqb (length (a .names) % 2) 0 && between 1 (length (Calls.namesIn (a .names))) 64) _ a0;
     }
 
 -- ---- the pieces
@@ -61,35 +64,35 @@ pub length-header : (c n file : ℕ) → length (Calls.foundedHeader c n file) �
 unfolding Calls.foundedHeader zeros bytesOf
 length-header c n file = refl
 
-length-row : (n body i x : ℕ) → length (Calls.foundedRow n body i x) ≡ 32 + body
+length-row : (n : ℕ) (all : Laid) (body i x : ℕ) → length (Calls.foundedRow n all body i x) ≡ 32 + body
 unfolding Calls.foundedRow
-length-row n body i x = simp (length-append, length-bytes, length-zeros) (omega arith)
+length-row n all body i x = simp (length-append, length-bytes, length-zeros) (omega arith)
 
-pub length-rows : (n body i : ℕ) (l : List ℕ) → length (Calls.foundedRows n body i l) ≡ length l * (32 + body)
+pub length-rows : (n : ℕ) (all : Laid) (body i : ℕ) (l : List ℕ) → length (Calls.foundedRows n all body i l) ≡ length l * (32 + body)
 unfolding Calls.foundedRows
-length-rows n body i [] = sym (zero-mul (32 + body))
-length-rows n body i (x ∷ l) =
-    length-append (Calls.foundedRow n body i x) _ ∙ ap₂ (λ (a b : ℕ). a + b) (length-row n body i x) (length-rows n body (suc i) l) ∙ omega (arith, suc-mul (length l) (32 + body))
+length-rows n all body i [] = sym (zero-mul (32 + body))
+length-rows n all body i (x ∷ l) =
+    length-append (Calls.foundedRow n all body i x) _ ∙ ap₂ (λ (a b : ℕ). a + b) (length-row n all body i x) (length-rows n all body (suc i) l) ∙ omega (arith, suc-mul (length l) (32 + body))
 
 -- the rows one after another: row i + k
-rows-at : (n body : ℕ) (l : List ℕ) (i k : ℕ) (tail : List ℕ) → k < length l
-    → part (k * (32 + body)) (32 + body) (Calls.foundedRows n body i l ++ tail) ≡ Calls.foundedRow n body (i + k) (getD l k 0)
+rows-at : (n : ℕ) (all : Laid) (body : ℕ) (l : List ℕ) (i k : ℕ) (tail : List ℕ) → k < length l
+    → part (k * (32 + body)) (32 + body) (Calls.foundedRows n all body i l ++ tail) ≡ Calls.foundedRow n all body (i + k) (getD l k 0)
 unfolding Calls.foundedRows part
-rows-at n body [] i k tail h = absurd (not-suc-le-zero h)
-rows-at n body (x ∷ l) i zero tail h =
+rows-at n all body [] i k tail h = absurd (not-suc-le-zero h)
+rows-at n all body (x ∷ l) i zero tail h =
     let z : 0 * (32 + body) ≡ 0 = zero-mul (32 + body) in
     let q : i + 0 ≡ i = omega arith in
-    rw (z, q, append-assoc (Calls.foundedRow n body i x) (Calls.foundedRows n body (suc i) l) tail) (take-at (Calls.foundedRow n body i x) _ (32 + body) (length-row n body i x))
-rows-at n body (x ∷ l) i (suc k) tail h =
+    rw (z, q, append-assoc (Calls.foundedRow n all body i x) (Calls.foundedRows n all body (suc i) l) tail) (take-at (Calls.foundedRow n all body i x) _ (32 + body) (length-row n all body i x))
+rows-at n all body (x ∷ l) i (suc k) tail h =
     let z : suc k * (32 + body) ≡ (32 + body) + k * (32 + body) = omega (arith, suc-mul k (32 + body)) in
     let q : suc i + k ≡ i + suc k = omega arith in
     rw (
       z,
-      ← (drop-drop (k * (32 + body)) (32 + body) ((Calls.foundedRow n body i x ++ Calls.foundedRows n body (suc i) l) ++ tail)),
-      append-assoc (Calls.foundedRow n body i x) (Calls.foundedRows n body (suc i) l) tail,
-      drop-at (Calls.foundedRow n body i x) (Calls.foundedRows n body (suc i) l ++ tail) (32 + body) (length-row n body i x),
+      ← (drop-drop (k * (32 + body)) (32 + body) ((Calls.foundedRow n all body i x ++ Calls.foundedRows n all body (suc i) l) ++ tail)),
+      append-assoc (Calls.foundedRow n all body i x) (Calls.foundedRows n all body (suc i) l) tail,
+      drop-at (Calls.foundedRow n all body i x) (Calls.foundedRows n all body (suc i) l ++ tail) (32 + body) (length-row n all body i x),
     )
-    (rows-at n body l (suc i) k tail (le-of-suc-le-suc h) ∙ ap (λ (j : ℕ). Calls.foundedRow n body j (getD l k 0)) q)
+    (rows-at n all body l (suc i) k tail (le-of-suc-le-suc h) ∙ ap (λ (j : ℕ). Calls.foundedRow n all body j (getD l k 0)) q)
 
 module _ (a : Calls.Founding) (f : Founds a) where
   abbrev c : ℕ
@@ -104,70 +107,76 @@ module _ (a : Calls.Founding) (f : Founds a) where
   abbrev names : List ℕ
   names = Calls.namesIn (a .names)
 
+  abbrev choice : ℕ
+  choice = a .choice
+
+  abbrev all : Laid
+  all = Calls.foundedList (a .choice) (length (Calls.namesIn (a .names)))
+
   n : ℕ
   n = length names
 
   t : List ℕ
-  t = Calls.founded c file names
+  t = Calls.founded choice c file names
 
   tail : List ℕ
   tail = zeros ((c - length names) * stride file)
 
   rows : List ℕ
-  rows = Calls.foundedRows (length names) body 1 names
+  rows = Calls.foundedRows (length names) all body 1 names
 
   after-header : drop 16 t ≡ rows ++ tail
   unfolding t rows tail Calls.founded n
   after-header = drop-at (Calls.foundedHeader c (length names) file) _ 16 (length-header c (length names) file)
 
   -- ---- the header
-  pub founded-capacity : capacityOf (Calls.founded c file names) ≡ c
+  pub founded-capacity : capacityOf (Calls.founded choice c file names) ≡ c
   unfolding Calls.founded Calls.foundedHeader capacityOf get capacity part number bytesOf zeros
   founded-capacity = omega arith
 
-  pub founded-used : usedOf (Calls.founded c file names) ≡ length names
+  pub founded-used : usedOf (Calls.founded choice c file names) ≡ length names
   unfolding Calls.founded Calls.foundedHeader usedOf get used part number bytesOf zeros
   founded-used = omega arith
 
-  pub founded-first : firstOf (Calls.founded c file names) ≡ 1
+  pub founded-first : firstOf (Calls.founded choice c file names) ≡ 1
   unfolding Calls.founded Calls.foundedHeader firstOf get first part number bytesOf zeros
   founded-first = refl
 
-  pub founded-file : fileLengthOf (Calls.founded c file names) ≡ file
+  pub founded-file : fileLengthOf (Calls.founded choice c file names) ≡ file
   unfolding Calls.founded Calls.foundedHeader fileLengthOf get fileLength part zeros bytesOf
   founded-file = number-bytes 2 file (omega (arith, f .bytes))
 
-  header-form : get form (Calls.founded c file names) ≡ formValue
+  header-form : get form (Calls.founded choice c file names) ≡ formValue
   unfolding Calls.founded Calls.foundedHeader get form formValue part number bytesOf zeros
   header-form = refl
 
-  header-rest : allZero (part 6 10 (Calls.founded c file names)) ≡ true
+  header-rest : allZero (part 6 10 (Calls.founded choice c file names)) ≡ true
   unfolding Calls.founded Calls.foundedHeader part allZero bytesOf zeros
   header-rest = refl
 
-  founded-bytes : length (Calls.founded c file names) ≡ 16 + c * stride file
+  founded-bytes : length (Calls.founded choice c file names) ≡ 16 + c * stride file
   unfolding Calls.founded stride
   founded-bytes = simp (length-append, length-header, length-rows, length-zeros) (omega (arith, f .room, split))
     where
       split : length names * stride file + (c - length names) * stride file ≡ c * stride file
       split = sym (add-mul (length names) (c - length names) (stride file)) ∙ ap (λ (x : ℕ). x * stride file) (omega (arith, f .room))
 
-  founded-length : rowLength (Calls.founded c file names) ≡ stride file
+  founded-length : rowLength (Calls.founded choice c file names) ≡ stride file
   unfolding rowLength
   founded-length = ap stride founded-file
 
-  founded-end : (k : ℕ) → rowsEnd (Calls.founded c file names) k ≡ 16 + k * stride file
+  founded-end : (k : ℕ) → rowsEnd (Calls.founded choice c file names) k ≡ 16 + k * stride file
   unfolding rowsEnd
   founded-end k = ap (λ (w : ℕ). 16 + k * w) founded-length
 
   -- ---- the rows
-  pub founded-row : (k : ℕ) → k < length names → rowBytes (Calls.founded c file names) (suc k) ≡ Calls.foundedRow (length names) body (suc k) (getD names k 0)
+  pub founded-row : (k : ℕ) → k < length names → rowBytes (Calls.founded choice c file names) (suc k) ≡ Calls.foundedRow (length names) all body (suc k) (getD names k 0)
   unfolding rowBytes block part t rows tail stride
   founded-row k h =
-      ap (λ (m : ℕ). take m (drop (16 + k * m) (Calls.founded c file names))) founded-length
-      ∙ ap (take (stride file)) (sym (drop-drop (k * stride file) 16 (Calls.founded c file names)) ∙ ap (drop (k * stride file)) after-header)
-      ∙ rows-at (length names) body names 1 k (zeros ((c - length names) * stride file)) h
-      ∙ ap (λ (j : ℕ). Calls.foundedRow (length names) body j (getD names k 0)) (one-add k)
+      ap (λ (m : ℕ). take m (drop (16 + k * m) (Calls.founded choice c file names))) founded-length
+      ∙ ap (take (stride file)) (sym (drop-drop (k * stride file) 16 (Calls.founded choice c file names)) ∙ ap (drop (k * stride file)) after-header)
+      ∙ rows-at (length names) all body names 1 k (zeros ((c - length names) * stride file)) h
+      ∙ ap (λ (j : ℕ). Calls.foundedRow (length names) all body j (getD names k 0)) (one-add k)
 
   -- each name is one of 1 to 65,535
   named : (a : ℕ) (l : List ℕ) → Calls.namesRising a l ≡ true → (k : ℕ) → k < length l → Within 65_535 (getD l k 0)
@@ -188,53 +197,53 @@ module _ (a : Calls.Founding) (f : Founds a) where
   -- ---- one row's fields
   module _ (i x : ℕ) (w : Within (length names) i) (h : Within 65_535 x) where
     row : List ℕ
-    row = Calls.foundedRow (length names) body i x
+    row = Calls.foundedRow (length names) all body i x
 
-    row-name : get name (Calls.foundedRow (length names) body i x) ≡ x
+    row-name : get name (Calls.foundedRow (length names) all body i x) ≡ x
     unfolding Calls.foundedRow get name part zeros bytesOf
     row-name = number-bytes 2 x (omega arith)
 
-    row-link : get link (Calls.foundedRow (length names) body i x) ≡ cond (eqb i (length names)) 0 (i + 1)
+    row-link : get link (Calls.foundedRow (length names) all body i x) ≡ cond (eqb i (length names)) 0 (i + 1)
     unfolding Calls.foundedRow get link part number zeros bytesOf
     row-link = omega arith
 
-    row-members : get members (Calls.foundedRow (length names) body i x) ≡ 2 ^ length names - 1
-    unfolding Calls.foundedRow laidNow get members part zeros bytesOf
+    row-members : get members (Calls.foundedRow (length names) all body i x) ≡ 2 ^ length names - 1
+    unfolding Calls.foundedRow Calls.foundedList laidNow get members part zeros bytesOf
     row-members = number-bytes 8 (2 ^ length names - 1) list-fits
 
-    row-grid : get gridMark (Calls.foundedRow (length names) body i x) ≡ newMark (count 64 (has (2 ^ length names - 1)))
-    unfolding Calls.foundedRow laidNow get gridMark part zeros bytesOf
-    row-grid = number-bytes 1 (newMark (count 64 (has (2 ^ length names - 1)))) (new-mark-small (count 64 (has (2 ^ length names - 1))))
+    row-grid : get gridMark (Calls.foundedRow (length names) all body i x) ≡ newMark (eqb choice 1) (count 64 (has (2 ^ length names - 1)))
+    unfolding Calls.foundedRow Calls.foundedList laidNow get gridMark part zeros bytesOf
+    row-grid = number-bytes 1 (newMark (eqb choice 1) (count 64 (has (2 ^ length names - 1)))) (new-mark-small (eqb choice 1) (count 64 (has (2 ^ length names - 1))))
 
-    pub row-list : list (Calls.foundedRow (length names) body i x) ≡ laidNow (2 ^ length names - 1)
-    unfolding laidNow
+    pub row-list : list (Calls.foundedRow (length names) all body i x) ≡ Calls.foundedList (a .choice) (length names)
+    unfolding laidNow Calls.foundedList
     row-list = list-is _ _ row-members row-grid
 
-    pub zero-mark : get mark (Calls.foundedRow (length names) body i x) ≡ 0
+    pub zero-mark : get mark (Calls.foundedRow (length names) all body i x) ≡ 0
     unfolding Calls.foundedRow get mark part number zeros bytesOf
     zero-mark = refl
 
-    pub zero-version : get version (Calls.foundedRow (length names) body i x) ≡ 0
+    pub zero-version : get version (Calls.foundedRow (length names) all body i x) ≡ 0
     unfolding Calls.foundedRow get version part number zeros bytesOf
     zero-version = refl
 
-    pub zero-desired : get desired (Calls.foundedRow (length names) body i x) ≡ 0
+    pub zero-desired : get desired (Calls.foundedRow (length names) all body i x) ≡ 0
     unfolding Calls.foundedRow get desired part number zeros bytesOf
     zero-desired = refl
 
-    pub zero-epoch : get epoch (Calls.foundedRow (length names) body i x) ≡ 0
+    pub zero-epoch : get epoch (Calls.foundedRow (length names) all body i x) ≡ 0
     unfolding Calls.foundedRow get epoch part number zeros bytesOf
     zero-epoch = refl
 
-    spare-zero : allZero (reserved (Calls.foundedRow (length names) body i x)) ≡ true
+    spare-zero : allZero (reserved (Calls.foundedRow (length names) all body i x)) ≡ true
     unfolding Calls.foundedRow reserved part allZero zeros bytesOf
     spare-zero = refl
 
-    pub row-contents : contents (Calls.foundedRow (length names) body i x) ≡ zeros file
+    pub row-contents : contents (Calls.foundedRow (length names) all body i x) ≡ zeros file
     unfolding Calls.foundedRow part zeros bytesOf stride
-    row-contents = contents-part (Calls.foundedRow (length names) body i x) file (length-row (length names) body i x) ∙ first-zeros file body (body-room file)
+    row-contents = contents-part (Calls.foundedRow (length names) all body i x) file (length-row (length names) all body i x) ∙ first-zeros file body (body-room file)
 
-    row-facts : RowFacts (length names) i (Calls.foundedRow (length names) body i x)
+    row-facts : RowFacts (length names) i (Calls.foundedRow (length names) all body i x)
     unfolding limit
     row-facts = record {
       named = rw row-name h;
@@ -248,7 +257,7 @@ module _ (a : Calls.Founding) (f : Founds a) where
       level = λ e. zero-desired;
       only = rw row-members (ones-lt (length names));
       own = λ e. rw row-members (has-all (length names) i w);
-      grid = rw (row-grid, row-members) (new-mark-fits (count 64 (has (2 ^ length names - 1))));
+      grid = rw (row-grid, row-members) (new-mark-fits (eqb choice 1) (count 64 (has (2 ^ length names - 1))) (count-one 64 (has (2 ^ length names - 1)) i (omega (arith, w, f .room, f .most)) (has-all (length names) i w)));
     }
       where
         go : Dec (i ≡ length names) → cond (eqb i (length names)) 0 (i + 1) ≤ length names
@@ -256,51 +265,51 @@ module _ (a : Calls.Founding) (f : Founds a) where
         go (no d) = rw (ne-eqb i (length names) d) (omega arith)
 
   -- ---- what row i says
-  pub at-row : (P : ℕ → List ℕ → Type 0) → ((i x : ℕ) → Within (length names) i → Within 65_535 x → P i (Calls.foundedRow (length names) body i x))
-      → (i : ℕ) → Within (length names) i → P i (rowBytes (Calls.founded c file names) i)
+  pub at-row : (P : ℕ → List ℕ → Type 0) → ((i x : ℕ) → Within (length names) i → Within 65_535 x → P i (Calls.foundedRow (length names) all body i x))
+      → (i : ℕ) → Within (length names) i → P i (rowBytes (Calls.founded choice c file names) i)
   at-row P g zero w = absurd (omega arith)
   at-row P g (suc k) w = subst (P (suc k)) (sym (founded-row k (omega arith))) (g (suc k) (getD names k 0) w (named 0 names (f .rising) k (omega arith)))
 
-  pub founded-name : (i : ℕ) → Within (length names) i → nameOf (Calls.founded c file names) i ≡ getD names (i - 1) 0
+  pub founded-name : (i : ℕ) → Within (length names) i → nameOf (Calls.founded choice c file names) i ≡ getD names (i - 1) 0
   unfolding nameOf
   founded-name zero w = absurd (omega arith)
   founded-name (suc k) w =
       let z : suc k - 1 ≡ k = omega arith in
       rw z (ap (get name) (founded-row k (omega arith)) ∙ row-name (suc k) (getD names k 0) w (named 0 names (f .rising) k (omega arith)))
 
-  founded-link : (i : ℕ) → Within (length names) i → linkOf (Calls.founded c file names) i ≡ cond (eqb i (length names)) 0 (i + 1)
+  founded-link : (i : ℕ) → Within (length names) i → linkOf (Calls.founded choice c file names) i ≡ cond (eqb i (length names)) 0 (i + 1)
   unfolding linkOf
   founded-link zero w = absurd (omega arith)
   founded-link (suc k) w = ap (get link) (founded-row k (omega arith)) ∙ row-link (suc k) (getD names k 0) w (named 0 names (f .rising) k (omega arith))
 
   -- ---- the chain: rows 1, 2, .. to the last
-  chain-up : (k j m : ℕ) → j + suc k ≡ length names → suc k ≤ m → chain (linkOf (Calls.founded c file names)) m (suc j) ≡ upward (suc k) (suc j)
+  chain-up : (k j m : ℕ) → j + suc k ≡ length names → suc k ≤ m → chain (linkOf (Calls.founded choice c file names)) m (suc j) ≡ upward (suc k) (suc j)
   unfolding chain upward
   chain-up zero j zero e l = absurd (omega arith)
   chain-up zero j (suc m) e l =
-      let here : linkOf (Calls.founded c file names) (suc j) ≡ 0 = founded-link (suc j) (omega arith) ∙ rw (eq-eqb (suc j) (length names) (omega arith)) in
-      ap (λ (l : List ℕ). suc j ∷ l) (ap (chain (linkOf (Calls.founded c file names)) m) here ∙ stops m)
+      let here : linkOf (Calls.founded choice c file names) (suc j) ≡ 0 = founded-link (suc j) (omega arith) ∙ rw (eq-eqb (suc j) (length names) (omega arith)) in
+      ap (λ (l : List ℕ). suc j ∷ l) (ap (chain (linkOf (Calls.founded choice c file names)) m) here ∙ stops m)
     where
-      stops : (m : ℕ) → chain (linkOf (Calls.founded c file names)) m 0 ≡ []
+      stops : (m : ℕ) → chain (linkOf (Calls.founded choice c file names)) m 0 ≡ []
       stops zero = refl
       stops (suc m) = refl
   chain-up (suc k) j zero e l = absurd (omega arith)
   chain-up (suc k) j (suc m) e l =
-      let here : linkOf (Calls.founded c file names) (suc j) ≡ suc (suc j) =
+      let here : linkOf (Calls.founded choice c file names) (suc j) ≡ suc (suc j) =
       founded-link (suc j) (omega arith) ∙ rw (ne-eqb (suc j) (length names) (λ q. omega arith)) (omega arith) in
-      ap (λ (l : List ℕ). suc j ∷ l) (ap (chain (linkOf (Calls.founded c file names)) m) here ∙ chain-up k (suc j) m (omega arith) (omega arith))
+      ap (λ (l : List ℕ). suc j ∷ l) (ap (chain (linkOf (Calls.founded choice c file names)) m) here ∙ chain-up k (suc j) m (omega arith) (omega arith))
 
-  path-is : (m : ℕ) → length names ≤ m → chain (linkOf (Calls.founded c file names)) m 1 ≡ upward (length names) 1
+  path-is : (m : ℕ) → length names ≤ m → chain (linkOf (Calls.founded choice c file names)) m 1 ≡ upward (length names) 1
   path-is m l =
       let e : suc (length names - 1) ≡ length names = omega (arith, f .some) in
       chain-up (length names - 1) 0 m (omega (arith, f .some)) (omega (arith, f .some)) ∙ ap (λ (x : ℕ). upward x 1) e
 
-  pub founded-order : orderOf (Calls.founded c file names) ≡ upward (length names) 1
+  pub founded-order : orderOf (Calls.founded choice c file names) ≡ upward (length names) 1
   unfolding orderOf
-  founded-order = ap₂ (chain (linkOf (Calls.founded c file names))) founded-used founded-first ∙ path-is (length names) (omega arith)
+  founded-order = ap₂ (chain (linkOf (Calls.founded choice c file names))) founded-used founded-first ∙ path-is (length names) (omega arith)
 
-  founded-path : chain (linkOf (Calls.founded c file names)) (suc (usedOf (Calls.founded c file names))) (firstOf (Calls.founded c file names)) ≡ upward (length names) 1
-  founded-path = ap₂ (λ (m i : ℕ). chain (linkOf (Calls.founded c file names)) (suc m) i) founded-used founded-first ∙ path-is (suc (length names)) (omega arith)
+  founded-path : chain (linkOf (Calls.founded choice c file names)) (suc (usedOf (Calls.founded choice c file names))) (firstOf (Calls.founded choice c file names)) ≡ upward (length names) 1
+  founded-path = ap₂ (λ (m i : ℕ). chain (linkOf (Calls.founded choice c file names)) (suc m) i) founded-used founded-first ∙ path-is (suc (length names)) (omega arith)
 
   length-upward : (k j : ℕ) → length (upward k j) ≡ k
   unfolding upward
@@ -316,33 +325,33 @@ module _ (a : Calls.Founding) (f : Founds a) where
       go (yes e) ih = or-r (among (upward k (suc j)) i) _ (eq-eqb j i e)
       go (no d) ih = or-l _ (eqb j i) (ih (omega arith) (omega arith))
 
-  founded-visits : visitsEach (Calls.founded c file names) ≡ true
+  founded-visits : visitsEach (Calls.founded choice c file names) ≡ true
   unfolding visitsEach
   founded-visits =
       rw (founded-path, founded-used) (and-i (eqb (length (upward (length names) 1)) (length names)) _ (eq-eqb _ _ (length-upward (length names) 1))
       (every-of (length names) _ (λ i w. among-upward (length names) 1 i (omega arith) (omega arith))))
 
   -- names rise along the rows from row j + 1 on as they do in the list
-  rise-from : (l : List ℕ) (a j : ℕ) → Calls.namesRising a l ≡ true → ((k : ℕ) → k < length l → nameOf (Calls.founded c file names) (suc j + k) ≡ getD l k 0)
-      → risesFrom a (nameOf (Calls.founded c file names)) (upward (length l) (suc j)) ≡ true
+  rise-from : (l : List ℕ) (a j : ℕ) → Calls.namesRising a l ≡ true → ((k : ℕ) → k < length l → nameOf (Calls.founded choice c file names) (suc j + k) ≡ getD l k 0)
+      → risesFrom a (nameOf (Calls.founded choice c file names)) (upward (length l) (suc j)) ≡ true
   unfolding upward risesFrom Calls.namesRising
   rise-from [] a j h g = refl
   rise-from (x ∷ l) a j h g =
       let z : suc j + 0 ≡ suc j = omega arith in
-      let here : nameOf (Calls.founded c file names) (suc j) ≡ x = ap (nameOf (Calls.founded c file names)) (sym z) ∙ g 0 (omega arith) in
+      let here : nameOf (Calls.founded choice c file names) (suc j) ≡ x = ap (nameOf (Calls.founded choice c file names)) (sym z) ∙ g 0 (omega arith) in
       rw here (and-i (ltb a x) _ (and-l _ _ (and-l (ltb a x && leb x 65_535) _ h))
       (rise-from l x (suc j) (and-r (ltb a x && leb x 65_535) _ h) (λ k q.
-      let s : suc (suc j) + k ≡ suc j + suc k = omega arith in ap (nameOf (Calls.founded c file names)) s ∙ g (suc k) (omega arith))))
+      let s : suc (suc j) + k ≡ suc j + suc k = omega arith in ap (nameOf (Calls.founded choice c file names)) s ∙ g (suc k) (omega arith))))
 
-  founded-rise : namesRise (Calls.founded c file names) ≡ true
+  founded-rise : namesRise (Calls.founded choice c file names) ≡ true
   unfolding namesRise
   founded-rise = rw founded-path (rise-from names 0 0 (f .rising) (λ k q.
       let s : 1 + k ≡ suc k = omega arith in
       let z : suc k - 1 ≡ k = omega arith in
-      ap (nameOf (Calls.founded c file names)) s ∙ founded-name (suc k) (omega arith) ∙ ap (λ (m : ℕ). getD names m 0) z))
+      ap (nameOf (Calls.founded choice c file names)) s ∙ founded-name (suc k) (omega arith) ∙ ap (λ (m : ℕ). getD names m 0) z))
 
   -- ---- the rest of question 1
-  founded-header : headerValues (Calls.founded c file names) ≡ true
+  founded-header : headerValues (Calls.founded choice c file names) ≡ true
   unfolding headerValues formValue
   founded-header = rw (
     founded-capacity,
@@ -357,31 +366,32 @@ module _ (a : Calls.Founding) (f : Founds a) where
   )
       (and-i _ true (is-between 1 file 4_096 (f .bytes .0) (f .bytes .1)) refl)
     where
-      founded-form : get form (Calls.founded c file names) ≡ formValue
+      founded-form : get form (Calls.founded choice c file names) ≡ formValue
       founded-form = header-form
 
-      founded-rest : allZero (part 6 10 (Calls.founded c file names)) ≡ true
+      founded-rest : allZero (part 6 10 (Calls.founded choice c file names)) ≡ true
       founded-rest = header-rest
 
-  founded-tail : drop (rowsEnd (Calls.founded c file names) (length names)) (Calls.founded c file names) ≡ zeros ((c - length names) * stride file)
+  founded-tail : drop (rowsEnd (Calls.founded choice c file names) (length names)) (Calls.founded choice c file names) ≡ zeros ((c - length names) * stride file)
   unfolding t rows tail stride
   founded-tail =
-      ap (λ (a : ℕ). drop a (Calls.founded c file names)) (founded-end (length names))
-      ∙ sym (drop-drop (length names * stride file) 16 (Calls.founded c file names)) ∙ ap (drop (length names * stride file)) after-header
-      ∙ drop-at rows tail (length names * stride file) (length-rows (length names) body 1 names)
+      ap (λ (a : ℕ). drop a (Calls.founded choice c file names)) (founded-end (length names))
+      ∙ sym (drop-drop (length names * stride file) 16 (Calls.founded choice c file names)) ∙ ap (drop (length names * stride file)) after-header
+      ∙ drop-at rows tail (length names * stride file) (length-rows (length names) all body 1 names)
 
-  founded-zero : unusedZero (Calls.founded c file names) ≡ true
+  founded-zero : unusedZero (Calls.founded choice c file names) ≡ true
   unfolding unusedZero
-  founded-zero = ap allZero (ap (λ (k : ℕ). drop (rowsEnd (Calls.founded c file names) k) (Calls.founded c file names)) founded-used ∙ founded-tail) ∙ zeros-zero ((c - length names) * stride file)
+  founded-zero = ap allZero (ap (λ (k : ℕ). drop (rowsEnd (Calls.founded choice c file names) k) (Calls.founded choice c file names)) founded-used ∙ founded-tail) ∙ zeros-zero ((c - length names) * stride file)
 
-  founded-long : lengthRight (Calls.founded c file names) ≡ true
+  founded-long : lengthRight (Calls.founded choice c file names) ≡ true
   unfolding lengthRight
-  founded-long = eq-eqb _ _ (founded-bytes ∙ sym (ap (rowsEnd (Calls.founded c file names)) founded-capacity ∙ founded-end c))
+  founded-long = eq-eqb _ _ (founded-bytes ∙ sym (ap (rowsEnd (Calls.founded choice c file names)) founded-capacity ∙ founded-end c))
 
-  listed : (i : ℕ) → Within (length names) i → list (rowBytes (Calls.founded c file names) i) ≡ laidNow (2 ^ length names - 1)
-  listed = at-row (λ i r. list r ≡ laidNow (2 ^ length names - 1)) row-list
+  listed : (i : ℕ) → Within (length names) i → list (rowBytes (Calls.founded choice c file names) i) ≡ Calls.foundedList (a .choice) (length names)
+  listed = at-row (λ i r. list r ≡ Calls.foundedList (a .choice) (length names)) row-list
 
-  pub founded-formed : Formed (Calls.founded c file names)
+  pub founded-formed : Formed (Calls.founded choice c file names)
+  unfolding listOf
   founded-formed = record {
     header = founded-header;
     long = founded-long;
@@ -390,4 +400,5 @@ module _ (a : Calls.Founding) (f : Founds a) where
     rise = founded-rise;
     zero = founded-zero;
     agree = rw founded-used (λ i j u v p q e. listed i u ∙ sym (listed j v));
+    shape = rw founded-used (λ i j u v p q. ap isTall (listed i u ∙ sym (listed j v)));
   }

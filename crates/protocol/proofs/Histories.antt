@@ -9,8 +9,8 @@ use Rattle.fields.specs.Layout.{stride, rowBytes, contentsOf}
 use Rattle.protocol.specs.Calls.{Call, founding, join, read, write, send, check, outcome}
 
 -- ---- calls by their arguments, in the order of their fields
-unfoldable pub fo : (capacity fileLength : ℕ) (names : List ℕ) → Call
-fo capacity fileLength names = founding (record { capacity = capacity; fileLength = fileLength; names = names })
+unfoldable pub fo : (capacity fileLength : ℕ) (names : List ℕ) (choice : ℕ) → Call
+fo capacity fileLength names choice = founding (record { capacity = capacity; fileLength = fileLength; names = names; choice = choice })
 
 unfoldable pub jn : (name : ℕ) → Call
 jn name = join (record { name = name })
@@ -39,6 +39,7 @@ pub record History : Type 0 where
   pub capacity : ℕ
   pub fileLength : ℕ
   pub names : List ℕ
+  pub choice : ℕ
   pub steps : List Step
 
 unfoldable pub same : List ℕ → List ℕ → Bool
@@ -58,7 +59,7 @@ stepsHold t (Contents i bytes ∷ ss) = same (contentsOf t i) bytes && stepsHold
 -- the founding is made on a table of ones, which leave no trace
 unfoldable pub replays : History → Bool
 replays h =
-    let o = outcome (replicate (16 + h .capacity * stride (h .fileLength)) 1) (fo (h .capacity) (h .fileLength) (h .names)) in
+    let o = outcome (replicate (16 + h .capacity * stride (h .fileLength)) 1) (fo (h .capacity) (h .fileLength) (h .names) (h .choice)) in
     eqb (o .refusal) 0 && stepsHold (o .table) (h .steps)
 
 unfoldable pub allReplay : List History → Bool
@@ -72,6 +73,7 @@ histories =
       capacity = 4;
       fileLength = 4;
       names = 1 ∷ 0 ∷ 2 ∷ 0 ∷ 3 ∷ 0 ∷ 4 ∷ 0 ∷ [];
+      choice = 0;
       steps =
           Made (wr 1 7 0 (9 ∷ [])) 0 1 [] ∷
           Made (rd 4 12 0 1 (0 ∷ [])) 0 1 (9 ∷ []) ∷
@@ -87,6 +89,7 @@ histories =
       capacity = 5;
       fileLength = 3;
       names = 10 ∷ 0 ∷ 20 ∷ 0 ∷ 30 ∷ 0 ∷ 40 ∷ 0 ∷ [];
+      choice = 0;
       steps =
           Made (wr 1 7 1 (7 ∷ 8 ∷ [])) 0 1 [] ∷
           Made (wr 1 11 0 (9 ∷ [])) 0 2 [] ∷
@@ -105,6 +108,7 @@ histories =
       capacity = 4;
       fileLength = 2;
       names = 10 ∷ 0 ∷ 20 ∷ 0 ∷ 30 ∷ 0 ∷ 40 ∷ 0 ∷ [];
+      choice = 0;
       steps =
           Made (wr 1 7 0 (1 ∷ [])) 0 1 [] ∷
           Made (wr 1 11 1 (2 ∷ [])) 0 2 [] ∷
@@ -125,6 +129,7 @@ histories =
       capacity = 4;
       fileLength = 2;
       names = 10 ∷ 0 ∷ 20 ∷ 0 ∷ 30 ∷ 0 ∷ 40 ∷ 0 ∷ [];
+      choice = 0;
       steps =
           Made (ck 1 7) 0 1 [] ∷
           Made (wr 1 3 0 (4 ∷ [])) 0 1 [] ∷
@@ -142,6 +147,7 @@ histories =
       capacity = 3;
       fileLength = 1;
       names = 10 ∷ 0 ∷ 20 ∷ 0 ∷ 30 ∷ 0 ∷ [];
+      choice = 0;
       steps =
           Made (ck 1 3) 0 1 [] ∷
           Made (wr 1 7 0 (6 ∷ [])) 0 1 [] ∷
@@ -155,6 +161,7 @@ histories =
       capacity = 3;
       fileLength = 1;
       names = 10 ∷ 0 ∷ 20 ∷ 0 ∷ 30 ∷ 0 ∷ [];
+      choice = 0;
       steps =
           Made (wr 1 3 0 (5 ∷ [])) 0 1 [] ∷
           Made (rd 1 3 0 1 (0 ∷ [])) 0 1 (5 ∷ []) ∷
@@ -166,6 +173,7 @@ histories =
       capacity = 4;
       fileLength = 1;
       names = 1 ∷ 0 ∷ 2 ∷ 0 ∷ 3 ∷ 0 ∷ 4 ∷ 0 ∷ [];
+      choice = 0;
       steps =
           Made (wr 1 7 0 (1 ∷ [])) 0 1 [] ∷
           Made (wr 1 11 0 (2 ∷ [])) 0 2 [] ∷
@@ -179,6 +187,7 @@ histories =
       capacity = 2;
       fileLength = 2;
       names = 2 ∷ 1 ∷ 3 ∷ 2 ∷ [];
+      choice = 0;
       steps =
           Made (rd 3 3 0 1 (0 ∷ [])) 2 0 (0 ∷ []) ∷
           Made (rd 1 7 0 1 (0 ∷ [])) 2 0 (0 ∷ []) ∷
@@ -200,6 +209,7 @@ histories =
       capacity = 6;
       fileLength = 1;
       names = 9 ∷ 0 ∷ 10 ∷ 0 ∷ 12 ∷ 0 ∷ 16 ∷ 0 ∷ 20 ∷ 0 ∷ 25 ∷ 0 ∷ [];
+      choice = 0;
       steps =
           Made (wr 1 63 0 (1 ∷ [])) 0 1 [] ∷
           Head 1 (9 ∷ 0 ∷ 2 ∷ 0 ∷ 1 ∷ 0 ∷ 0 ∷ 0 ∷ 0 ∷ 0 ∷ 0 ∷ 0 ∷ 0 ∷ 0 ∷ 0 ∷ 0 ∷ 63 ∷ 0 ∷ 0 ∷ 0 ∷ 0 ∷ 0 ∷ 0 ∷ 0 ∷ 0 ∷ 0 ∷ 0 ∷ 0 ∷ 0 ∷ 0 ∷ 0 ∷ 0 ∷ []) ∷
@@ -229,6 +239,7 @@ histories =
       capacity = 4;
       fileLength = 1;
       names = 10 ∷ 0 ∷ 20 ∷ 0 ∷ 30 ∷ 0 ∷ 40 ∷ 0 ∷ [];
+      choice = 0;
       steps =
           Made (wr 4 15 0 (1 ∷ [])) 0 1 [] ∷
           Made (ck 2 11) 0 1 [] ∷
@@ -246,6 +257,7 @@ histories =
       capacity = 4;
       fileLength = 1;
       names = 10 ∷ 0 ∷ 20 ∷ 0 ∷ 30 ∷ 0 ∷ 40 ∷ 0 ∷ [];
+      choice = 0;
       steps =
           Made (ck 1 3) 6 0 [] ∷
           Made (rd 1 3 0 1 (9 ∷ [])) 0 0 (0 ∷ []) ∷
@@ -257,6 +269,7 @@ histories =
       capacity = 5;
       fileLength = 1;
       names = 10 ∷ 0 ∷ 30 ∷ 0 ∷ 40 ∷ 0 ∷ [];
+      choice = 0;
       steps =
           Made (jn 20) 0 4 [] ∷
           Head 1 ((10 ∷ 0 ∷ 4 ∷ zeros 13) ++ (7 ∷ zeros 15)) ∷
@@ -284,6 +297,7 @@ histories =
       capacity = 3;
       fileLength = 1;
       names = 10 ∷ 0 ∷ 20 ∷ 0 ∷ [];
+      choice = 0;
       steps =
           Made (jn 15) 0 3 [] ∷
           Made (wr 3 5 0 (6 ∷ [])) 6 0 [] ∷
@@ -297,6 +311,7 @@ histories =
       capacity = 3;
       fileLength = 1;
       names = 10 ∷ 0 ∷ 20 ∷ 0 ∷ [];
+      choice = 0;
       steps =
           Made (wr 1 3 0 (1 ∷ [])) 0 1 [] ∷
           Made (jn 30) 0 3 [] ∷
@@ -316,6 +331,7 @@ histories =
       capacity = 5;
       fileLength = 1;
       names = 10 ∷ 0 ∷ 20 ∷ 0 ∷ 30 ∷ 0 ∷ 40 ∷ 0 ∷ 50 ∷ 0 ∷ [];
+      choice = 0;
       steps =
           Head 3 ((30 ∷ 0 ∷ 4 ∷ zeros 13) ++ ((31 ∷ zeros 7) ++ (1 ∷ zeros 7))) ∷
           Made (rd 1 27 0 1 (9 ∷ [])) 0 0 (0 ∷ []) ∷
@@ -333,11 +349,33 @@ histories =
       capacity = 5;
       fileLength = 1;
       names = 10 ∷ 0 ∷ 20 ∷ 0 ∷ 30 ∷ 0 ∷ 40 ∷ 0 ∷ 50 ∷ 0 ∷ [];
+      choice = 0;
       steps =
           Made (wr 2 31 0 (5 ∷ [])) 0 1 [] ∷
           Contents 3 (5 ∷ []) ∷
           Contents 4 (0 ∷ []) ∷
           Contents 5 (5 ∷ []) ∷
+          [];
+    }
+    -- a tall table: either of two machines reads, both write; a check lays its list tall again, a list of five too
+    ∷ record {
+      capacity = 5;
+      fileLength = 1;
+      names = 10 ∷ 0 ∷ 20 ∷ 0 ∷ [];
+      choice = 1;
+      steps =
+          Head 2 ((20 ∷ 0 ∷ zeros 14) ++ ((3 ∷ zeros 7) ++ (2 ∷ zeros 7))) ∷
+          Made (rd 1 1 0 1 (9 ∷ [])) 0 0 (0 ∷ []) ∷
+          Made (wr 1 1 0 (7 ∷ [])) 6 0 [] ∷
+          Made (wr 2 3 0 (7 ∷ [])) 0 1 [] ∷
+          Made (rd 2 2 0 1 (9 ∷ [])) 0 1 (7 ∷ []) ∷
+          Made (jn 30) 0 3 [] ∷
+          Made (jn 40) 0 4 [] ∷
+          Made (jn 50) 0 5 [] ∷
+          Made (ck 3 31) 0 1 [] ∷
+          Head 5 ((50 ∷ 0 ∷ 0 ∷ 1 ∷ 0 ∷ 0 ∷ 0 ∷ 0 ∷ 1 ∷ 0 ∷ 0 ∷ 0 ∷ []) ++ ((1 ∷ 0 ∷ 0 ∷ 0 ∷ []) ++ ((31 ∷ zeros 7) ++ (2 ∷ zeros 7)))) ∷
+          Made (rd 1 3 0 1 (9 ∷ [])) 0 1 (7 ∷ []) ∷
+          Made (rd 1 5 0 1 (9 ∷ [])) 6 0 (9 ∷ []) ∷
           [];
     }
     ∷ []

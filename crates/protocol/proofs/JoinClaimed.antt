@@ -2,7 +2,7 @@
 use mathlib.Core.Path.{_≡_, refl, sym, _∙_, ap, ap₂, fun-ext}
 use mathlib.Core.Bool.{Bool, true, false, not, cond, _&&_, and-false, and-true}
 use mathlib.Core.Logic.{⊎-elim}
-use mathlib.Core.List.{List, _++_, append-assoc}
+use mathlib.Core.List.{List, _++_}
 use Prim.Native.Nat.{ℕ, zero, suc, _^_, _≤_, _<_}
 use native.Mathlib.Decide.{ℕ-discrete}
 use native.Mathlib.Omega.{arith}
@@ -10,7 +10,7 @@ use lib.Dec.{eqb, ltb}
 use lib.ListN.{take, drop}
 use lib.Seq.{take-add, drop-drop}
 use borrow.Author.Tests.{eqb-true, ne-eqb}
-use Rattle.bools.proofs.BoolLaws.{and-l, clash, same-test}
+use Rattle.bools.proofs.BoolLaws.{clash, same-test}
 use Rattle.sets.specs.Upto.{Within, some, count, lowest, most}
 use Rattle.sets.specs.Sets.{has, losing, cutTo}
 use Rattle.sets.proofs.UptoLaws.{last, some-none, some-ext}
@@ -21,7 +21,7 @@ use Rattle.bytes.specs.Bytes.{part}
 use Rattle.grid.specs.Sizes.{gridBy}
 use Rattle.quorums.specs.Quorums.{choice}
 use Rattle.fields.specs.declared.Laid.{Laid}
-use Rattle.fields.specs.Layout.{isEmpty, capacity, capacityOf, usedOf, firstOf, fileLengthOf, nameOf, linkOf, rowBytes}
+use Rattle.fields.specs.Layout.{isEmpty, capacity, capacityOf, usedOf, firstOf, nameOf, linkOf, rowBytes}
 use Rattle.table.specs.Chain.{orderOf}
 use Rattle.table.proofs.RisingLaws.{order-within}
 use Rattle.linking.specs.Linking.{lastOf, behind, inserted}

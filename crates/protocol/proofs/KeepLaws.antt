@@ -2,7 +2,7 @@
 use mathlib.Core.Path.{_≡_, refl, sym, _∙_, ap, subst}
 use mathlib.Core.Bool.{Bool, true, false, cond}
 use mathlib.Core.List.{List, []}
-use Prim.Native.Nat.{ℕ, zero, _+_, _-_, _^_, _≤_, _<_}
+use Prim.Native.Nat.{ℕ, zero, _+_, _^_, _≤_, _<_}
 use native.Mathlib.Decide.{ℕ-discrete}
 use native.Mathlib.Omega.{arith}
 use lib.Dec.{eqb}
@@ -11,17 +11,19 @@ use Rattle.sets.specs.Upto.{Within, count}
 use Rattle.grid.specs.Sizes.{markFits}
 use Rattle.grid.proofs.SizeLaws.{new-mark-fits}
 use Rattle.sets.specs.Sets.{has}
-use Rattle.bools.proofs.BoolLaws.{clash}
+use Rattle.bools.proofs.BoolLaws.{and-l, clash}
+use Rattle.sets.proofs.CountLaws.{count-one}
 use Rattle.quorums.specs.declared.Kind.the-variants.{Write}
 use Rattle.fields.specs.declared.Laid.{Laid}
-use Rattle.fields.specs.Layout.{get, name, link, desired, epoch, list, isEmpty, rowBytes, usedOf, epochOf, listOf, staleOf, versionOf, desiredOf}
+use Rattle.fields.specs.Layout.{get, name, link, desired, epoch, list, isEmpty, isTall, rowBytes, usedOf, epochOf, listOf, staleOf, versionOf, desiredOf}
 use Rattle.protocol.specs.Lists.{laidNow}
 use Rattle.table.specs.WellFormed.{limit}
-use Rattle.table.proofs.FormLaws.{RowFacts, Formed, formed, header-facts}
-use Rattle.protocol.specs.Polls.{polled, highestEpoch, goodVersion, good, current}
+use Rattle.table.proofs.FormLaws.{RowFacts, OneShape, Formed, formed, header-facts}
+use Rattle.protocol.specs.Polls.{polled, highestEpoch, inForce, goodVersion, good, current, quorumHeld}
 use Rattle.protocol.specs.Calls.{Writing, Sending, Checking, answers, workSet}
 use Rattle.protocol.proofs.RowLaws.{fieldAt, Becomes, fieldsOf, changed, listIn, relisted, becomes-list}
-use Rattle.protocol.proofs.PollLaws.{good-at, good-of, version-le, current-desired, worked-in}
+use Rattle.protocol.proofs.ListLaws.{laid-shape}
+use Rattle.protocol.proofs.PollLaws.{leads, good-at, good-of, version-le, current-desired, worked-in}
 use Rattle.protocol.proofs.FrameLaws.{same-used, same-header, same-long, same-visits, same-rise, zero-stays}
 use Rattle.protocol.proofs.QuestionLaws.{answered-used, WriteYes, SendYes, CheckYes}
 use Rattle.protocol.proofs.DoneLaws.{Leaves, write-used, writeTable, write-leaves, write-taken, write-marked, sendTable, send-leaves, send-target, checkTable, check-version, check-leaves, check-taken, check-marked}
@@ -70,13 +72,20 @@ still-agreed n w stay i j u v a b e =
     let y = stay j v in
     x .1 ∙ one-list w i j u v (rw (x .1) at a) (rw (y .1) at b) (sym (x .0) ∙ e ∙ y .0) ∙ sym (y .1)
 
+same-shape : {t : List ℕ} (u : List ℕ) → Formed t → ((i : ℕ) → Within (usedOf t) i → (epochOf u i ≡ epochOf t i) × (listOf u i ≡ listOf t i)) → OneShape u (usedOf t)
+same-shape n w stay i j u v a b =
+    let x = stay i u .1 in
+    let y = stay j v .1 in
+    ap isTall x ∙ w .shape i j u v (rw x at a) (rw y at b) ∙ sym (ap isTall y)
+
 -- a table whose changed rows are right, and whose rows agree on lists, is well formed
 keep-formed : {t u : List ℕ} {s : ℕ → Bool} → Formed t → Leaves t u s
     → ((i : ℕ) → Within (usedOf t) i → s i ≡ true → RowFacts (usedOf t) i (rowBytes u i))
     → Agreed u (usedOf t)
+    → OneShape u (usedOf t)
     → Formed u
 unfolding epochOf listOf
-keep-formed {t} {u} {s} w l facts agree = record {
+keep-formed {t} {u} {s} w l facts agree shape = record {
   header = same-header (l .frame) ∙ w .header;
   long = same-long (l .frame) ∙ w .long;
   rows = rw (same-used (l .frame)) (λ i v. go i v (s i) refl);
@@ -84,6 +93,7 @@ keep-formed {t} {u} {s} w l facts agree = record {
   rise = same-rise (l .frame) ∙ w .rise;
   zero = zero-stays (l .change) refl (same-used (l .frame)) ∙ w .zero;
   agree = rw (same-used (l .frame)) agree;
+  shape = rw (same-used (l .frame)) shape;
 }
   where
     go : (i : ℕ) → Within (usedOf t) i → (b : Bool) → s i ≡ b → RowFacts (usedOf t) i (rowBytes u i)
@@ -185,7 +195,7 @@ module _ (t : List ℕ) (a : Writing) (y : WriteYes t a) where
       go true m false g = let e = write-marked t a y i u m g in (e .fields 6 (omega arith), becomes-list e)
 
   pub write-formed : Formed (writeTable t a y)
-  write-formed = keep-formed ww (write-leaves t a y) write-facts (still-agreed _ ww write-membership)
+  write-formed = keep-formed ww (write-leaves t a y) write-facts (still-agreed _ ww write-membership) (same-shape _ ww write-membership)
 
 -- ---- a send
 module _ (t : List ℕ) (a : Sending) (y : SendYes t a) where
@@ -219,7 +229,7 @@ module _ (t : List ℕ) (a : Sending) (y : SendYes t a) where
           (let e = send-target t a y in (e .fields 6 (omega arith), becomes-list e))
 
   pub send-formed : Formed (sendTable t a y)
-  send-formed = keep-formed sw (send-leaves t a y) send-facts (still-agreed _ sw send-membership)
+  send-formed = keep-formed sw (send-leaves t a y) send-facts (still-agreed _ sw send-membership) (same-shape _ sw send-membership)
 
 -- ---- a check that changes the list
 module _ (t : List ℕ) (a : Checking) (y : CheckYes t a) (room : highestEpoch (answers t (a .r)) (has (a .r)) < limit) (cur : current (answers t (a .r)) (has (a .r)) ≡ true) where
@@ -228,6 +238,21 @@ module _ (t : List ℕ) (a : Checking) (y : CheckYes t a) (room : highestEpoch (
 
   check-used : (i : ℕ) → has (a .r) i ≡ true → Within (usedOf t) i
   check-used = answered-used t (a .c) (a .r) [] (y .first)
+
+  some : 1 ≤ count 64 (has (a .r))
+  some = let h = header-facts t (chw .header) in count-one 64 (has (a .r)) (a .c) (omega (arith, check-used (a .c) (y .first .answered))) (y .first .answered)
+
+  -- V is the list of a used row, so it has the shape of every list
+  said : (j : ℕ) → has (a .r) j ≡ true → answers t (a .r) .list j ≡ listOf t j
+  unfolding answers polled
+  said j m = rw m
+
+  force-shape : (i : ℕ) → Within (usedOf t) i → isEmpty (listOf t i) ≡ false → isTall (listOf t i) ≡ isTall (inForce (answers t (a .r)) (has (a .r)))
+  unfolding quorumHeld
+  force-shape i u m =
+      let l = leads (answers t (a .r)) (has (a .r)) (and-l _ _ (y .quorum)) in
+      let e = said (l .0) (l .1 .inside) in
+      chw .shape i (l .0) u (check-used (l .0) (l .1 .inside)) m (rw e at (l .1 .has-list)) ∙ ap isTall (sym e ∙ l .1 .list)
 
   check-facts : (i : ℕ) → Within (usedOf t) i → has (a .r) i ≡ true → RowFacts (usedOf t) i (rowBytes (checkTable t a y room) i)
   unfolding laidNow relisted changed fieldsOf fieldAt versionOf isEmpty list
@@ -246,7 +271,7 @@ module _ (t : List ℕ) (a : Checking) (y : CheckYes t a) (room : highestEpoch (
         level = f .level;
         only = y .first .rows;
         own = λ e. m;
-        grid = new-mark-fits _;
+        grid = new-mark-fits _ _ some;
       })
       go false g =
           let l = version-less t (a .r) (has (a .r)) chw (λ j h. h) check-used cur i m g in
@@ -259,12 +284,12 @@ module _ (t : List ℕ) (a : Checking) (y : CheckYes t a) (room : highestEpoch (
             level = λ e. absurd (clash (sym e));
             only = y .first .rows;
             own = λ e. m;
-            grid = new-mark-fits _;
+            grid = new-mark-fits _ _ some;
           })
 
   -- rows that answered have the new epoch and list, the others keep theirs
   pub check-membership : (i : ℕ) → Within (usedOf t) i
-      → (epochOf (checkTable t a y room) i ≡ cond (has (a .r) i) (highestEpoch (answers t (a .r)) (has (a .r)) + 1) (epochOf t i)) × (listOf (checkTable t a y room) i ≡ cond (has (a .r) i) (laidNow (a .r)) (listOf t i))
+      → (epochOf (checkTable t a y room) i ≡ cond (has (a .r) i) (highestEpoch (answers t (a .r)) (has (a .r)) + 1) (epochOf t i)) × (listOf (checkTable t a y room) i ≡ cond (has (a .r) i) (laidNow (isTall (inForce (answers t (a .r)) (has (a .r)))) (a .r)) (listOf t i))
   unfolding listIn relisted changed fieldsOf fieldAt epochOf listOf laidNow
   check-membership i u = go (has (a .r) i) refl (good (answers t (a .r)) (has (a .r)) i) refl
     where
@@ -272,22 +297,36 @@ module _ (t : List ℕ) (a : Checking) (y : CheckYes t a) (room : highestEpoch (
       new = rowBytes (checkTable t a y room) i
 
       go : (x : Bool) → has (a .r) i ≡ x → (b : Bool) → good (answers t (a .r)) (has (a .r)) i ≡ b
-          → (get epoch new ≡ cond x (highestEpoch (answers t (a .r)) (has (a .r)) + 1) (get epoch (rowBytes t i))) × (list new ≡ cond x (laidNow (a .r)) (list (rowBytes t i)))
+          → (get epoch new ≡ cond x (highestEpoch (answers t (a .r)) (has (a .r)) + 1) (get epoch (rowBytes t i))) × (list new ≡ cond x (laidNow (isTall (inForce (answers t (a .r)) (has (a .r)))) (a .r)) (list (rowBytes t i)))
       go false m b g = let e = check-leaves t a y room .out i u m in (ap (get epoch) e, ap list e)
       go true m true g = let e = check-taken t a y room i u m g in (e .fields 6 (omega arith), becomes-list e)
       go true m false g = let e = check-marked t a y room i u m g in (e .fields 6 (omega arith), becomes-list e)
+
+  -- the new list has V's shape
+  check-shape : OneShape (checkTable t a y room) (usedOf t)
+  check-shape i j u v e g = shape i u e ∙ sym (shape j v g)
+    where
+      laid : Laid
+      laid = laidNow (isTall (inForce (answers t (a .r)) (has (a .r)))) (a .r)
+
+      go : (i : ℕ) → Within (usedOf t) i → (x : Bool) → isEmpty (cond x laid (listOf t i)) ≡ false → isTall (cond x laid (listOf t i)) ≡ isTall (inForce (answers t (a .r)) (has (a .r)))
+      go i u true e = laid-shape (isTall (inForce (answers t (a .r)) (has (a .r)))) (a .r)
+      go i u false e = force-shape i u e
+
+      shape : (i : ℕ) → Within (usedOf t) i → isEmpty (listOf (checkTable t a y room) i) ≡ false → isTall (listOf (checkTable t a y room) i) ≡ isTall (inForce (answers t (a .r)) (has (a .r)))
+      shape i u e = let m = check-membership i u .1 in ap isTall m ∙ go i u (has (a .r) i) (rw m at e)
 
   -- where no used row outside R has the new epoch already
   pub check-formed : ((i : ℕ) → Within (usedOf t) i → has (a .r) i ≡ false → epochOf t i ≡ highestEpoch (answers t (a .r)) (has (a .r)) + 1 → ⊥) → Formed (checkTable t a y room)
   check-formed new = keep-formed chw (check-leaves t a y room) check-facts (λ i j u v f g e.
       let x = check-membership i u in
       let b = check-membership j v in
-      x .1 ∙ go i j u v (has (a .r) i) refl (has (a .r) j) refl (rw (x .1) at f) (rw (b .1) at g) (sym (x .0) ∙ e ∙ b .0) ∙ sym (b .1))
+      x .1 ∙ go i j u v (has (a .r) i) refl (has (a .r) j) refl (rw (x .1) at f) (rw (b .1) at g) (sym (x .0) ∙ e ∙ b .0) ∙ sym (b .1)) check-shape
     where
       go : (i j : ℕ) → Within (usedOf t) i → Within (usedOf t) j → (x : Bool) → has (a .r) i ≡ x → (y : Bool) → has (a .r) j ≡ y
-          → isEmpty (cond x (laidNow (a .r)) (listOf t i)) ≡ false → isEmpty (cond y (laidNow (a .r)) (listOf t j)) ≡ false
+          → isEmpty (cond x (laidNow (isTall (inForce (answers t (a .r)) (has (a .r)))) (a .r)) (listOf t i)) ≡ false → isEmpty (cond y (laidNow (isTall (inForce (answers t (a .r)) (has (a .r)))) (a .r)) (listOf t j)) ≡ false
           → cond x (highestEpoch (answers t (a .r)) (has (a .r)) + 1) (epochOf t i) ≡ cond y (highestEpoch (answers t (a .r)) (has (a .r)) + 1) (epochOf t j)
-          → cond x (laidNow (a .r)) (listOf t i) ≡ cond y (laidNow (a .r)) (listOf t j)
+          → cond x (laidNow (isTall (inForce (answers t (a .r)) (has (a .r)))) (a .r)) (listOf t i) ≡ cond y (laidNow (isTall (inForce (answers t (a .r)) (has (a .r)))) (a .r)) (listOf t j)
       go i j u v true ex true ey f g e = refl
       go i j u v true ex false ey f g e = absurd (new j v ey (sym e))
       go i j u v false ex true ey f g e = absurd (new i u ex e)

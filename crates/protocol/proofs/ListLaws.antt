@@ -14,13 +14,14 @@ use Rattle.sets.proofs.SetLaws.{empty-at}
 use Rattle.bools.proofs.BoolLaws.{and-l, and-r, and-i, clash}
 use Rattle.quorums.specs.declared.Kind.{Kind}
 use Rattle.quorums.specs.declared.Kind.the-variants.{Read, Write}
-use Rattle.grid.specs.Sizes.{root, rootUp, published, newFive, gridBy, newMark, columnOf}
+use Rattle.grid.specs.Sizes.{root, rootUp, published, newFive, exchanged, gridBy, newMark, columnOf}
 use Rattle.quorums.specs.Quorums.{touches, covers, readQuorum, writeQuorum, quorum, choice}
+use Rattle.grid.proofs.SizeLaws.{new-mark-tall}
 use Rattle.quorums.proofs.QuorumLaws as Q
 use Rattle.linking.specs.Linking.{inserted}
 use Rattle.linking.proofs.InsertLaws.{inserted-keep}
 use Rattle.fields.specs.declared.Laid.{Laid}
-use Rattle.fields.specs.Layout.{isEmpty}
+use Rattle.fields.specs.Layout.{isEmpty, isTall}
 use Rattle.protocol.specs.Lists.{laidNow, seats, atSeat, level, levelChoice, listQuorum, listChoice}
 
 -- ---- of a level: those that pass p
@@ -89,6 +90,11 @@ pub has-list : (l : Laid) (i : ℕ) → has (l .members) i ≡ true → isEmpty 
 unfolding isEmpty
 has-list l i m = ne-eqb (l .members) 0 (λ z. clash (sym (empty-at i) ∙ rw z at m))
 
+-- a list laid now is tall where it is to be
+pub laid-shape : (tall : Bool) (r : ℕ) → isTall (laidNow tall r) ≡ tall
+unfolding isTall laidNow
+laid-shape tall r = new-mark-tall tall (count 64 (has r))
+
 -- ---- a row more in the order that the list does not have: seats, quorums and choices stay
 module _ (f : ℕ → ℕ) (x w : ℕ) (order : List ℕ) (v : Laid) (out : has (v .members) w ≡ false) where
   pub seats-more : seats (inserted f x w order) (has (v .members)) ≡ seats order (has (v .members))
@@ -104,6 +110,6 @@ module _ (f : ℕ → ℕ) (x w : ℕ) (order : List ℕ) (v : Laid) (out : has 
   choice-more kind a i = let N = count 64 (has (v .members)) in ap (λ (rows : List ℕ). some N (λ k. choice kind (gridBy (v .mark) N) N a k && atSeat rows (eqb i) k)) seats-more
 
 -- a list of one row, which is there
-pub one-holds : listQuorum Write (1 ∷ []) (laidNow 1) (has 1) ≡ true
-unfolding listQuorum level laidNow seats keep atSeat has count every some root rootUp published newFive gridBy newMark columnOf touches covers readQuorum writeQuorum quorum
+pub one-holds : listQuorum Write (1 ∷ []) (laidNow false 1) (has 1) ≡ true
+unfolding listQuorum level laidNow seats keep atSeat has count every some root rootUp published newFive exchanged gridBy newMark columnOf touches covers readQuorum writeQuorum quorum
 one-holds = refl

@@ -2,7 +2,7 @@
 use mathlib.Core.Path.{_≡_, refl, sym, _∙_, ap, ap₂, subst₂, fun-ext}
 use mathlib.Core.Bool.{Bool, true, false, not, cond, _&&_}
 use mathlib.Core.List.{List, [], _∷_}
-use Prim.Native.Nat.{ℕ, zero, suc, _+_, _-_, _≤_}
+use Prim.Native.Nat.{ℕ, zero, suc, _+_, _≤_}
 use native.Mathlib.Nat.{zero-add}
 use native.Mathlib.Omega.{arith}
 use lib.Dec.{eqb, leb, ltb}
@@ -15,7 +15,7 @@ use Rattle.quorums.specs.declared.Kind.{Kind}
 use Rattle.quorums.specs.declared.Kind.the-variants.{Read, Write}
 use Rattle.bytes.specs.Bytes.{number, part}
 use Rattle.fields.specs.Layout
-use Rattle.fields.specs.Layout.{get, mark, version, desired, epoch, list, noList, usedOf, firstOf, fileLengthOf, nameOf, linkOf, staleOf, versionOf, desiredOf, epochOf, listOf, contentsOf, rowBytes}
+use Rattle.fields.specs.Layout.{isTall, get, mark, version, desired, epoch, list, noList, usedOf, firstOf, fileLengthOf, nameOf, linkOf, staleOf, versionOf, desiredOf, epochOf, listOf, contentsOf, rowBytes}
 use Rattle.table.specs.Chain.{chain, orderOf}
 use Rattle.table.specs.WellFormed.{between, limit, onlyRows}
 use Rattle.bytes.proofs.ByteLaws.{part-part}
@@ -24,7 +24,7 @@ use Rattle.protocol.specs.Lists.{laidNow}
 use Rattle.protocol.specs.Polls.{Poll, polled, highestEpoch, inForce, goodVersion, good, current, workedOn}
 use Rattle.protocol.specs.Rows.{wroteRow, checkedRow, refreshedRow}
 use Rattle.asking.specs.Asking.{Question, firstNo}
-use Rattle.protocol.specs.Calls.{Reading, Writing, Sending, Checking, Call, read, write, send, check, byCoordinator, isUsed, inFile, questions, done, outcome, answers, workSet}
+use Rattle.protocol.specs.Calls.{Sending, Call, read, write, send, check, byCoordinator, isUsed, inFile, questions, done, outcome, answers, workSet}
 use Rattle.protocol.specs.Claims.{Answering, byRead, byWrite, bySend, byCheck, EqualIn, SameFor, UnansweredHaveNoPart}
 use Rattle.table.proofs.TableLaws.{Changed}
 use Rattle.protocol.proofs.PollLaws.{lowest-good, worked-in}
@@ -236,7 +236,7 @@ done-same t u (check a) r byCheck E ht hu = go (eqb (a .r) (inForce (answers t (
           value = ap (λ (p : Poll). highestEpoch p (has (a .r)) + 1) (sym (poll-same E));
           buffer = refl;
           rows = λ i m. changed-same E (check-rows t a y (ltb-true _ _ room))
-              (changed-as E refl (ap (λ (p : Poll). checkedRow (good p (has (a .r))) (goodVersion p (has (a .r))) (highestEpoch p (has (a .r)) + 1) (laidNow (a .r))) (poll-same E)) (check-rows u a z (ltb-true _ _ room-u)))
+              (changed-as E refl (ap (λ (p : Poll). checkedRow (good p (has (a .r))) (goodVersion p (has (a .r))) (highestEpoch p (has (a .r)) + 1) (laidNow (isTall (inForce p (has (a .r)))) (a .r))) (poll-same E)) (check-rows u a z (ltb-true _ _ room-u)))
               i (answered-used t (a .c) (a .r) [] (y .first) i m) m;
         })
 

@@ -9,7 +9,8 @@ use Rattle.sets.specs.Sets.{has}
 use Rattle.quorums.specs.declared.Kind.{Kind}
 use Rattle.quorums.specs.declared.Kind.the-variants.{Read, Write}
 use Rattle.bytes.specs.Bytes.{bytesOf, part, zeros}
-use Rattle.fields.specs.Layout.{formValue, bodyLength, stride, capacityOf, usedOf, fileLengthOf, nameOf, staleOf, versionOf, desiredOf, contentsOf, rowBytes, withRow, withRows}
+use Rattle.fields.specs.declared.Laid.{Laid}
+use Rattle.fields.specs.Layout.{isTall, formValue, bodyLength, stride, capacityOf, usedOf, fileLengthOf, nameOf, staleOf, versionOf, desiredOf, contentsOf, rowBytes, withRow, withRows}
 use Rattle.table.specs.Chain.{orderOf}
 use Rattle.table.specs.WellFormed.{between, limit, onlyRows, wellFormed}
 use Rattle.asking.specs.Asking.{Question, firstNo}
@@ -24,6 +25,8 @@ pub record Founding : Type 0 where
   pub fileLength : ℕ
   -- as bytes, two for each name
   pub names : List ℕ
+  -- "Founding takes a choice, 0 for wide or 1 for tall"
+  pub choice : ℕ
 
 pub record Reading : Type 0 where
   pub c : ℕ
@@ -120,21 +123,23 @@ unfoldable pub foundedHeader : ℕ → ℕ → ℕ → List ℕ
 foundedHeader capacity n fileLength = formValue ∷ capacity ∷ n ∷ 1 ∷ (bytesOf 2 fileLength ++ zeros 10)
 
 -- row i of n: its name, the next row (0 after the last), the list of all used rows; "contents, versions, epochs, marks .. become 0", with a body of so many bytes
-unfoldable pub foundedRow : ℕ → ℕ → ℕ → ℕ → List ℕ
-foundedRow n body i x =
-    let all = laidNow (2 ^ n - 1) in
-    bytesOf 2 x ++ (cond (eqb i n) 0 (i + 1) ∷ (zeros 13 ++ (bytesOf 8 (all .members) ++ (bytesOf 1 (all .mark) ++ (zeros 7 ++ zeros body)))))
+unfoldable pub foundedRow : ℕ → Laid → ℕ → ℕ → ℕ → List ℕ
+foundedRow n all body i x = bytesOf 2 x ++ (cond (eqb i n) 0 (i + 1) ∷ (zeros 13 ++ (bytesOf 8 (all .members) ++ (bytesOf 1 (all .mark) ++ (zeros 7 ++ zeros body)))))
 
 -- "It puts them in rows 1 upward": the rows from row i on
-unfoldable pub foundedRows : ℕ → ℕ → ℕ → List ℕ → List ℕ
-foundedRows n body i [] = []
-foundedRows n body i (x ∷ l) = foundedRow n body i x ++ foundedRows n body (suc i) l
+unfoldable pub foundedRows : ℕ → Laid → ℕ → ℕ → List ℕ → List ℕ
+foundedRows n all body i [] = []
+foundedRows n all body i (x ∷ l) = foundedRow n all body i x ++ foundedRows n all body (suc i) l
+
+-- the list that a founding lays of n rows, by its choice
+unfoldable pub foundedList : ℕ → ℕ → Laid
+foundedList choice n = laidNow (eqb choice 1) (2 ^ n - 1)
 
 -- the table after a founding: "every unused row" becomes 0 too
-unfoldable pub founded : ℕ → ℕ → List ℕ → List ℕ
-founded capacity fileLength names =
+unfoldable pub founded : ℕ → ℕ → ℕ → List ℕ → List ℕ
+founded choice capacity fileLength names =
     let n = length names in
-    foundedHeader capacity n fileLength ++ (foundedRows n (bodyLength fileLength) 1 names ++ zeros ((capacity - n) * stride fileLength))
+    foundedHeader capacity n fileLength ++ (foundedRows n (foundedList choice n) (bodyLength fileLength) 1 names ++ zeros ((capacity - n) * stride fileLength))
 
 -- ---- "Questions put to each call": in this order, each to the calls it names
 -- 1 to 3 of a call by coordinator c, then those after
@@ -148,7 +153,7 @@ byCoordinator t c r qs =
 unfoldable pub questions : List ℕ → Call → List Question
 questions t (founding a) =
     let n = length (namesIn (a .names)) in
-    record { ask = 11; yes = eqb (length (a .names) % 2) 0 && between 1 n 64 && namesRising 0 (namesIn (a .names)) }
+    record { ask = 11; yes = eqb (length (a .names) % 2) 0 && between 1 n 64 && namesRising 0 (namesIn (a .names)) && leb (a .choice) 1 }
     ∷ record { ask = 12; yes = between 1 (a .capacity) 64 && leb n (a .capacity) && between 1 (a .fileLength) 4_096 && eqb (length t) (16 + a .capacity * stride (a .fileLength)) }
     ∷ []
 -- "Questions 2 and 3 are not put to it. .. after question 1, joining gives 13 for name 0 or a name in use, then 14 when no unused row is left."
@@ -193,7 +198,7 @@ questions t (check a) =
 
 -- ---- what a done call leaves
 unfoldable pub done : List ℕ → Call → Outcome
-done t (founding a) = leaves (founding a) 0 (length (namesIn (a .names))) (founded (a .capacity) (a .fileLength) (namesIn (a .names)))
+done t (founding a) = leaves (founding a) 0 (length (namesIn (a .names))) (founded (a .choice) (a .capacity) (a .fileLength) (namesIn (a .names)))
 -- "its value is the new index"
 done t (join a) = leaves (join a) 0 (suc (usedOf t)) (joined t (a .name))
 -- "copies the range from the good row of lowest index. Value: its version."
@@ -215,7 +220,7 @@ done t (check a) =
     let e = highestEpoch p (has (a .r)) in
     let same = eqb (a .r) (inForce p (has (a .r)) .members) in
     leaves (check a) 0 (cond same e (e + 1))
-    (cond same t (withRows t (has (a .r)) (checkedRow (good p (has (a .r))) (goodVersion p (has (a .r))) (e + 1) (laidNow (a .r))) (usedOf t)))
+    (cond same t (withRows t (has (a .r)) (checkedRow (good p (has (a .r))) (goodVersion p (has (a .r))) (e + 1) (laidNow (isTall (inForce p (has (a .r)))) (a .r))) (usedOf t)))
 
 -- "A refusal has value 0 and alters no byte of the table, of a read's buffer .."
 unfoldable pub refused : List ℕ → Call → ℕ → Outcome

@@ -11,9 +11,10 @@ use Rattle.grid.specs.Sizes.{gridBy, newMark}
 use Rattle.quorums.specs.Quorums.{quorum, choice}
 use Rattle.fields.specs.declared.Laid.{Laid}
 
--- the list that a founding or a check lays of the rows r: "New lists of five are laid in 3 rows and 2 columns"
-unfoldable pub laidNow : ℕ → Laid
-laidNow r = record { members = r; mark = newMark (count 64 (has r)) }
+-- the list that a founding or a check lays of the rows r, in a tall table or in a wide one: "New lists of five are laid in 3 rows and 2 columns";
+-- "every list in it has mark 2"
+unfoldable pub laidNow : Bool → ℕ → Laid
+laidNow tall r = record { members = r; mark = newMark tall (count 64 (has r)) }
 
 -- "Members in chain order fill row by row": the rows that pass p, in chain order
 unfoldable pub seats : List ℕ → (ℕ → Bool) → List ℕ

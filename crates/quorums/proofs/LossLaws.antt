@@ -11,7 +11,7 @@ use Rattle.sets.specs.Upto.{Within, every, some}
 use Rattle.sets.specs.Sets.{losing}
 use Rattle.sets.proofs.UptoLaws.{every-of, some-of}
 use Rattle.grid.specs.declared.Grid.{Grid}
-use Rattle.grid.specs.Sizes.{root, rootUp, published, newFive, gridBy, newMark, columnOf}
+use Rattle.grid.specs.Sizes.{root, rootUp, published, newFive, exchanged, gridBy, newMark, columnOf}
 use Rattle.grid.proofs.SizeLaws.{roomy}
 use Rattle.quorums.specs.declared.Kind.the-variants.{Write}
 use Rattle.quorums.specs.Quorums.{touches, covers, readQuorum, writeQuorum, quorum, isPosition}
@@ -72,9 +72,9 @@ room-bears-loss g N wide high = one-missed g N (omega arith) (omega arith)
 
 pub four-bear-loss : FourBearLoss
 unfolding FourBearLoss RoomBearsLoss bears
-four-bear-loss N k four = let r = roomy N (omega arith) in room-bears-loss (gridBy (newMark N) N) N (r .0) (r .1) _ (losing-one (isPosition N) k)
+four-bear-loss tall N k four = let r = roomy tall N (omega arith) in room-bears-loss (gridBy (newMark tall N) N) N (r .0) (r .1) _ (losing-one (isPosition N) k)
 
 -- ---- shorter lists: by computing the definitions
 pub shorter-hold : lossesHold shorter ≡ true
-unfolding lossesHold shorter lossHolds same bears losing gridBy newMark newFive root rootUp published columnOf every some touches covers readQuorum writeQuorum quorum isPosition
+unfolding lossesHold shorter lossHolds same bears losing gridBy newMark newFive exchanged root rootUp published columnOf every some touches covers readQuorum writeQuorum quorum isPosition
 shorter-hold = refl

@@ -23,17 +23,17 @@ AllButOne p s = (i j : ℕ) → p i ≡ true → p j ≡ true → i ≢ j → (s
 unfoldable pub RoomBearsLoss : Type 0
 RoomBearsLoss = (g : Grid) (N : ℕ) → 2 ≤ g .cols → 2 * g .cols ≤ N → (held : ℕ → Bool) → AllButOne (isPosition N) held → quorum Write g N held ≡ true
 
--- "for each list of 4 to 64 members as now laid": from four on, whatever the length
+-- "for each list of 4 to 64 members as now laid": from four on, whatever the length; "Tall lists of four or more bear the loss of one machine too"
 unfoldable pub FourBearLoss : Type 0
-FourBearLoss = (N k : ℕ) → 4 ≤ N → bears (newMark N) N k ≡ true
+FourBearLoss = (tall : Bool) (N k : ℕ) → 4 ≤ N → bears (newMark tall N) N k ≡ true
 
--- ---- shorter lists, as now laid
+-- ---- shorter lists, as now laid in a wide table
 pub data Loss : Type 0 where
   -- of N, all positions but k hold a write quorum, or do not
   Without : (N k : ℕ) (answer : Bool) → Loss
 
 unfoldable pub lossHolds : Loss → Bool
-lossHolds (Without N k answer) = same (bears (newMark N) N k) answer
+lossHolds (Without N k answer) = same (bears (newMark false N) N k) answer
 
 unfoldable pub lossesHold : List Loss → Bool
 lossesHold [] = true

@@ -16,7 +16,7 @@ use Rattle.fields.specs.Layout.{usedOf, nameOf, rowBytes, contents, contentsOf}
 use Rattle.fields.proofs.FieldLaws.{contents-room}
 use Rattle.table.specs.Chain.{orderOf}
 use Rattle.table.proofs.WellFormedLaws.{sized, length-row}
-use Rattle.protocol.specs.Polls.{goodVersion, good, current, quorumHeld}
+use Rattle.protocol.specs.Polls.{good, current, quorumHeld}
 use Rattle.asking.specs.Asking.{firstNo}
 use Rattle.protocol.specs.Calls.{Reading, Outcome, read, questions, answers, workSet, done, outcome, resultOf}
 use Rattle.protocol.proofs.PollLaws.{lowest-good, worked-in}

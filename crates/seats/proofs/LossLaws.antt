@@ -39,13 +39,13 @@ module _ (t : List ℕ) (p : ℕ → Bool) (S : Seated t p) (s : ℕ → Bool) (
       go (inl m) = or-l _ _ (at j x m)
       go (inr m) = or-r (atSeat (seats (orderOf t) p) s j) _ (at k y m)
 
-  level-bears-loss : 4 ≤ count 64 p → level Write (newMark (count 64 p)) (orderOf t) p s ≡ true
+  level-bears-loss : (tall : Bool) → 4 ≤ count 64 p → level Write (newMark tall (count 64 p)) (orderOf t) p s ≡ true
   unfolding level RoomBearsLoss
-  level-bears-loss four =
-      let r = roomy (count 64 p) four in room-bears-loss (gridBy (newMark (count 64 p)) (count 64 p)) (count 64 p) (r .0) (r .1) (atSeat (seats (orderOf t) p) s) seats-missed
+  level-bears-loss tall four =
+      let r = roomy tall (count 64 p) four in room-bears-loss (gridBy (newMark tall (count 64 p)) (count 64 p)) (count 64 p) (r .0) (r .1) (atSeat (seats (orderOf t) p) s) seats-missed
 
 pub list-bears-loss : ListBearsLoss
 unfolding ListBearsLoss EveryListIsSeated listQuorum laidNow
-list-bears-loss t e l now small four s all =
-    let mark : l .mark ≡ newMark (count 64 (has (l .members))) = ap (λ (x : Laid). x .mark) now in
-    rw mark (level-bears-loss t (has (l .members)) (every-list-is-seated t e (has (l .members)) (λ i. has-within (usedOf t) (l .members) i small)) s all four)
+list-bears-loss t e tall l now small four s all =
+    let mark : l .mark ≡ newMark tall (count 64 (has (l .members))) = ap (λ (x : Laid). x .mark) now in
+    rw mark (level-bears-loss t (has (l .members)) (every-list-is-seated t e (has (l .members)) (λ i. has-within (usedOf t) (l .members) i small)) s all tall four)

@@ -37,5 +37,5 @@ EveryChoiceHolds = (t : List ℕ) → wellFormed t ≡ true → (p : ℕ → Boo
 
 -- "for each list of 4 to 64 members as now laid, the members without any one of them hold a write quorum": a list of used rows, and any set that misses at most one of them
 unfoldable pub ListBearsLoss : Type 0
-ListBearsLoss = (t : List ℕ) → wellFormed t ≡ true → (l : Laid) → l ≡ laidNow (l .members) → l .members < 2 ^ usedOf t → 4 ≤ count 64 (has (l .members))
+ListBearsLoss = (t : List ℕ) → wellFormed t ≡ true → (tall : Bool) (l : Laid) → l ≡ laidNow tall (l .members) → l .members < 2 ^ usedOf t → 4 ≤ count 64 (has (l .members))
     → (s : ℕ → Bool) → AllButOne (has (l .members)) s → listQuorum Write (orderOf t) l s ≡ true

@@ -1,9 +1,9 @@
 -- Rows lent to the code one after another, over plain variables.
 use mathlib.Core.Path.{_≡_, refl, sym, _∙_, ap, subst}
-use mathlib.Core.Bool.{Bool, true, false, cond, _||_}
+use mathlib.Core.Bool.{Bool, true, false, cond}
 use mathlib.Core.Logic.{_⊎_, inl, inr}
 use mathlib.Core.List.{List, _++_}
-use Prim.Native.Nat.{ℕ, zero, suc, _+_, _-_, _*_, _≤_}
+use Prim.Native.Nat.{ℕ, suc, _+_, _-_, _*_, _≤_}
 use native.Mathlib.Omega.{arith}
 use lib.Dec.{eqb}
 use lib.ListN.{length, take, drop}
@@ -12,9 +12,9 @@ use Rattle.bools.proofs.BoolLaws.{or-e}
 use Rattle.sets.specs.Upto.{Within}
 use Rattle.sets.specs.Sets.{noRow, joining}
 use Rattle.sets.proofs.MemberLaws.{only}
-use Rattle.bytes.specs.Bytes.{part, put}
+use Rattle.bytes.specs.Bytes.{put}
 use Rattle.bytes.proofs.CodeLaws.{part-back, part-is, part-length}
-use Rattle.blocks.specs.Blocks.{block, withBlock, withBlocks}
+use Rattle.blocks.specs.Blocks.{block, withBlock}
 use Rattle.blocks.proofs.BlockLaws.{ends, Altered, blocks-changed, none-changed, one-more}
 use Rattle.fields.specs.Layout.{usedOf, rowLength, rowsEnd, rowBytes, withRows}
 use Rattle.table.specs.Contracts.{Sized}

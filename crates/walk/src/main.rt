@@ -16,7 +16,7 @@ fn line(step: u64, call: &[u8], result: u64) {
 fn main() {
     let mut table = [0u8; 160];
     let mut byte = [0u8; 1];
-    founding::found(&mut table, 4, 4, b"\x01\x00\x02\x00\x03\x00\x04\x00");
+    founding::found(&mut table, 4, 4, b"\x01\x00\x02\x00\x03\x00\x04\x00", 0);
     line(1, b"write", writes::write(&mut table, 1, 0b0111, 0, b"a"));
     line(2, b"read", reads::read(&table, 4, 0b1100, 0, 1, &mut byte));
     line(3, b"write", writes::write(&mut table, 2, 0b1011, 0, b"b"));

@@ -14,7 +14,7 @@ use Rattle.fields.specs.Layout.{usedOf, nameOf, rowLength, withRows}
 use Rattle.fields.proofs.FieldLaws.{contents-room}
 use Rattle.table.specs.Chain.{orderOf}
 use Rattle.table.specs.WellFormed.{limit}
-use Rattle.protocol.specs.Polls.{goodVersion, good, current, quorumHeld}
+use Rattle.protocol.specs.Polls.{good, current, quorumHeld}
 use Rattle.protocol.specs.Rows.{wroteRow}
 use Rattle.asking.specs.Asking.{firstNo}
 use Rattle.protocol.specs.Calls.{Writing, Outcome, write, questions, answers, workSet, done, outcome, resultOf}

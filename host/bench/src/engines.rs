@@ -5,6 +5,7 @@ use reference::Engine;
 
 /// Calls on a table's bytes, all with the same arguments for both engines.
 pub trait Calls {
+    /// Founds a wide table.
     fn found(&self, table: &mut [u8], capacity: u64, file_len: u64, names: &[u8]) -> u64;
     fn read(&self, table: &[u8], coordinator: u64, answering: u64, offset: u64, buffer: &mut [u8]) -> u64;
     fn write(&self, table: &mut [u8], coordinator: u64, answering: u64, offset: u64, patch: &[u8]) -> u64;
@@ -18,8 +19,9 @@ pub struct Library;
 // SAFETY of the blocks below: each slice is live for the call, and Rust's borrows keep them apart.
 impl Calls for Library {
     fn found(&self, table: &mut [u8], capacity: u64, file_len: u64, names: &[u8]) -> u64 {
+        let (lent, length) = (names.as_ptr(), names.len());
         unsafe {
-            raw::grid_found(table.as_mut_ptr(), table.len(), capacity, file_len, names.as_ptr(), names.len())
+            raw::grid_found(table.as_mut_ptr(), table.len(), capacity, file_len, lent, length, raw::WIDE)
         }
     }
 
@@ -62,7 +64,7 @@ impl Calls for Library {
 
 impl Calls for Engine {
     fn found(&self, table: &mut [u8], capacity: u64, file_len: u64, names: &[u8]) -> u64 {
-        Engine::found(self, table, capacity, file_len, names)
+        Engine::found(self, table, capacity, file_len, names, raw::WIDE)
     }
 
     fn read(&self, table: &[u8], coordinator: u64, answering: u64, offset: u64, buffer: &mut [u8]) -> u64 {

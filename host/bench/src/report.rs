@@ -59,7 +59,8 @@ pub fn page(timings: &[Timing], load: &str, runs: usize) -> String {
          - one row left: founded, with one unused row;\n\
          - a quarter joined: three quarters founded, the others joined, each behind one of them, and not yet taken in by a check; those founded answer;\n\
          - a joined row coordinates: the same table; it has no choice of its own, so that the call works on all that answered; all machines answer;\n\
-         - 5 of 64 rows used: founded, with 59 unused rows to be found all zero; all five answer.\n\n\
+         - 5 of 64 rows used: founded, with 59 unused rows to be found all zero; all five answer;\n\
+         - tall: founded tall, all others wide; all machines answer.\n\n\
          Row 1 coordinates, if nothing else is said. Before each send the receiver is made stale again, which is in the times of both. A refused send\n\
          has a receiver that is not stale. A check with a new list leaves out the last row and takes it in again by turns. A joining comes in the middle\n\
          of the chain, and is undone before the next one, which is in the times of both.\n\n\

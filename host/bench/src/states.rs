@@ -1,8 +1,9 @@
 //! The tables that the calls are timed on.
 
 use crate::tasks::{Task, EVERY_TASK};
+use dyngrid::raw;
 use reference::rows::{self, Order};
-use reference::{Engine, Grid, Layout, Quorum, Rules, Table};
+use reference::{Engine, Grid, Layout, Quorum, Rules, Shape, Table};
 
 /// A well-formed table, and the calls that are timed on it.
 pub struct State {
@@ -27,6 +28,11 @@ pub struct Size {
 const SIZES: [Size; 3] = [
     Size { title: "4 machines, 64 bytes", used: 4, capacity: 4, file_len: 64 },
     Size { title: "16 machines, 1,024 bytes", used: 16, capacity: 16, file_len: 1024 },
+    Size { title: "64 machines, 4,096 bytes", used: 64, capacity: 64, file_len: 4096 },
+];
+/// Sizes of tall tables; twelve lie in four rows and three columns, where a wide table has three and four.
+const TALL_SIZES: [Size; 2] = [
+    Size { title: "12 machines, 1,024 bytes", used: 12, capacity: 12, file_len: 1024 },
     Size { title: "64 machines, 4,096 bytes", used: 64, capacity: 64, file_len: 4096 },
 ];
 const SPARSE: Size = Size { title: "5 of 64 rows used, 4,096 bytes", used: 5, capacity: 64, file_len: 4096 };
@@ -54,6 +60,7 @@ pub fn all() -> Vec<State> {
         })
         .collect();
     states.push(State { tasks: SPARSE_TASKS, ..founded(SPARSE) });
+    states.extend(TALL_SIZES.map(tall));
     for state in &states {
         assert!(Table::decode(&state.table).is_some(), "{}: malformed", state.title);
     }
@@ -81,8 +88,17 @@ pub fn name(rank: usize) -> [u8; 2] {
 }
 
 fn founded(size: Size) -> State {
+    founded_as(size, raw::WIDE)
+}
+
+/// Founded tall.
+fn tall(size: Size) -> State {
+    State { title: size.title("tall"), tasks: READ_AND_WRITE, ..founded_as(size, raw::TALL) }
+}
+
+fn founded_as(size: Size, choice: u64) -> State {
     let mut table = vec![0; Table::length(size.capacity, size.file_len)];
-    Engine::default().found(&mut table, size.capacity as u64, size.file_len as u64, &size.names());
+    Engine::default().found(&mut table, size.capacity as u64, size.file_len as u64, &size.names(), choice);
     let answering = rows::first(size.used);
     State { title: size.title("founded"), size, table, coordinator: 1, answering, tasks: &EVERY_TASK }
 }
@@ -128,7 +144,8 @@ fn few_answering(size: Size) -> State {
     let columns = Grid::of(size.used).columns;
     let quorum = (1..=size.used).filter(|row| (row - 1) % columns == 0 || *row > size.used - columns);
     let answering = quorum.fold(0, |set, row| set | rows::only(row));
-    let layout = Layout::of(Rules::default().lay(rows::first(size.used)), &Order::first(size.used));
+    let list = Rules::default().lay(Shape::Wide, rows::first(size.used));
+    let layout = Layout::of(list, &Order::first(size.used));
     for quorum in [Quorum::Read, Quorum::Write] {
         let choice = layout.choice(quorum, u16::from_le_bytes(name(1)));
         assert!(layout.holds(quorum, answering) && !layout.holds(quorum, choice & answering));

@@ -57,8 +57,8 @@ impl Archive {
         // SAFETY: table and list are two slices of these lengths in two mappings.
         unsafe {
             match *call {
-                Call::Found { capacity, file_len, .. } => {
-                    raw::grid_found(table, table_len, capacity, file_len, list, list_len)
+                Call::Found { capacity, file_len, choice, .. } => {
+                    raw::grid_found(table, table_len, capacity, file_len, list, list_len, choice)
                 }
                 Call::Read { coordinator, answering, offset, length, .. } => {
                     raw::grid_read(table, table_len, coordinator, answering, offset, length, list, list_len)

@@ -5,7 +5,7 @@ use std::fmt;
 
 #[derive(Clone, Debug, PartialEq, Eq)]
 pub enum Call {
-    Found { capacity: u64, file_len: u64, names: Vec<u8> },
+    Found { capacity: u64, file_len: u64, names: Vec<u8>, choice: u64 },
     Read { coordinator: u64, answering: u64, offset: u64, length: u64, buffer: Vec<u8> },
     Write { coordinator: u64, answering: u64, offset: u64, patch: Vec<u8> },
     Send { from: u64, to: u64, answering: u64 },
@@ -61,7 +61,9 @@ impl Call {
     pub fn refer(&self, engine: Engine, table: &mut [u8]) -> Answer {
         let mut lent = Vec::new();
         let result = match self {
-            Call::Found { capacity, file_len, names } => engine.found(table, *capacity, *file_len, names),
+            Call::Found { capacity, file_len, names, choice } => {
+                engine.found(table, *capacity, *file_len, names, *choice)
+            }
             Call::Read { coordinator, answering, offset, length, buffer } => {
                 lent.clone_from(buffer);
                 engine.read(table, *coordinator, *answering, *offset, *length, &mut lent)
@@ -80,8 +82,9 @@ impl Call {
 impl fmt::Display for Call {
     fn fmt(&self, f: &mut fmt::Formatter) -> fmt::Result {
         match self {
-            Call::Found { capacity, file_len, names } => {
-                write!(f, "grid_found(capacity {capacity}, file {file_len}, names {})", names_shown(names))
+            Call::Found { capacity, file_len, names, choice } => {
+                write!(f, "grid_found(capacity {capacity}, file {file_len}, names {}", names_shown(names))?;
+                write!(f, ", choice {choice})")
             }
             Call::Read { coordinator, answering, offset, length, buffer } => {
                 write!(f, "grid_read(coordinator {coordinator}, answering {}", set_shown(*answering))?;

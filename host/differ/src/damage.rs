@@ -2,7 +2,7 @@
 
 use crate::random::Random;
 use crate::tables::{self, Picture, Size};
-use reference::{rows, Table, FORM, HEADER, LIMIT, ROW_HEADER};
+use reference::{rows, Shape, Table, FORM, HEADER, LIMIT, ROW_HEADER, TALL};
 
 /// Breaks one rule of a well-formed table.
 type Damage = fn(&mut Vec<u8>, &Picture, &mut Random);
@@ -19,7 +19,7 @@ enum Needs {
 }
 use Needs::{FewerThan64, Nothing, Rows, UnusedRow};
 
-const RULES: [(&str, Needs, Damage); 50] = [
+const RULES: [(&str, Needs, Damage); 56] = [
     ("empty", Nothing, |bytes, _, _| bytes.clear()),
     ("truncated", Nothing, |bytes, _, random| bytes.truncate(random.between(1, bytes.len() - 2))),
     ("a byte short", Nothing, |bytes, _, _| bytes.truncate(bytes.len() - 1)),
@@ -127,10 +127,10 @@ const RULES: [(&str, Needs, Damage); 50] = [
         put(bytes, table, row, 24, &[random.pick(&[1, 2])]);
     }),
     ("grid mark of no grid", Nothing, |bytes, table, random| {
-        put(bytes, table, any_row(table, random), 24, &[random.pick(&[2, 3, 128, 255])]);
+        put(bytes, table, any_row(table, random), 24, &[random.pick(&[3, 4, 128, 130, 255])]);
     }),
     ("grid mark of no grid, list of five", Rows(5), |bytes, table, random| {
-        let mark = random.pick(&[2, 3, 129, 255]);
+        let mark = random.pick(&[3, 129, 255]);
         put_marked(bytes, table, random, 5, mark);
     }),
     ("grid marks of one epoch", Rows(5), |bytes, table, random| {
@@ -143,6 +143,35 @@ const RULES: [(&str, Needs, Damage); 50] = [
         let rows = put_marked(bytes, table, random, 5, 1);
         put_list(bytes, table, rows[1], 0);
         put(bytes, table, rows[2], 24, &[0]);
+    }),
+    ("grid mark of an empty list in a tall table", Nothing, |bytes, table, random| {
+        put_marks(bytes, table, TALL);
+        let row = unlisted_row(bytes, table, random);
+        put(bytes, table, row, 24, &[TALL]);
+    }),
+    ("grid mark 0 in a tall table", Nothing, |bytes, table, random| {
+        put_two_marks(bytes, table, random, TALL, 0);
+    }),
+    ("grid mark 1 in a tall table", Rows(6), |bytes, table, random| {
+        let five = put_marked(bytes, table, random, 5, 1);
+        let others = five.iter().fold(table.all_used(), |others, &row| others & !rows::only(row));
+        put_marks(bytes, table, TALL);
+        five.iter().for_each(|&row| put(bytes, table, row, 24, &[1]));
+        put_other_list(bytes, table, random.row(others), TALL);
+    }),
+    ("grid mark 2 in a wide table", Nothing, |bytes, table, random| {
+        put_two_marks(bytes, table, random, 0, TALL);
+    }),
+    ("grid marks of one epoch in a tall table", Rows(3), |bytes, table, random| {
+        let rows = put_marked(bytes, table, random, 3, TALL);
+        put_marks(bytes, table, TALL);
+        put(bytes, table, rows[0], 24, &[0]);
+    }),
+    ("grid marks 1 and 2 of one epoch", Rows(5), |bytes, table, random| {
+        let rows = put_marked(bytes, table, random, 5, 1);
+        for &row in &rows[..random.between(1, 4)] {
+            put(bytes, table, row, 24, &[TALL]);
+        }
     }),
     ("joined row, name 0", Nothing, |bytes, table, random| {
         let row = unlisted_row(bytes, table, random);
@@ -197,8 +226,9 @@ const RULES: [(&str, Needs, Damage); 50] = [
     }),
 ];
 
-/// An epoch number that no generated table uses.
+/// Two epoch numbers that no generated table uses.
 const FREE_EPOCH: u32 = 500_000;
+const OTHER_EPOCH: u32 = 400_000;
 
 /// A well-formed table, and the same with one rule broken.
 pub fn damaged(random: &mut Random) -> (Picture, Vec<u8>) {
@@ -251,15 +281,40 @@ fn put_numbers(bytes: &mut [u8], table: &Picture, row: usize, mark: u8, version:
     put(bytes, table, row, 8, &desired.to_le_bytes());
 }
 
-/// Gives a row the free epoch, and this list in the published grid.
+/// Gives a row the free epoch, and this list in the published grid, or in the tall one of a tall table.
 fn put_list(bytes: &mut [u8], table: &Picture, row: usize, list: u64) {
+    let tall = list != 0 && table.shape() == Some(Shape::Tall);
     put(bytes, table, row, 12, &FREE_EPOCH.to_le_bytes());
     put(bytes, table, row, 16, &list.to_le_bytes());
-    put(bytes, table, row, 24, &[0]);
+    put(bytes, table, row, 24, &[if tall { TALL } else { 0 }]);
 }
 
-/// Gives some rows, in no order, the list of them all with this mark.
+/// Gives a row the other free epoch, and the list of all rows with this mark.
+fn put_other_list(bytes: &mut [u8], table: &Picture, row: usize, mark: u8) {
+    put_list(bytes, table, row, table.all_used());
+    put(bytes, table, row, 12, &OTHER_EPOCH.to_le_bytes());
+    put(bytes, table, row, 24, &[mark]);
+}
+
+/// Gives every list this mark, 0 or 2: the table is well formed with either.
+fn put_marks(bytes: &mut [u8], table: &Picture, mark: u8) {
+    for row in 1..=table.used {
+        let listed = !Table::row(table, bytes, row).list.is_empty();
+        put(bytes, table, row, 24, &[if listed { mark } else { 0 }]);
+    }
+}
+
+/// Gives every list this mark, and then a list of an epoch of its own the other one.
+fn put_two_marks(bytes: &mut [u8], table: &Picture, random: &mut Random, mark: u8, other: u8) {
+    let one = any_row(table, random);
+    put_list(bytes, table, random.row(table.all_used() & !rows::only(one)), table.all_used());
+    put_marks(bytes, table, mark);
+    put_other_list(bytes, table, one, other);
+}
+
+/// Gives some rows of a table that is made wide, in no order, the list of them all with this mark.
 fn put_marked(bytes: &mut [u8], table: &Picture, random: &mut Random, length: u32, mark: u8) -> Vec<usize> {
+    put_marks(bytes, table, 0);
     let list = tables::filled(random, table.all_used(), 0, length);
     let mut members: Vec<usize> = rows::members(list).collect();
     random.shuffle(&mut members);
@@ -311,7 +366,7 @@ mod tests {
             }
             mended += 1;
         }
-        assert_eq!(mended, 9);
+        assert_eq!(mended, 15);
     }
 
     #[test]

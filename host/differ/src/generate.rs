@@ -37,13 +37,14 @@ impl Plan {
     /// A history after one founding on bytes that hold anything.
     pub fn founded(random: &mut Random) -> Plan {
         let size = Size::pick(random);
-        Plan::founded_as(random, size)
+        let choice = choice(random);
+        Plan::founded_as(random, size, choice)
     }
 
-    fn founded_as(random: &mut Random, size: Size) -> Plan {
+    fn founded_as(random: &mut Random, size: Size, choice: u64) -> Plan {
         let length = Table::length(size.capacity, size.file_len);
         let start = if random.chance(1, 2) { vec![0; length] } else { random.bytes(length) };
-        let opening = founding(random, size);
+        let opening = founding(random, size, choice);
         let up = random.subset(rows::first(size.used), 4, 5);
         Plan {
             start,
@@ -59,13 +60,14 @@ impl Plan {
     /// A history that began before there were requests: its lists, some of five among them, lie in the published grid.
     pub fn carried_over(random: &mut Random) -> Plan {
         let size = Size { used: random.pick(&[5, 5, 5, 6, 7, 9]), ..Size::pick(random) };
-        let mut plan = Plan::founded_as(random, Size { capacity: size.capacity.max(size.used), ..size });
+        let mut plan = Plan::founded_as(random, Size { capacity: size.capacity.max(size.used), ..size }, 0);
         let engine = Engine { rules: Rules::Published, ..Engine::default() };
         plan.ledger = Ledger::published();
         for _ in 0..random.between(1, 12) {
             let mut table = plan.table();
             let call = plan.next(random, &table);
-            if !matches!(call, Call::Join { .. }) {
+            let of_a_request = matches!(call, Call::Join { .. } | Call::Found { choice: 1.., .. });
+            if !of_a_request {
                 let answer = call.refer(engine, &mut table);
                 plan.ledger
                     .hear(&call, &answer)
@@ -115,7 +117,8 @@ impl Plan {
         let length = Table::length(size.capacity, size.file_len);
         let wrong = random.pick(&[0, 1, 15, 16, 17, length - 1, length + 1, length + 32 + size.file_len]);
         let length = if random.chance(1, 3) { wrong } else { length };
-        let opening = founding(random, size);
+        let choice = choice(random);
+        let opening = founding(random, size, choice);
         let start = random.bytes(length);
         Plan {
             start,
@@ -167,13 +170,24 @@ impl Plan {
     }
 }
 
-fn founding(random: &mut Random, size: Size) -> Call {
+/// Wide, or in a third of the tables tall.
+fn choice(random: &mut Random) -> u64 {
+    random.pick(&[0, 0, 1])
+}
+
+fn founding(random: &mut Random, size: Size, choice: u64) -> Call {
     let names = tables::names(random, size.used);
     Call::Found {
         capacity: size.capacity as u64,
         file_len: size.file_len as u64,
         names: tables::names_in_bytes(&names),
+        choice,
     }
+}
+
+/// No choice but 0 and 1 is one; some of the others agree with these in their low bits.
+fn any_choice(random: &mut Random) -> u64 {
+    random.pick(&[0, 1, 2, 3, 256, 257, 1 << 32, (1 << 32) + 1, 1 << 63, u64::MAX])
 }
 
 /// A founding with arguments at or beyond their limits.
@@ -182,8 +196,9 @@ fn bad_founding(random: &mut Random, size: Size) -> Call {
     let mut capacity = size.capacity as u64;
     let mut file_len = size.file_len as u64;
     let mut half_a_name = None;
+    let mut choice = choice(random);
     for _ in 0..random.between(1, 2) {
-        match random.between(0, 9) {
+        match random.between(0, 10) {
             0 => names.clear(),
             1 => names.insert(0, 0),
             2 => names.extend(names.last().copied()),
@@ -193,12 +208,13 @@ fn bad_founding(random: &mut Random, size: Size) -> Call {
             6 => capacity = edge(random, MAX_ROWS as u64, capacity),
             7 => file_len = edge(random, MAX_FILE as u64, file_len),
             8 => half_a_name = Some(random.byte()),
+            9 => choice = any_choice(random),
             _ => {}
         }
     }
     let mut names = tables::names_in_bytes(&names);
     names.extend(half_a_name);
-    Call::Found { capacity, file_len, names }
+    Call::Found { capacity, file_len, names, choice }
 }
 
 /// Another value for an argument whose highest sensible value is `limit`; some agree with `now` in their low bits.
@@ -244,7 +260,8 @@ fn fitting(random: &mut Random, table: &Picture, up: u64) -> Call {
         93..=98 => Call::Join { name: joining_name(random, table) },
         _ => {
             let used = random.between(1, table.capacity);
-            founding(random, Size { used, capacity: table.capacity, file_len: table.file_len })
+            let choice = choice(random);
+            founding(random, Size { used, capacity: table.capacity, file_len: table.file_len }, choice)
         }
     }
 }
@@ -327,9 +344,10 @@ fn joining_name(random: &mut Random, table: &Picture) -> u16 {
 fn spoil(random: &mut Random, call: &mut Call, table: &Picture) {
     let (used, longest) = (table.used as u64, table.file_len as u64);
     match call {
-        Call::Found { capacity, file_len, names } => match random.between(0, 2) {
+        Call::Found { capacity, file_len, names, choice } => match random.between(0, 3) {
             0 => *capacity = edge(random, MAX_ROWS as u64, *capacity),
             1 => *file_len = edge(random, MAX_FILE as u64, *file_len),
+            2 => *choice = any_choice(random),
             _ => names.push(random.byte()),
         },
         Call::Read { coordinator, answering, offset, length, buffer } => match random.between(0, 5) {

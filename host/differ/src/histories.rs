@@ -8,14 +8,19 @@ use crate::ledger::Ledger;
 use crate::random::Random;
 use crate::tables::{names_in_bytes, Picture};
 use crate::trial::{Case, Trial};
-use reference::{rows, Engine, Rules, Table};
+use reference::{rows, Engine, Rules, Table, TALL};
 
 fn set(members: &[usize]) -> u64 {
     members.iter().fold(0, |set, &row| set | rows::only(row))
 }
 
-fn found(capacity: usize, names: &[u16], file_len: usize) -> Call {
-    Call::Found { capacity: capacity as u64, file_len: file_len as u64, names: names_in_bytes(names) }
+/// The choices of a founding.
+const WIDE_TABLE: u64 = 0;
+const TALL_TABLE: u64 = 1;
+
+fn found(capacity: usize, names: &[u16], file_len: usize, choice: u64) -> Call {
+    let (capacity, file_len) = (capacity as u64, file_len as u64);
+    Call::Found { capacity, file_len, names: names_in_bytes(names), choice }
 }
 
 fn read(coordinator: u64, answering: &[usize]) -> Call {
@@ -50,7 +55,16 @@ fn expect(names: &[u16], calls: &[(Call, u64, u64)]) -> Vec<u8> {
 
 /// The same in a table of so many rows.
 fn expect_in(capacity: usize, names: &[u16], calls: &[(Call, u64, u64)]) -> Vec<u8> {
-    let founding = (found(capacity, names, 4), 0, names.len() as u64);
+    expect_founded(capacity, names, WIDE_TABLE, calls)
+}
+
+/// The same in a tall table.
+fn expect_tall(capacity: usize, names: &[u16], calls: &[(Call, u64, u64)]) -> Vec<u8> {
+    expect_founded(capacity, names, TALL_TABLE, calls)
+}
+
+fn expect_founded(capacity: usize, names: &[u16], choice: u64, calls: &[(Call, u64, u64)]) -> Vec<u8> {
+    let founding = (found(capacity, names, 4, choice), 0, names.len() as u64);
     expect_from(&blank(capacity, 4), &[&[founding], calls].concat())
 }
 
@@ -73,7 +87,7 @@ fn expect_from(case: &Case, calls: &[(Call, u64, u64)]) -> Vec<u8> {
 
 /// The machines as a founding by the scope's rules alone leaves them, with the newest form.
 fn carried_over(names: &[u16], file_len: usize) -> Case {
-    let founding = found(names.len(), names, file_len);
+    let founding = found(names.len(), names, file_len, WIDE_TABLE);
     let engine = Engine { rules: Rules::Published, ..Engine::default() };
     let mut case = Case { ledger: Ledger::published(), ..blank(names.len(), file_len) };
     let answer = founding.refer(engine, &mut case.table);
@@ -114,23 +128,22 @@ fn quorums_of_the_club_room() {
     expect(&[1, 2, 3, 4, 5], &[(write(1, &[1, 2, 4, 5]), 0, 1)]);
 }
 
-/// Columns {1, 3, 5} and {2, 4}.
+/// Columns {1, 3, 5} and {2, 4}, in a wide table and in a tall one.
 #[test]
 fn five_bear_the_loss_of_the_third() {
-    let left = expect(
-        &[10, 20, 30, 40, 50],
-        &[
-            (read(1, &[1, 2, 4, 5]), 0, 0),
-            (write(5, &[1, 2, 4, 5]), 0, 1),
-            (read(4, &[4, 5]), 0, 1),
-            (read(1, &[1, 3, 5]), 6, 0),
-            (write(1, &[1, 2, 3]), 6, 0),
-            (read(1, &[1, 2, 3]), 0, 1),
-            (check(1, &[1, 2, 4, 5]), 0, 1),
-            (write(1, &[1, 2, 4]), 0, 2),
-        ],
-    );
-    assert_eq!(left, [0, 0, 1, 0, 0], "the row that is away keeps its list and grid");
+    let names = [10, 20, 30, 40, 50];
+    let calls = [
+        (read(1, &[1, 2, 4, 5]), 0, 0),
+        (write(5, &[1, 2, 4, 5]), 0, 1),
+        (read(4, &[4, 5]), 0, 1),
+        (read(1, &[1, 3, 5]), 6, 0),
+        (write(1, &[1, 2, 3]), 6, 0),
+        (read(1, &[1, 2, 3]), 0, 1),
+        (check(1, &[1, 2, 4, 5]), 0, 1),
+        (write(1, &[1, 2, 4]), 0, 2),
+    ];
+    assert_eq!(expect(&names, &calls), [0, 0, 1, 0, 0], "the row that is away keeps its list and grid");
+    assert_eq!(expect_tall(5, &names, &calls), [TALL; 5]);
 }
 
 /// Which rows a write took shows in the rows that the next one marks.
@@ -197,6 +210,87 @@ fn a_five_carried_over_keeps_its_grid_until_it_is_laid_anew() {
     ];
     assert_eq!(expect_carried_over(&names, &kept), [0; 5]);
     assert_eq!(expect_carried_over(&names, &[&kept[..], &anew].concat()), [1; 5]);
+}
+
+/// One column: either machine reads, and both are needed to write or check.
+#[test]
+fn tall_two() {
+    let left = expect_tall(
+        2,
+        &[10, 21],
+        &[
+            (read(1, &[1]), 0, 0),
+            (read(2, &[2]), 0, 0),
+            (write(1, &[1]), 6, 0),
+            (check(2, &[2]), 6, 0),
+            (write(1, &[1, 2]), 0, 1),
+            (read(2, &[2]), 0, 1),
+            (check(1, &[1, 2]), 0, 0),
+        ],
+    );
+    assert_eq!(left, [TALL; 2]);
+    // One row and two columns: nobody reads alone.
+    expect(&[10, 21], &[(read(1, &[1]), 6, 0), (read(2, &[2]), 6, 0), (write(1, &[1, 2]), 0, 1)]);
+}
+
+/// Columns {1, 3, 5} and {2, 4, 6}; in a wide table {1, 4}, {2, 5} and {3, 6}.
+#[test]
+fn tall_six() {
+    let names = [10, 20, 30, 40, 50, 60];
+    let left = expect_tall(
+        6,
+        &names,
+        &[
+            (read(1, &[1, 2]), 0, 0),
+            (write(1, &[1, 2, 3, 4]), 6, 0),
+            (write(1, &[1, 2, 3, 5]), 0, 1),
+            (read(6, &[3, 6]), 0, 1),
+            (read(6, &[2, 4, 6]), 6, 0),
+            (check(1, &[1, 2, 3, 4, 5]), 0, 1),
+            (write(1, &[2, 4, 1]), 0, 2),
+        ],
+    );
+    assert_eq!(left, [TALL; 6]);
+    expect(&names, &[(read(1, &[1, 2]), 6, 0), (write(1, &[1, 2, 3, 4]), 0, 1), (read(6, &[2, 4, 6]), 0, 1)]);
+}
+
+/// Which rows a write took shows in the rows that the next one marks. In columns {1, 3, 5} and {2, 4, 6} a write by 15 has the
+/// second, and row 1.
+#[test]
+fn a_tall_choice_goes_by_the_tall_grid() {
+    let all = [1, 2, 3, 4, 5, 6];
+    let by_15 = [(write(1, &all), 0, 1), (write(2, &[1, 2, 3, 4, 5]), 0, 2)];
+    let behind = [(send(1, 3, &all), 0, 2), (send(1, 5, &all), 0, 2), (send(1, 6, &all), 10, 0)];
+    assert_eq!(expect_tall(6, &[15, 20, 30, 40, 50, 60], &[&by_15[..], &behind].concat()), [TALL; 6]);
+}
+
+/// Whoever checks: a row that joined, and has no list yet, too.
+#[test]
+fn a_check_keeps_a_tall_table_tall() {
+    let (pair, three) = ([1, 2], [1, 2, 3]);
+    let names = [10, 20];
+    let joined = [(join(30), 0, 3), (read(3, &[1, 3]), 0, 0), (read(3, &[3]), 6, 0)];
+    assert_eq!(expect_tall(3, &names, &joined), [TALL, TALL, 0]);
+    let taken_in = [(check(3, &three), 0, 1), (read(1, &[1]), 6, 0), (read(1, &pair), 0, 0)];
+    assert_eq!(expect_tall(3, &names, &[&joined[..], &taken_in].concat()), [TALL; 3]);
+    // Two again, in one column; row 3 keeps the list of three.
+    let left = [(check(1, &pair), 0, 2), (read(2, &[2]), 0, 0), (write(2, &[2]), 6, 0)];
+    assert_eq!(expect_tall(3, &names, &[&joined[..], &taken_in, &left].concat()), [TALL; 3]);
+}
+
+#[test]
+fn foundings_are_refused_for_another_choice() {
+    let (names, wide, tall) = ([1, 2, 3], WIDE_TABLE, TALL_TABLE);
+    let others = [2, 3, 255, 256, 257, 1 << 32, (1 << 32) + 1, 1 << 63, u64::MAX];
+    let refused = others.map(|choice| (found(3, &names, 4, choice), 11, 0));
+    let done = [wide, tall].map(|choice| (found(3, &names, 4, choice), 0, 3));
+    assert_eq!(expect_from(&blank(3, 4), &[&refused[..], &done].concat()), [TALL; 3]);
+    // Before the sizes are asked for.
+    let size_too = (found(2, &names, 0, 2), 11, 0);
+    assert_eq!(
+        expect_from(&blank(3, 4), &[size_too, (found(2, &names, 0, tall), 12, 0), done[0].clone()]),
+        [0; 3]
+    );
 }
 
 #[test]
@@ -333,7 +427,7 @@ fn every_length_of_range_buffer_and_patch() {
     for edge in [Edge::Start, Edge::End] {
         let case = Case { edge, ..blank(names.len(), file_len) };
         let mut trial = Trial::new(&mut archive, Engine::default(), &case);
-        trial.step(&found(names.len(), &names, file_len)).expect("no difference");
+        trial.step(&found(names.len(), &names, file_len, WIDE_TABLE)).expect("no difference");
         let (coordinator, answering) = (1, set(&[1, 2, 3]));
         for (offset, length) in (0..8).flat_map(|offset| (0..8).map(move |length| (offset, length))) {
             let patch = vec![0x5a; length as usize];
@@ -396,10 +490,10 @@ struct Explorer {
 impl Explorer {
     /// Founds the machines in a table of so many rows, and tries all histories of `depth` calls; gives how many calls were
     /// made.
-    fn explore(capacity: usize, names: &[u16], depth: u8) -> u64 {
+    fn explore(capacity: usize, names: &[u16], choice: u64, depth: u8) -> u64 {
         let mut archive = Archive::new();
         let mut trial = Trial::new(&mut archive, Engine::default(), &blank(capacity, 1));
-        trial.step(&found(capacity, names, 1)).expect("no difference");
+        trial.step(&found(capacity, names, 1, choice)).expect("no difference");
         let (table, ledger) = trial.into_state();
         Explorer::explore_from(&table, &ledger, depth)
     }
@@ -451,22 +545,29 @@ fn every_call(table: &[u8], mark: u8) -> Vec<Call> {
 
 #[test]
 fn all_short_histories_on_few_machines() {
-    let few: [(usize, &[u16], u8); 10] = [
-        (1, &[900], 8),
-        (2, &[5, 6], 8),
-        (3, &[31, 500, 501], 5),
-        (4, &[10, 21, 35, 64], 4),
-        (5, &[10, 21, 35, 64, 70], 3),
+    let few: [(usize, &[u16], u64, u8); 15] = [
+        (1, &[900], WIDE_TABLE, 8),
+        (2, &[5, 6], WIDE_TABLE, 8),
+        (3, &[31, 500, 501], WIDE_TABLE, 5),
+        (4, &[10, 21, 35, 64], WIDE_TABLE, 4),
+        (5, &[10, 21, 35, 64, 70], WIDE_TABLE, 3),
         // With room to join.
-        (3, &[900], 6),
-        (3, &[5, 7], 6),
-        (4, &[5, 7], 4),
-        (4, &[31, 500, 502], 4),
-        (5, &[10, 21, 35, 64], 3),
+        (3, &[900], WIDE_TABLE, 6),
+        (3, &[5, 7], WIDE_TABLE, 6),
+        (4, &[5, 7], WIDE_TABLE, 4),
+        (4, &[31, 500, 502], WIDE_TABLE, 4),
+        (5, &[10, 21, 35, 64], WIDE_TABLE, 3),
+        // Tall.
+        (1, &[900], TALL_TABLE, 8),
+        (2, &[5, 6], TALL_TABLE, 8),
+        (3, &[5, 7], TALL_TABLE, 6),
+        (5, &[10, 21, 35, 64, 70], TALL_TABLE, 2),
+        (6, &[10, 21, 35, 64, 70, 81], TALL_TABLE, 2),
     ];
-    for (capacity, names, depth) in few {
-        let calls = Explorer::explore(capacity, names, depth);
-        println!("{} machines, {capacity} rows, {depth} calls deep: {calls} calls", names.len());
+    for (capacity, names, choice, depth) in few {
+        let calls = Explorer::explore(capacity, names, choice, depth);
+        let machines = names.len();
+        println!("{machines} machines, {capacity} rows, choice {choice}, {depth} calls deep: {calls} calls");
         assert!(calls > 0);
     }
     let Case { table, ledger, .. } = carried_over(&[10, 21, 35, 64, 70], 1);

@@ -1,7 +1,7 @@
 //! Keeps the plain book beside a history, and compares the answers with it.
 
 use crate::call::{result_shown, Answer, Call};
-use reference::{rows, Book, Quorum, Rules};
+use reference::{rows, Book, Quorum, Rules, Shape};
 
 /// Closed until a founding is done.
 #[derive(Clone, Debug, Default)]
@@ -33,10 +33,11 @@ impl Ledger {
     /// Takes in a call and its answer; an error says how the book differs.
     pub fn hear(&mut self, call: &Call, answer: &Answer) -> Result<(), String> {
         let done = answer.result >> 32 == 0;
-        if let (Call::Found { file_len, names, .. }, true) = (call, done) {
+        if let (Call::Found { file_len, names, choice, .. }, true) = (call, done) {
             let names: Vec<u16> =
                 names.chunks(2).map(|name| u16::from_le_bytes([name[0], name[1]])).collect();
-            self.book = Some(Book::open(self.rules, *file_len as usize, &names));
+            let shape = Shape::chosen(*choice).ok_or("a founding with another choice was done")?;
+            self.book = Some(Book::open(self.rules, *file_len as usize, &names, shape));
         }
         let Some(book) = &mut self.book else { return Ok(()) };
         match call {
@@ -136,16 +137,12 @@ mod tests {
     }
 
     /// Good rows of a founded history hold the same bytes, so the book cannot tell which of them was read; and no
-    /// history leads to two marks in one epoch.
+    /// history leads to two marks in one epoch, or to two shapes in one table.
     #[test]
-    fn the_book_alone_finds_all_blunders_but_two() {
+    fn the_book_alone_finds_all_blunders_but_three() {
+        let hidden = [Blunder::HighestGood, Blunder::MarksOfEpoch, Blunder::ShapesOfTable];
         for blunder in Blunder::ALL {
-            assert_eq!(
-                book_finds(Some(blunder), 50_000),
-                !matches!(blunder, Blunder::HighestGood | Blunder::MarksOfEpoch),
-                "{}",
-                blunder.name()
-            );
+            assert_eq!(book_finds(Some(blunder), 50_000), !hidden.contains(&blunder), "{}", blunder.name());
         }
     }
 }

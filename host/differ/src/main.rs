@@ -106,10 +106,10 @@ fn compare(seed: u64, options: &Options) -> bool {
         return false;
     }
     println!(
-        "differ: {calls} calls ({} by the scope's rules alone too, {} decided by the grid of a five) and {} twins in {:.1} s, \
+        "differ: {calls} calls ({} by the scope's rules alone too, {} decided by a grid mark) and {} twins in {:.1} s, \
          no difference (seed {seed})",
         run.counts.published(),
-        run.counts.fives(),
+        run.counts.decided(),
         run.counts.twins(),
         started.elapsed().as_secs_f64()
     );

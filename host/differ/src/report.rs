@@ -2,6 +2,7 @@
 
 use crate::call::Call;
 use crate::tables::Picture;
+use reference::Shape;
 use std::collections::BTreeMap;
 use std::fmt;
 use std::ops::RangeInclusive;
@@ -21,8 +22,9 @@ pub struct Counts {
     grounds: [[u64; Ground::ALL.len()]; KINDS],
     /// For each kind of call, how often the scope's rules alone judged it too, on a well-formed table.
     published: [u64; KINDS],
-    /// For each kind of call and grid mark, how often a list of five judged it that the other grid would have judged otherwise.
-    fives: [[u64; 2]; KINDS],
+    /// For each kind of call and grid mark, how often a list of that mark judged it that its other grid would have judged
+    /// otherwise.
+    decided: [[u64; MARKS.len()]; KINDS],
 }
 
 /// The answers that each kind of call can give, 0 for done, in the order of `Call::KINDS`.
@@ -41,6 +43,9 @@ const PUBLISHED: RangeInclusive<usize> = 1..=4;
 /// The kinds of calls that ask for a quorum: read, write, check.
 const QUORUM: [usize; 3] = [1, 2, 4];
 
+/// The lists that can lie in two grids, by grid mark.
+const MARKS: [&str; 3] = ["a five in the published grid", "a five in the new grid", "a tall list"];
+
 /// The kinds of tables that a call is made on.
 #[derive(Clone, Copy, Debug, PartialEq, Eq)]
 pub enum Ground {
@@ -49,24 +54,37 @@ pub enum Ground {
     Published,
     /// Every row has a list, and some lie in the new grid of five.
     Marked,
-    /// Some rows have a list, and some have none.
+    /// Every row has a list, and all are tall.
+    Tall,
+    /// Some rows have a list, none of them tall, and some have none.
     Mixed,
+    /// Some rows have a list, all of them tall, and some have none.
+    TallMixed,
     /// No row has a list.
     Unlisted,
 }
 
 impl Ground {
-    const ALL: [Ground; 5] =
-        [Ground::Malformed, Ground::Published, Ground::Marked, Ground::Mixed, Ground::Unlisted];
+    pub const ALL: [Ground; 7] = [
+        Ground::Malformed,
+        Ground::Published,
+        Ground::Marked,
+        Ground::Tall,
+        Ground::Mixed,
+        Ground::TallMixed,
+        Ground::Unlisted,
+    ];
 
     /// Judges a table, which is there if it is well formed.
     pub fn of(table: Option<&Picture>) -> Ground {
         let Some(table) = table else { return Ground::Malformed };
-        match table.rows.iter().filter(|row| row.list.is_empty()).count() {
-            0 if table.rows.iter().all(|row| row.list.mark == 0) => Ground::Published,
-            0 => Ground::Marked,
-            count if count < table.used => Ground::Mixed,
-            _ => Ground::Unlisted,
+        let Some(shape) = table.shape() else { return Ground::Unlisted };
+        match (shape, table.unlisted()) {
+            (Shape::Wide, 0) if table.rows.iter().all(|row| row.list.mark == 0) => Ground::Published,
+            (Shape::Wide, 0) => Ground::Marked,
+            (Shape::Tall, 0) => Ground::Tall,
+            (Shape::Wide, _) => Ground::Mixed,
+            (Shape::Tall, _) => Ground::TallMixed,
         }
     }
 
@@ -75,7 +93,9 @@ impl Ground {
             Ground::Malformed => "malformed table",
             Ground::Published => "table whose rows all have a list in the published grid",
             Ground::Marked => "table whose rows all have a list, some in the new grid",
+            Ground::Tall => "table whose rows all have a tall list",
             Ground::Mixed => "table with and without lists",
+            Ground::TallMixed => "table with and without tall lists",
             Ground::Unlisted => "table without a list",
         }
     }
@@ -90,8 +110,8 @@ pub struct Step {
     pub twin_of: Option<usize>,
     /// Was the call judged by the scope's rules alone too?
     pub published: bool,
-    /// The mark of the list of five that judged the call, if the other grid would have judged otherwise.
-    pub five: Option<u8>,
+    /// The mark of the list that judged the call, if its other grid would have judged otherwise.
+    pub decided: Option<u8>,
 }
 
 impl Default for Counts {
@@ -101,7 +121,7 @@ impl Default for Counts {
             twins: [[0; 65]; KINDS],
             grounds: Default::default(),
             published: Default::default(),
-            fives: Default::default(),
+            decided: Default::default(),
         }
     }
 }
@@ -111,8 +131,8 @@ impl Counts {
         *self.answers[call.kind()].entry((step.result >> 32) as u32).or_default() += 1;
         self.grounds[call.kind()][step.ground as usize] += 1;
         self.published[call.kind()] += u64::from(step.published && step.ground == Ground::Published);
-        if let Some(mark) = step.five {
-            self.fives[call.kind()][usize::from(mark)] += 1;
+        if let Some(mark) = step.decided {
+            self.decided[call.kind()][usize::from(mark)] += 1;
         }
         if let Some(used) = step.twin_of {
             self.twins[call.kind()][used] += 1;
@@ -133,13 +153,13 @@ impl Counts {
         self.published.iter().sum()
     }
 
-    /// How often a list of five judged a call that the other grid would have judged otherwise.
-    pub fn fives(&self) -> u64 {
-        self.fives.iter().flatten().sum()
+    /// How often the grid of a list judged a call that its other grid would have judged otherwise.
+    pub fn decided(&self) -> u64 {
+        self.decided.iter().flatten().sum()
     }
 
     /// What never came: answers that a call can give, kinds of tables, twins of a call at each size, the scope's rules
-    /// alone, and lists of five whose grid tells.
+    /// alone, and lists whose grid tells.
     pub fn missing(&self) -> Vec<String> {
         let mut missing = Vec::new();
         for (kind, name) in Call::KINDS.into_iter().enumerate() {
@@ -158,9 +178,8 @@ impl Counts {
             }
         }
         for kind in QUORUM {
-            let marks = (0..2).filter(|&mark| self.fives[kind][mark] == 0);
-            missing
-                .extend(marks.map(|mark| format!("{} decided by a five of mark {mark}", Call::KINDS[kind])));
+            let never = MARKS.into_iter().zip(self.decided[kind]).filter(|&(_, count)| count == 0);
+            missing.extend(never.map(|(list, _)| format!("{} decided by {list}", Call::KINDS[kind])));
         }
         missing
     }
@@ -198,7 +217,7 @@ mod tests {
 
     fn calls() -> [Call; KINDS] {
         [
-            Call::Found { capacity: 1, file_len: 1, names: vec![1, 0] },
+            Call::Found { capacity: 1, file_len: 1, names: vec![1, 0], choice: 0 },
             Call::Read { coordinator: 1, answering: 1, offset: 0, length: 1, buffer: vec![0] },
             Call::Write { coordinator: 1, answering: 1, offset: 0, patch: vec![0] },
             Call::Send { from: 1, to: 2, answering: 3 },
@@ -210,14 +229,14 @@ mod tests {
     /// A call that gave this answer, on a table whose rows all have a list in the published grid.
     fn step(answer: u32) -> Step {
         let result = u64::from(answer) << 32;
-        Step { result, ground: Ground::Published, twin_of: None, published: false, five: None }
+        Step { result, ground: Ground::Published, twin_of: None, published: false, decided: None }
     }
 
     #[test]
     fn every_answer_table_and_size_must_come() {
         let mut counts = Counts::default();
         let answers: usize = POSSIBLE.iter().map(|answers| answers.len()).sum();
-        assert_eq!(counts.missing().len(), answers + 5 * (64 + Ground::ALL.len()) + 4 + 6);
+        assert_eq!(counts.missing().len(), answers + 5 * (64 + Ground::ALL.len()) + 4 + 9);
         for (call, possible) in calls().iter().zip(POSSIBLE) {
             for &answer in possible {
                 counts.add(call, step(answer));
@@ -235,19 +254,19 @@ mod tests {
         }
         let rules =
             ["read", "write", "send", "check"].map(|name| format!("{name} by the scope's rules alone"));
-        let fives = ["read", "write", "check"]
-            .map(|name| [0, 1].map(|mark| format!("{name} decided by a five of mark {mark}")));
-        assert_eq!(counts.missing(), [&rules, fives.as_flattened()].concat());
+        let decided =
+            ["read", "write", "check"].map(|name| MARKS.map(|list| format!("{name} decided by {list}")));
+        assert_eq!(counts.missing(), [&rules, decided.as_flattened()].concat());
         for call in &calls()[PUBLISHED] {
             counts.add(call, Step { published: true, ..step(0) });
         }
-        assert_eq!((counts.missing(), counts.published()), (fives.as_flattened().to_vec(), 4));
+        assert_eq!((counts.missing(), counts.published()), (decided.as_flattened().to_vec(), 4));
         for kind in QUORUM {
-            for mark in [0, 1] {
-                counts.add(&calls()[kind], Step { five: Some(mark), ..step(6) });
+            for mark in [0, 1, 2] {
+                counts.add(&calls()[kind], Step { decided: Some(mark), ..step(6) });
             }
         }
-        assert_eq!((counts.missing(), counts.fives()), (vec![], 6));
+        assert_eq!((counts.missing(), counts.decided()), (vec![], 9));
         assert_eq!(counts.impossible(), ["found 1"]);
     }
 

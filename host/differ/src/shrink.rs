@@ -92,7 +92,7 @@ fn on_fewer_machines(case: &Case, count: usize) -> Option<Case> {
     let mut fewer = case.clone();
     let joinings = case.calls.iter().filter(|call| matches!(call, Call::Join { .. })).count();
     let rows = (count + joinings).min(MAX_ROWS);
-    let Some(Call::Found { capacity, file_len, names }) = fewer.calls.first_mut() else { return None };
+    let Some(Call::Found { capacity, file_len, names, .. }) = fewer.calls.first_mut() else { return None };
     if 2 * count >= names.len() || *file_len > MAX_FILE as u64 {
         return None;
     }
@@ -107,7 +107,10 @@ fn on_fewer_machines(case: &Case, count: usize) -> Option<Case> {
 /// Plainer calls, each one step away.
 fn plainer(call: &Call) -> Vec<Call> {
     match call {
-        Call::Found { .. } | Call::Join { .. } => Vec::new(),
+        Call::Found { choice: 0, .. } | Call::Join { .. } => Vec::new(),
+        Call::Found { capacity, file_len, names, .. } => {
+            vec![Call::Found { capacity: *capacity, file_len: *file_len, names: names.clone(), choice: 0 }]
+        }
         Call::Read { coordinator, answering, offset, length, buffer } => {
             let with = |answering, offset, length, buffer: &[u8]| Call::Read {
                 coordinator: *coordinator,

@@ -2,7 +2,7 @@
 
 use crate::random::Random;
 use reference::rows;
-use reference::{Laid, Row, Table, LIMIT};
+use reference::{Laid, Row, Shape, Table, LIMIT, TALL};
 use std::ops::Deref;
 
 /// A well-formed table with its used rows, kept apart from its bytes.
@@ -36,6 +36,11 @@ impl Picture {
         let listed =
             (1..).zip(&self.rows).filter(|(row, state)| rows::has(set, *row) && !state.list.is_empty());
         listed.max_by_key(|(_, state)| state.epoch).map_or(Laid::EMPTY, |(_, state)| state.list)
+    }
+
+    /// The shape of its lists; one without a list may have either.
+    pub fn shape(&self) -> Option<Shape> {
+        self.rows.iter().find(|row| !row.list.is_empty()).map(|row| row.list.shape())
     }
 
     /// The row at a place of the chain; places count from 0.
@@ -145,17 +150,18 @@ fn used_rows(random: &mut Random, chain: &[usize]) -> Vec<Row> {
 const LONE_EPOCH: u32 = 900_000;
 
 /// For each row its epoch number and the list of that epoch. In half of the tables some rows, or all, have an empty list,
-/// and any epoch number.
+/// and any epoch number. A third of the tables are tall.
 fn epochs(random: &mut Random, count: usize) -> Vec<(u32, Laid)> {
     let kinds = random.pick(&[1, 1, 2, 4]);
     let lowest = random.pick(&[0, 0, 0, LIMIT - kinds as u32, LIMIT + 1 - kinds as u32]);
     let outside = random.pick(&[0, 5, 9, 10]);
+    let shape = shape(random);
     let epoch_of: Vec<u32> = (0..count).map(|_| lowest + random.between(0, kinds - 1) as u32).collect();
     let list_of: Vec<Laid> = (0..kinds as u32)
         .map(|kind| {
             let own = (1..).zip(&epoch_of).filter(|(_, &epoch)| epoch == lowest + kind);
             let own = own.fold(0, |list, (row, _)| list | rows::only(row));
-            list(random, rows::first(count), own, outside)
+            list(random, rows::first(count), own, outside, shape)
         })
         .collect();
     let unlisted = random.pick(&[0, 0, 0, 0, 1, 3, 6, 10]);
@@ -169,15 +175,27 @@ fn epochs(random: &mut Random, count: usize) -> Vec<(u32, Laid)> {
     epoch_of.iter().map(of_row).collect()
 }
 
-/// A list that has at least its own rows, and each other one with a chance of so many tenths; often one of five, if that
-/// can be. Five lie in either grid.
-fn list(random: &mut Random, among: u64, own: u64, tenths: u64) -> Laid {
+fn shape(random: &mut Random) -> Shape {
+    random.pick(&[Shape::Wide, Shape::Wide, Shape::Tall])
+}
+
+/// A list that has at least its own rows, and each other one with a chance of so many tenths; often of a length that can
+/// lie in two grids, if that can be. Five in a wide table lie in either grid.
+fn list(random: &mut Random, among: u64, own: u64, tenths: u64, shape: Shape) -> Laid {
+    let length = match shape {
+        Shape::Wide => 5,
+        Shape::Tall => random.pick(&[2, 5, 6, 11]),
+    };
     let members = if random.chance(1, 3) {
-        filled(random, among, own, 5)
+        filled(random, among, own, length)
     } else {
         own | random.subset(among, tenths, 10)
     };
-    Laid { members, mark: u8::from(members.count_ones() == 5 && random.chance(1, 2)) }
+    let mark = match shape {
+        Shape::Wide => u8::from(members.count_ones() == 5 && random.chance(1, 2)),
+        Shape::Tall => TALL,
+    };
+    Laid { members, mark }
 }
 
 /// The set with random rows besides its own, as many as it takes for `length` members, or all.
@@ -189,11 +207,14 @@ pub fn filled(random: &mut Random, among: u64, own: u64, length: u32) -> u64 {
     members
 }
 
-/// The same table with other bytes in the rows that did not answer; header, names and links stay.
+/// The same table with other bytes in the rows that did not answer; header, names and links stay. Its shape too, unless
+/// no row that answered has a list.
 pub fn twin(random: &mut Random, bytes: &[u8], table: &Table, answering: u64) -> Vec<u8> {
     let mut twin = bytes.to_vec();
     let answered = rows::members(answering & table.all_used()).map(|row| table.row(bytes, row));
-    let taken: Vec<u32> = answered.filter(|row| !row.list.is_empty()).map(|row| row.epoch).collect();
+    let listed: Vec<Row> = answered.filter(|row| !row.list.is_empty()).collect();
+    let taken: Vec<u32> = listed.iter().map(|row| row.epoch).collect();
+    let shape = listed.first().map_or_else(|| shape(random), |row| row.list.shape());
     let mut free = (0..=LIMIT).rev().filter(|epoch| !taken.contains(epoch)).step_by(random.between(1, 3));
     let unlisted = random.pick(&[0, 1, 5, 10]);
     for row in rows::members(table.all_used() & !answering) {
@@ -203,7 +224,7 @@ pub fn twin(random: &mut Random, bytes: &[u8], table: &Table, answering: u64) ->
             (state.epoch, state.list) = (random.pick(&[0, any, LONE_EPOCH, LIMIT]), Laid::EMPTY);
         } else {
             state.epoch = free.next().expect("more epochs than rows");
-            state.list = list(random, table.all_used(), rows::only(row), 5);
+            state.list = list(random, table.all_used(), rows::only(row), 5, shape);
         }
         state.version = random.pick(&[0, 1, 7, LIMIT - 1]);
         state.stale = random.chance(1, 2);
@@ -231,15 +252,15 @@ mod tests {
         }
     }
 
-    /// None, one or both in a table, and so among the rows of a twin that did not answer.
+    /// None, one or both in a wide table, and so among the rows of a twin that did not answer; and tall ones by themselves.
     #[test]
-    fn fives_of_both_marks_are_made() {
+    fn fives_of_every_mark_are_made() {
         let marks = |table: &Picture, set| {
             let fives = rows::members(set).map(|row| table.row(row).list);
             fives.filter(|list| list.members.count_ones() == 5).fold(0, |marks, list| marks | 1 << list.mark)
         };
-        let (mut made, mut twins) = ([0; 4], [0; 4]);
-        for case in 0..2_000 {
+        let (mut made, mut twins) = ([0; 8], [0; 8]);
+        for case in 0..4_000 {
             let mut random = Random::new(1, case);
             let size = Size::pick(&mut random);
             let bytes = well_formed(&mut random, size);
@@ -250,7 +271,32 @@ mod tests {
             let twin = Picture::of(&twin).expect("well formed");
             twins[marks(&twin, twin.all_used() & !answering)] += 1;
         }
-        assert!(made.into_iter().chain(twins).all(|count| count > 100), "{made:?} {twins:?}");
+        for counts in [made, twins] {
+            assert!(counts[..5].iter().all(|&count| count > 100), "{made:?} {twins:?}");
+            assert_eq!(counts[5..], [0; 3]);
+        }
+    }
+
+    /// Where no row that answered has a list, a twin may have the other shape; elsewhere it has the same.
+    #[test]
+    fn twins_keep_the_shape_of_those_that_answered() {
+        let (mut kept, mut others) = (0, 0);
+        for case in 0..2_000 {
+            let mut random = Random::new(7, case);
+            let size = Size::pick(&mut random);
+            let bytes = well_formed(&mut random, size);
+            let table = Picture::of(&bytes).expect("well formed");
+            let answering = random.next() & table.all_used() & random.pick(&[0, u64::MAX]);
+            let twin = Picture::of(&twin(&mut random, &bytes, &table, answering)).expect("well formed");
+            let (Some(shape), Some(shape_of_twin)) = (table.shape(), twin.shape()) else { continue };
+            if answering & !table.unlisted() != 0 {
+                assert_eq!(shape, shape_of_twin);
+                kept += usize::from(shape == Shape::Tall);
+            } else {
+                others += usize::from(shape != shape_of_twin);
+            }
+        }
+        assert!(kept > 100 && others > 100, "{kept} {others}");
     }
 
     #[test]
@@ -271,7 +317,7 @@ mod tests {
                 stale += usize::from(row.stale);
             }
         }
-        for ground in [Ground::Published, Ground::Marked, Ground::Mixed, Ground::Unlisted] {
+        for ground in Ground::ALL.into_iter().filter(|&ground| ground != Ground::Malformed) {
             assert!(grounds.iter().filter(|&&made| made == ground).count() > 100, "{ground:?}");
         }
         assert!(lone > 100 && shared > 100 && stale > 100, "{lone} {shared} {stale}");

@@ -7,7 +7,7 @@ use crate::ledger::Ledger;
 use crate::random::Random;
 use crate::report::{Ground, Step};
 use crate::tables::{self, Picture};
-use reference::{rows, Engine, Laid, Layout, Quorum, Rules, Table, HEADER};
+use reference::{rows, Engine, Laid, Layout, Quorum, Rules, Shape, Table, HEADER, TALL};
 
 /// A table and the calls made on it.
 #[derive(Clone, Debug)]
@@ -72,9 +72,9 @@ impl<'a> Trial<'a> {
         self.refer(self.reference, call, &answer, &before)?;
         let published = self.ask_published(call, &answer, &before, ground)?;
         frame(call, &answer, &before, &self.table)?;
-        let (five, twin_of) = match &judged {
+        let (decided, twin_of) = match &judged {
             Some(table) => {
-                (deciding_five(call, &answer, table), self.ask_twin(call, &answer, &before, table)?)
+                (deciding_mark(call, &answer, table), self.ask_twin(call, &answer, &before, table)?)
             }
             None => (None, None),
         };
@@ -82,7 +82,7 @@ impl<'a> Trial<'a> {
         if self.ledger.is_open() && Table::decode(&self.table).is_none() {
             return Err("a founded history leaves a malformed table".into());
         }
-        Ok(Step { result: answer.result, ground, twin_of, published, five })
+        Ok(Step { result: answer.result, ground, twin_of, published, decided })
     }
 
     /// Compares what the archive gave and left with what the engine gives and leaves.
@@ -150,21 +150,23 @@ impl<'a> Trial<'a> {
     }
 }
 
-/// The mark of the list in force among the rows that answered, if it has five members and the other grid of five would
-/// have answered question 6 otherwise.
-fn deciding_five(call: &Call, answer: &Answer, table: &Picture) -> Option<u8> {
+/// The mark of the list in force among the rows that answered, if its other grid would have answered question 6 otherwise: of
+/// a list of five in a wide table the other grid of five, of a tall one the grid that it would have in a wide table.
+fn deciding_mark(call: &Call, answer: &Answer, table: &Picture) -> Option<u8> {
     let (answering, quorum) = match *call {
         Call::Read { answering, .. } => (answering, Quorum::Read),
         Call::Write { answering, .. } | Call::Check { answering, .. } => (answering, Quorum::Write),
         Call::Found { .. } | Call::Send { .. } | Call::Join { .. } => return None,
     };
     let list = table.newest(answering);
-    if !matches!(answer.result >> 32, 0 | 6..=8) || list.members.count_ones() != 5 {
-        return None;
-    }
-    let [published, new] =
-        [0, 1].map(|mark| Layout::of(Laid { mark, ..list }, &table.chain).holds(quorum, answering));
-    (published != new).then_some(list.mark)
+    let other = match list.mark {
+        _ if !matches!(answer.result >> 32, 0 | 6..=8) => return None,
+        TALL => Rules::Newest.lay(Shape::Wide, list.members),
+        mark if list.members.count_ones() == 5 => Laid { mark: 1 - mark, ..list },
+        _ => return None,
+    };
+    let [own, other] = [list, other].map(|list| Layout::of(list, &table.chain).holds(quorum, answering));
+    (own != other).then_some(list.mark)
 }
 
 fn compare(answer: &Answer, table: &[u8], expected: &Answer, expected_table: &[u8]) -> Result<(), String> {
@@ -278,7 +280,7 @@ mod tests {
     fn a_joining_out_of_order_is_found_out() {
         let blundering = Engine { blunder: Some(reference::Blunder::LinkTooFar), ..Engine::default() };
         let mut before = vec![0; Table::length(3, 1)];
-        blundering.found(&mut before, 3, 1, &tables::names_in_bytes(&[10, 20]));
+        blundering.found(&mut before, 3, 1, &tables::names_in_bytes(&[10, 20]), 0);
         let mut after = before.clone();
         let value = blundering.join(&mut after, 15);
         assert_eq!(

@@ -1,9 +1,9 @@
 //! Four machines share a file of results. Run with `cargo run --example first`.
 
-use dyngrid::{Refusal, Rows, Table};
+use dyngrid::{Refusal, Rows, Shape, Table};
 
 fn main() -> Result<(), Refusal> {
-    let mut table = Table::found(4, 16, &[10, 20, 30, 40])?;
+    let mut table = Table::found(4, 16, &[10, 20, 30, 40], Shape::Wide)?;
 
     // Machine 10 is row 1. It imports a score while row 4 is away.
     let version = table.write(1, Rows::of(&[1, 2, 3])?, 0, b"1-0")?;

@@ -1,7 +1,7 @@
 //! Machines that each hold their own row: a relay gathers the rows that answer, makes a call on them, and ships the
 //! rows that changed. Four are founded, and a fifth joins. Run with `cargo run --example relay`.
 
-use dyngrid::{Refusal, Rows, Table};
+use dyngrid::{Refusal, Rows, Shape, Table};
 
 const FILE_LEN: usize = 16;
 /// Bytes of a row, and of the header before the rows.
@@ -20,7 +20,7 @@ struct Relay {
 
 impl Relay {
     fn found(capacity: usize, names: &[u16]) -> Result<Relay, Refusal> {
-        let roster = Table::found(capacity, FILE_LEN, names)?;
+        let roster = Table::found(capacity, FILE_LEN, names, Shape::Wide)?;
         let machines = roster.rows().iter().filter_map(|row| roster.row(row)).map(<[u8]>::to_vec).collect();
         Ok(Relay { roster, machines })
     }

@@ -5,9 +5,9 @@
 //! Rows have numbers of one type, `usize`, from 1 on.
 //!
 //! ```
-//! use dyngrid::{Rows, Table};
+//! use dyngrid::{Rows, Shape, Table};
 //!
-//! let mut table = Table::found(4, 16, &[10, 20, 30, 40])?;
+//! let mut table = Table::found(4, 16, &[10, 20, 30, 40], Shape::Wide)?;
 //! let version = table.write(1, Rows::of(&[1, 2, 3])?, 0, b"1-0")?;
 //! let mut score = [0; 3];
 //! assert_eq!(table.read(4, Rows::of(&[3, 4])?, 0, &mut score)?, version);
@@ -24,4 +24,4 @@ mod table;
 
 pub use refusal::Refusal;
 pub use rows::{Rows, RowsIter};
-pub use table::{NotATable, Table};
+pub use table::{NotATable, Shape, Table};

@@ -9,7 +9,12 @@
 use std::sync::OnceLock;
 
 /// Rises with every change of a signature below, as in the archive, and with nothing else: a table tells its form itself.
-pub const INTERFACE: u64 = 2;
+pub const INTERFACE: u64 = 3;
+
+/// The choices of a founding: a wide table, or a tall one.
+pub const WIDE: u64 = 0;
+/// See [`WIDE`].
+pub const TALL: u64 = 1;
 
 /// Panics unless the archive has the signatures that are declared here. The archive is asked once.
 pub fn assert_interface() {
@@ -30,7 +35,7 @@ extern "C" {
     /// The number of the archive's interface.
     pub fn grid_interface() -> u64;
 
-    /// Founds a table. Value: the rows used.
+    /// Founds a table; the choice is [`WIDE`] or [`TALL`]. Value: the rows used.
     pub fn grid_found(
         table: *mut u8,
         table_len: usize,
@@ -38,6 +43,7 @@ extern "C" {
         file_len: u64,
         names: *const u8,
         names_len: usize,
+        choice: u64,
     ) -> u64;
 
     /// Reads a range into the buffer. Value: the version read.
@@ -84,7 +90,7 @@ mod tests {
 
     #[test]
     #[should_panic(
-        expected = "has interface 7, and this wrapper needs 2: build archive and wrapper from one checkout"
+        expected = "has interface 7, and this wrapper needs 3: build archive and wrapper from one checkout"
     )]
     fn another_archive_is_refused() {
         agree(7);

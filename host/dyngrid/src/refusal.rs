@@ -27,7 +27,7 @@ pub enum Refusal {
     SenderStale,
     /// 10: the receiving row is not stale, or desires more than the sender has.
     ReceiverNotBehind,
-    /// 11: the names are not 1 to 64, strictly rising, none 0.
+    /// 11: the names are not 1 to 64, strictly rising, none 0, or the choice is neither wide nor tall.
     BadNames,
     /// 12: capacity and file length do not fit.
     BadSize,
@@ -102,7 +102,10 @@ impl Refusal {
             Refusal::ReceiverNotBehind => {
                 "the receiving row is not stale, or desires a newer version: send to a stale row, from a newer one"
             }
-            Refusal::BadNames => "the names are not 1 to 64 strictly rising numbers above 0: sort them, each once",
+            Refusal::BadNames => {
+                "the names are not 1 to 64 strictly rising numbers above 0, or the choice is neither 0 (wide) nor 1 (tall): \
+                 sort the names, each once"
+            }
             Refusal::BadSize => {
                 "the sizes do not fit: up to 64 rows, no fewer than the names, and a file of 1 to 4,096 bytes"
             }

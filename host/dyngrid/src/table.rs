@@ -7,6 +7,18 @@ const FORM: u8 = 2;
 const HEADER: usize = 16;
 const ROW_HEADER: usize = 32;
 
+/// How the lists of a table are laid; chosen at its founding, for good.
+#[derive(Clone, Copy, Debug, PartialEq, Eq, Hash)]
+pub enum Shape {
+    /// In the published grids, and five in 3 rows and 2 columns.
+    Wide,
+    /// Rows and columns exchanged wherever the published grid has one row less than columns: at 2, 5, 6, 10 to 12, 17 to 20
+    /// machines and so on. There a read calls one machine less than in the published grid. A write calls no more, but needs a
+    /// longer column whole, so it is refused sooner when machines are away. For files that are read hundreds of times for
+    /// each write.
+    Tall,
+}
+
 /// A grid table that owns its bytes.
 ///
 /// Its length always agrees with its header, and no buffer, patch or list of names can overlap it. Rows have the
@@ -20,17 +32,23 @@ pub struct Table {
 }
 
 impl Table {
-    /// Founds a table of `capacity` rows for a file of `file_len` zero bytes on the machines `names`, which must rise.
+    /// Founds a table of `capacity` rows for a file of `file_len` zero bytes on the machines `names`, which must rise; all its
+    /// lists, those that checks lay too, have this shape.
     ///
     /// Panics if the archive has another interface than this wrapper.
-    pub fn found(capacity: usize, file_len: usize, names: &[u16]) -> Result<Table, Refusal> {
+    pub fn found(capacity: usize, file_len: usize, names: &[u16], shape: Shape) -> Result<Table, Refusal> {
         raw::assert_interface();
         let mut bytes = vec![0; length(capacity, file_len).unwrap_or(0)];
         let names: Vec<u8> = names.iter().flat_map(|name| name.to_le_bytes()).collect();
         let (capacity, file_len) = (capacity as u64, file_len as u64);
+        let (table, table_len) = (bytes.as_mut_ptr(), bytes.len());
+        let choice = match shape {
+            Shape::Wide => raw::WIDE,
+            Shape::Tall => raw::TALL,
+        };
         // SAFETY: both vectors are live for the call, and they are two.
         let result = unsafe {
-            raw::grid_found(bytes.as_mut_ptr(), bytes.len(), capacity, file_len, names.as_ptr(), names.len())
+            raw::grid_found(table, table_len, capacity, file_len, names.as_ptr(), names.len(), choice)
         };
         split(result).map(|_| Table { bytes })
     }
@@ -41,8 +59,8 @@ impl Table {
     /// keeps its grid: see [`Table::check`] for one of five.
     ///
     /// ```
-    /// # use dyngrid::{Refusal, Table};
-    /// # let mut kept = Table::found(4, 16, &[10, 20, 30, 40])?.into_bytes();
+    /// # use dyngrid::{Refusal, Shape, Table};
+    /// # let mut kept = Table::found(4, 16, &[10, 20, 30, 40], Shape::Wide)?.into_bytes();
     /// # kept[0] = 1;
     /// let table = Table::from_bytes(kept).or_else(|error| {
     ///     let form_1 = error.is_form_1();
@@ -171,8 +189,8 @@ impl Table {
 
     /// Makes the rows that answered the list in force; gives the epoch number in force.
     ///
-    /// A list of five, founded or laid by a check, lies in 3 rows and 2 columns: any one of its machines may be away. A
-    /// check by the list in force changes nothing. So five in a table taken over from form 1 stay in the published grid, of
+    /// The new list has the shape of the table. A list of five, founded or laid by a check, lies in 3 rows and 2 columns: any
+    /// one of its machines may be away. A check by the list in force changes nothing. So five in a table taken over from form 1 stay in the published grid, of
     /// which nobody can read while the third machine in name order is away, until two checks with that machine on lay them
     /// anew: one by four of the five, and one by all five.
     pub fn check(&mut self, coordinator: usize, answering: Rows) -> Result<u32, Refusal> {
@@ -191,9 +209,9 @@ impl Table {
     /// coordinates works on all that answered.
     ///
     /// ```
-    /// use dyngrid::{Refusal, Rows, Table};
+    /// use dyngrid::{Refusal, Rows, Shape, Table};
     ///
-    /// let mut table = Table::found(3, 16, &[10, 20])?;
+    /// let mut table = Table::found(3, 16, &[10, 20], Shape::Wide)?;
     /// table.write(1, Rows::first(2), 0, b"1-0")?;
     /// assert_eq!(table.join(15)?, 3);
     /// // It is not marked yet: a check takes it in and marks it, and then a send brings it the file.

@@ -1,9 +1,9 @@
 //! The wrapper keeps its promises: nothing panics, refusals have the right number, tables keep their length.
 
-use dyngrid::{Refusal, Rows, Table};
+use dyngrid::{Refusal, Rows, Shape, Table};
 
 fn four() -> Table {
-    Table::found(4, 4, &[1, 2, 3, 4]).expect("a plain founding")
+    Table::found(4, 4, &[1, 2, 3, 4], Shape::Wide).expect("a plain founding")
 }
 
 #[test]
@@ -39,7 +39,7 @@ fn a_table_of_wrong_length_cannot_be_made() {
 
 #[test]
 fn what_is_shown_is_short() {
-    let table = Table::found(64, 4096, &[1, 2]).expect("a plain founding");
+    let table = Table::found(64, 4096, &[1, 2], Shape::Wide).expect("a plain founding");
     assert_eq!(format!("{table:?}"), "Table { capacity: 64, used: 2, file_len: 4096, .. }");
     let error = Table::from_bytes(vec![0; 100_000]).expect_err("no table");
     assert_eq!(format!("{error:?}"), "NotATable { length: 100000, refusal: Malformed, .. }");
@@ -70,7 +70,7 @@ fn a_table_of_form_1_is_told_and_taken_over() {
 
 #[test]
 fn five_bear_the_loss_of_any_one() {
-    let five = Table::found(5, 4, &[1, 2, 3, 4, 5]).expect("a plain founding");
+    let five = Table::found(5, 4, &[1, 2, 3, 4, 5], Shape::Wide).expect("a plain founding");
     assert!(five.rows().iter().all(|row| five.row(row).is_some_and(|row| row[24] == 1)));
     for lost in five.rows() {
         let left = five.rows() - Rows::of(&[lost]).expect("a row");
@@ -83,10 +83,39 @@ fn five_bear_the_loss_of_any_one() {
     }
 }
 
+/// Of two either machine reads, and both are needed to write; of six a read needs two where a wide table needs three. A check
+/// keeps the shape, also by a row that joined.
+#[test]
+fn a_tall_table_stays_tall() {
+    let marks = |table: &Table| -> Vec<u8> {
+        table.rows().iter().filter_map(|row| table.row(row)).map(|row| row[24]).collect()
+    };
+    let mut table = Table::found(6, 4, &[10, 20], Shape::Tall).expect("a plain founding");
+    let mut got = [0; 3];
+    assert_eq!([1, 2].map(|row| table.read(row, Rows::from_bits(row as u64), 0, &mut got)), [Ok(0); 2]);
+    assert_eq!(table.write(1, Rows::first(1), 0, b"1-0"), Err(Refusal::NoQuorum));
+    assert_eq!(table.write(1, Rows::first(2), 0, b"1-0"), Ok(1));
+    assert_eq!(
+        table.read(2, Rows::from_bits(2), 0, &mut got).map(|version| (version, &got)),
+        Ok((1, b"1-0"))
+    );
+    assert_eq!([30, 40, 50, 60].map(|name| table.join(name)), [3, 4, 5, 6].map(Ok));
+    assert_eq!(marks(&table), [2, 2, 0, 0, 0, 0]);
+    assert_eq!(table.check(6, table.rows()), Ok(1));
+    assert_eq!(marks(&table), [2; 6]);
+    assert_eq!(table.read(1, Rows::first(2), 0, &mut got), Ok(1));
+    let mut wide = Table::found(6, 4, &[10, 20, 30, 40, 50, 60], Shape::Wide).expect("a plain founding");
+    assert_eq!(wide.read(1, Rows::first(2), 0, &mut got), Err(Refusal::NoQuorum));
+    // Columns {1, 4}, {2, 5} and {3, 6} against {1, 3, 5} and {2, 4, 6}.
+    assert_eq!(wide.write(1, Rows::first(4), 0, b"0-1"), Ok(1));
+    assert_eq!(table.write(1, Rows::first(4), 0, b"0-1"), Err(Refusal::NoQuorum));
+    assert_eq!(table.write(1, Rows::first(5), 0, b"0-1"), Ok(2));
+}
+
 /// Its third machine is a column by itself, until two checks that it answers have laid the five anew.
 #[test]
 fn five_taken_over_keep_their_grid_until_they_are_laid_anew() {
-    let mut bytes = Table::found(5, 4, &[1, 2, 3, 4, 5]).expect("a plain founding").into_bytes();
+    let mut bytes = Table::found(5, 4, &[1, 2, 3, 4, 5], Shape::Wide).expect("a plain founding").into_bytes();
     bytes[16..].chunks_mut(36).for_each(|row| row[24] = 0);
     let mut table = Table::from_bytes(bytes).expect("a list of five in the published grid");
     let (four, all) = (Rows::first(4), Rows::first(5));
@@ -116,7 +145,8 @@ fn several_threads_read_one_table() {
     fn shared<T: Send + Sync>(value: T) -> T {
         value
     }
-    let mut table = Table::found(9, 100, &[1, 2, 3, 4, 5, 6, 7, 8, 9]).expect("a plain founding");
+    let mut table =
+        Table::found(9, 100, &[1, 2, 3, 4, 5, 6, 7, 8, 9], Shape::Wide).expect("a plain founding");
     let file: Vec<u8> = (0..100).collect();
     assert_eq!(table.write(5, table.rows(), 0, &file), Ok(1));
     let (table, before) = (shared(table.clone()), table);
@@ -137,17 +167,18 @@ fn several_threads_read_one_table() {
 
 #[test]
 fn a_table_knows_its_size() {
-    let table = Table::found(9, 300, &[5, 6]).expect("a plain founding");
+    let table = Table::found(9, 300, &[5, 6], Shape::Wide).expect("a plain founding");
     assert_eq!((table.capacity(), table.used(), table.file_len()), (9, 2, 300));
 }
 
 #[test]
 fn foundings_are_refused_by_number() {
-    assert_eq!(Table::found(4, 4, &[]), Err(Refusal::BadNames));
-    assert_eq!(Table::found(4, 4, &[2, 1]), Err(Refusal::BadNames));
-    assert_eq!(Table::found(1, 4, &[1, 2]), Err(Refusal::BadSize));
-    assert_eq!(Table::found(usize::MAX, usize::MAX, &[1]), Err(Refusal::BadSize));
-    assert_eq!(Table::found(4, 4097, &[1]), Err(Refusal::BadSize));
+    assert_eq!(Table::found(4, 4, &[], Shape::Wide), Err(Refusal::BadNames));
+    assert_eq!(Table::found(4, 4, &[2, 1], Shape::Wide), Err(Refusal::BadNames));
+    assert_eq!(Table::found(4, 4, &[0, 1], Shape::Tall), Err(Refusal::BadNames));
+    assert_eq!(Table::found(1, 4, &[1, 2], Shape::Wide), Err(Refusal::BadSize));
+    assert_eq!(Table::found(usize::MAX, usize::MAX, &[1], Shape::Wide), Err(Refusal::BadSize));
+    assert_eq!(Table::found(4, 4097, &[1], Shape::Wide), Err(Refusal::BadSize));
 }
 
 #[test]
@@ -167,7 +198,7 @@ fn refused_calls_alter_nothing() {
 
 #[test]
 fn a_joining_links_the_row_in_name_order() {
-    let mut table = Table::found(5, 4, &[20, 30]).expect("a plain founding");
+    let mut table = Table::found(5, 4, &[20, 30], Shape::Wide).expect("a plain founding");
     // Above all names, below them, and between.
     assert_eq!([40, 10, 25].map(|name| table.join(name)), [Ok(3), Ok(4), Ok(5)]);
     assert_eq!((table.used(), table.rows()), (5, Rows::first(5)));
@@ -183,7 +214,7 @@ fn a_joining_links_the_row_in_name_order() {
 
 #[test]
 fn joinings_are_refused_by_number() {
-    let mut table = Table::found(3, 4, &[10, 20]).expect("a plain founding");
+    let mut table = Table::found(3, 4, &[10, 20], Shape::Wide).expect("a plain founding");
     let founded = table.clone();
     assert_eq!([0, 10, 20].map(|name| table.join(name)), [Err(Refusal::NameNotFree); 3]);
     assert_eq!(table, founded);
@@ -196,7 +227,7 @@ fn joinings_are_refused_by_number() {
 
 #[test]
 fn a_joined_row_counts_once_a_check_takes_it_in() {
-    let mut table = Table::found(3, 4, &[10, 20]).expect("a plain founding");
+    let mut table = Table::found(3, 4, &[10, 20], Shape::Wide).expect("a plain founding");
     let (both, all) = (Rows::first(2), Rows::first(3));
     let mut got = [0; 3];
     assert_eq!(table.write(1, both, 0, b"1-0"), Ok(1));
@@ -241,7 +272,7 @@ fn collected_rows_must_be_rows() {
 
 #[test]
 fn a_million_writes_and_no_more() {
-    let mut table = Table::found(1, 1, &[1]).expect("a plain founding");
+    let mut table = Table::found(1, 1, &[1], Shape::Wide).expect("a plain founding");
     let all = Rows::first(1);
     for version in 1..=1_000_000 {
         assert_eq!(table.write(1, all, 0, &[version as u8]), Ok(version));
@@ -254,7 +285,7 @@ fn a_million_writes_and_no_more() {
 
 #[test]
 fn a_million_epochs_and_no_more() {
-    let mut table = Table::found(3, 1, &[1, 2, 3]).expect("a plain founding");
+    let mut table = Table::found(3, 1, &[1, 2, 3], Shape::Wide).expect("a plain founding");
     let (two, three) = (Rows::first(2), Rows::first(3));
     for epoch in 1..=1_000_000 {
         assert_eq!(table.check(1, if epoch % 2 == 1 { two } else { three }), Ok(epoch));

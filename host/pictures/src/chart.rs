@@ -17,20 +17,23 @@ const LIGHT: &str = ".grid { stroke: #d8dee4; stroke-width: 1 }
 .line { fill: none; stroke-width: 2.5; stroke-linejoin: round }
 .majority { stroke: #bc4c00; stroke-dasharray: 7 4 }
 .write { stroke: #0969da }
-.read { stroke: #1a7f37; stroke-dasharray: 2 3 }";
+.read { stroke: #1a7f37; stroke-dasharray: 2 3 }
+.tall { stroke: #8250df }";
 const DARK: &str = ".grid { stroke: #30363d }
 .axis { stroke: #9198a1 }
 .majority { stroke: #f0883e }
 .write { stroke: #58a6ff }
-.read { stroke: #3fb950 }";
+.read { stroke: #3fb950 }
+.tall { stroke: #bc8cff }";
 
-pub fn svg(sizes: &[Sizes]) -> String {
+pub fn svg(wide: &[Sizes], tall: &[Sizes]) -> String {
     let mut svg = open(WIDTH, HEIGHT, "Machines called", LIGHT, DARK);
     text(&mut svg, LEFT, 30.0, "title", "start", "Machines called by one coordinator, all answering");
     axes(&mut svg);
-    series(&mut svg, "majority", sizes, |sizes| sizes.machines / 2 + 1);
-    series(&mut svg, "write", sizes, |sizes| sizes.write.most);
-    series(&mut svg, "read", sizes, |sizes| sizes.read.most);
+    series(&mut svg, "majority", wide, |sizes| sizes.machines / 2 + 1);
+    series(&mut svg, "write", wide, |sizes| sizes.write.most);
+    series(&mut svg, "tall", tall, |sizes| sizes.read.most);
+    series(&mut svg, "read", wide, |sizes| sizes.read.most);
     legend(&mut svg);
     svg.push_str("</svg>\n");
     svg
@@ -73,11 +76,16 @@ fn series(svg: &mut String, class: &str, sizes: &[Sizes], called: fn(&Sizes) -> 
 }
 
 fn legend(svg: &mut String) {
-    let entries = [("majority", "majority, as a vote needs"), ("write", "write, at most"), ("read", "read")];
+    let entries = [
+        ("majority", "majority, as a vote needs"),
+        ("write", "write, at most, wide and tall"),
+        ("read", "read, wide"),
+        ("tall", "read, tall"),
+    ];
     line(
         svg,
         &format!(
-            "<rect class=\"panel\" x=\"{:.1}\" y=\"{:.1}\" width=\"244\" height=\"76\"/>",
+            "<rect class=\"panel\" x=\"{:.1}\" y=\"{:.1}\" width=\"270\" height=\"100\"/>",
             LEFT + 16.0,
             TOP + 6.0
         ),

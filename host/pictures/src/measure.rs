@@ -1,6 +1,6 @@
 //! Finds the sizes of a coordinator's own choice, and the losses that are borne, from the outside.
 
-use dyngrid::{Refusal, Rows, Table};
+use dyngrid::{Refusal, Rows, Shape, Table};
 use std::fmt;
 
 const FILE_LEN: usize = 1;
@@ -10,7 +10,7 @@ const ROW: usize = 32 + FILE_LEN;
 const GRID_MARK: usize = 24;
 
 /// The least and the most over all coordinators.
-#[derive(Clone, Copy)]
+#[derive(Clone, Copy, Debug, PartialEq, Eq)]
 pub struct Range {
     pub least: usize,
     pub most: usize,
@@ -50,21 +50,41 @@ impl Sizes {
     }
 }
 
-/// Of machines that are founded now.
-pub fn sizes(machines: usize) -> Result<Sizes, Refusal> {
-    measured(&founded(machines)?)
+/// Of machines that are founded now in this shape.
+pub fn sizes(machines: usize, shape: Shape) -> Result<Sizes, Refusal> {
+    measured(&founded(machines, shape)?)
+}
+
+/// In how many of all ways to lose two machines the others read, and in how many they write.
+pub struct PairsLost {
+    pub all: usize,
+    pub read: usize,
+    pub write: usize,
+}
+
+/// Of machines that are founded now in this shape.
+pub fn pairs_lost(machines: usize, shape: Shape) -> Result<PairsLost, Refusal> {
+    let founded = founded(machines, shape)?;
+    let mut pairs = PairsLost { all: 0, read: 0, write: 0 };
+    for (one, two) in (1..=machines).flat_map(|one| (1..one).map(move |two| (one, two))) {
+        let left = founded.rows() - Rows::of(&[one, two])?;
+        pairs.all += 1;
+        pairs.read += usize::from(all_done(&founded, left, &[read])?);
+        pairs.write += usize::from(all_done(&founded, left, &[write])?);
+    }
+    Ok(pairs)
 }
 
 /// Of five in the published grid, as a table of form 1 has them.
 pub fn published_five() -> Result<Sizes, Refusal> {
-    let mut bytes = founded(5)?.into_bytes();
+    let mut bytes = founded(5, Shape::Wide)?.into_bytes();
     (1..=5).for_each(|row| bytes[row_at(row) + GRID_MARK] = 0);
     measured(&Table::from_bytes(bytes)?)
 }
 
-fn founded(machines: usize) -> Result<Table, Refusal> {
+fn founded(machines: usize, shape: Shape) -> Result<Table, Refusal> {
     let names: Vec<u16> = (1..=machines as u16).collect();
-    Table::found(machines, FILE_LEN, &names)
+    Table::found(machines, FILE_LEN, &names, shape)
 }
 
 fn measured(founded: &Table) -> Result<Sizes, Refusal> {
@@ -117,26 +137,27 @@ fn borne(founded: &Table) -> Result<Rows, Refusal> {
     let mut borne = Rows::EMPTY;
     for lost in founded.rows() {
         let lost = Rows::of(&[lost])?;
-        let left = founded.rows() - lost;
-        let (mut done, mut refused) = (0, 0);
-        for by in left {
-            for attempt in [Table::check, write as Attempt] {
-                match attempt(&mut founded.clone(), by, left) {
-                    Ok(_) => done += 1,
-                    Err(Refusal::NoQuorum) => refused += 1,
-                    Err(refusal) => return Err(refusal),
-                }
-            }
-        }
-        assert!(
-            done == 0 || refused == 0,
-            "all of them, for a check and for a write, ask for the same quorum"
-        );
-        if done > 0 {
+        if all_done(founded, founded.rows() - lost, &[Table::check, write])? {
             borne |= lost;
         }
     }
     Ok(borne)
+}
+
+/// Are the attempts done, each by each of the machines that are left? They must ask for the same quorum.
+fn all_done(founded: &Table, left: Rows, attempts: &[Attempt]) -> Result<bool, Refusal> {
+    let (mut done, mut refused) = (0, 0);
+    for by in left {
+        for attempt in attempts {
+            match attempt(&mut founded.clone(), by, left) {
+                Ok(_) => done += 1,
+                Err(Refusal::NoQuorum) => refused += 1,
+                Err(refusal) => return Err(refusal),
+            }
+        }
+    }
+    assert!(done == 0 || refused == 0, "one quorum, whoever of {left} calls");
+    Ok(done > 0)
 }
 
 /// The table with one row marked and desiring version 1.
@@ -163,12 +184,30 @@ mod tests {
 
     #[test]
     fn losses_are_borne_as_the_page_says() {
-        let bears = |machines| sizes(machines).map(|sizes| sizes.bears());
-        assert_eq!([1, 2].map(bears), [Ok("no".into()), Ok("no".into())]);
-        assert_eq!(bears(3), Ok("of any but 2".into()));
-        for machines in 4..=64 {
-            assert_eq!(bears(machines), Ok("yes".into()), "{machines} machines");
+        for shape in [Shape::Wide, Shape::Tall] {
+            let bears = |machines| sizes(machines, shape).map(|sizes| sizes.bears());
+            assert_eq!([1, 2].map(bears), [Ok("no".into()), Ok("no".into())]);
+            assert_eq!(bears(3), Ok("of any but 2".into()));
+            for machines in 4..=64 {
+                assert_eq!(bears(machines), Ok("yes".into()), "{machines} machines, {shape:?}");
+            }
         }
         assert_eq!(published_five().map(|sizes| sizes.bears()), Ok("of any but 3".into()));
+    }
+
+    #[test]
+    fn tall_reads_call_one_machine_less_as_the_page_says() {
+        let mut less = Vec::new();
+        for machines in 1..=64 {
+            let [wide, tall] =
+                [Shape::Wide, Shape::Tall].map(|shape| sizes(machines, shape).expect("no refusal"));
+            assert_eq!((wide.write, wide.read.least), (tall.write, wide.read.most), "{machines} machines");
+            if tall.read != wide.read {
+                assert_eq!((tall.read.least, tall.read.most), (wide.read.most - 1, wide.read.most - 1));
+                less.push(machines);
+            }
+        }
+        let runs = [2..=2, 6..=6, 10..=12, 17..=20, 26..=30, 37..=42, 50..=56];
+        assert_eq!(less, runs.into_iter().flatten().collect::<Vec<_>>());
     }
 }

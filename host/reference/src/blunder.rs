@@ -1,7 +1,7 @@
 //! Mistakes to make on purpose: each turns the engine into a wrong one that the tests must find.
 
 use crate::rows::{self, Order};
-use crate::{Laid, Layout, Quorum, Table, HEADER};
+use crate::{Laid, Layout, Quorum, Row, Shape, Table, HEADER, ROW_HEADER};
 
 #[derive(Clone, Copy, Debug, PartialEq, Eq)]
 pub enum Blunder {
@@ -37,10 +37,16 @@ pub enum Blunder {
     OldGrid,
     /// Rows of one epoch may have lists of two marks.
     MarksOfEpoch,
+    /// A check lays the new list wide, also in a tall table.
+    NeverTall,
+    /// A check lays the new list in the shape of the coordinator's own list.
+    CoordinatorsShape,
+    /// Lists of two epochs may have two shapes.
+    ShapesOfTable,
 }
 
 impl Blunder {
-    pub const ALL: [Blunder; 16] = [
+    pub const ALL: [Blunder; 19] = [
         Blunder::OutsidersCount,
         Blunder::ShortColumnWhole,
         Blunder::DesiredIgnored,
@@ -57,6 +63,9 @@ impl Blunder {
         Blunder::PublishedChoice,
         Blunder::OldGrid,
         Blunder::MarksOfEpoch,
+        Blunder::NeverTall,
+        Blunder::CoordinatorsShape,
+        Blunder::ShapesOfTable,
     ];
 
     /// Its name on a command line.
@@ -78,6 +87,9 @@ impl Blunder {
             Blunder::PublishedChoice => "published-choice",
             Blunder::OldGrid => "old-grid",
             Blunder::MarksOfEpoch => "marks-of-epoch",
+            Blunder::NeverTall => "never-tall",
+            Blunder::CoordinatorsShape => "coordinators-shape",
+            Blunder::ShapesOfTable => "shapes-of-table",
         }
     }
 
@@ -95,13 +107,36 @@ pub fn highest_of_all(table: &Table, bytes: &[u8], set: u64) -> (u32, Laid) {
 /// Reads a table that is well formed once each list of five has mark 0.
 pub fn decode_any_marks(bytes: &[u8]) -> Option<Table> {
     let mut unmarked = bytes.to_vec();
-    let stride = bytes.len().checked_sub(HEADER)?.checked_div(usize::from(bytes[1]))?;
-    for row in unmarked[HEADER..].chunks_mut(stride.max(1)) {
-        if let Some((list, [mark @ 1, ..])) = row.get_mut(16..).and_then(|row| row.split_first_chunk_mut()) {
-            *mark = u8::from(u64::from_le_bytes(*list).count_ones() != 5);
+    for header in row_headers(&mut unmarked)? {
+        let list = Row::read(header).list;
+        if list.mark == 1 && list.members.count_ones() == 5 {
+            header[24] = 0;
         }
     }
     Table::decode(&unmarked)
+}
+
+/// Reads a table that is well formed once each list of mark 2 whose epoch has that mark throughout has mark 0.
+pub fn decode_any_shapes(bytes: &[u8]) -> Option<Table> {
+    let mut unmarked = bytes.to_vec();
+    let listed = |row: &Row| !row.list.is_empty();
+    let rows: Vec<Row> = row_headers(&mut unmarked)?.map(|header| Row::read(header)).filter(listed).collect();
+    for header in row_headers(&mut unmarked)? {
+        let epoch = Row::read(header).epoch;
+        let mut of_epoch = rows.iter().filter(|row| row.epoch == epoch);
+        if listed(&Row::read(header)) && of_epoch.all(|row| row.list.shape() == Shape::Tall) {
+            header[24] = 0;
+        }
+    }
+    Table::decode(&unmarked)
+}
+
+/// The headers of all rows, used or not, of bytes that need be no table.
+fn row_headers(bytes: &mut [u8]) -> Option<impl Iterator<Item = &mut [u8; ROW_HEADER]>> {
+    let capacity = usize::from(*bytes.get(1)?);
+    let (_, rows) = bytes.split_at_mut_checked(HEADER)?;
+    let stride = rows.len().checked_div(capacity)?;
+    Some(rows.chunks_mut(stride.max(1)).filter_map(|row| row.first_chunk_mut()))
 }
 
 /// Counts each row outside the list in the place of the next member.

@@ -2,12 +2,13 @@
 //! a call was done; nothing comes from the table.
 
 use crate::rows::{self, Order};
-use crate::{Laid, Layout, Quorum, Rules};
+use crate::{Laid, Layout, Quorum, Rules, Shape};
 
 #[derive(Clone, Debug)]
 pub struct Book {
-    /// How lists are laid.
+    /// How lists are laid, and the choice of the founding.
     pub rules: Rules,
+    shape: Shape,
     /// For row i at place i - 1: its name.
     names: Vec<u16>,
     /// The rows in the order of their names.
@@ -23,10 +24,11 @@ pub struct Book {
 
 impl Book {
     /// A done founding.
-    pub fn open(rules: Rules, file_len: usize, names: &[u16]) -> Book {
-        let all = rules.lay(rows::first(names.len()));
+    pub fn open(rules: Rules, file_len: usize, names: &[u16], shape: Shape) -> Book {
+        let all = rules.lay(shape, rows::first(names.len()));
         Book {
             rules,
+            shape,
             names: names.to_vec(),
             chain: Order::first(names.len()),
             file: vec![0; file_len],
@@ -61,7 +63,7 @@ impl Book {
     /// A done check. The list in force keeps its grid.
     pub fn check(&mut self, answering: u64) {
         if answering != self.in_force.members {
-            self.in_force = self.rules.lay(answering);
+            self.in_force = self.rules.lay(self.shape, answering);
             for row in rows::members(answering) {
                 self.own[row - 1] = self.in_force;
             }

@@ -2,7 +2,7 @@
 
 use crate::blunder::{self, Blunder};
 use crate::rows::{self, Order};
-use crate::{Laid, Layout, Quorum, Row, Rules, Table, LIMIT, MAX_FILE, MAX_ROWS, ROW_HEADER};
+use crate::{Laid, Layout, Quorum, Row, Rules, Shape, Table, LIMIT, MAX_FILE, MAX_ROWS, ROW_HEADER};
 use std::iter;
 
 /// Answers the calls on a table's bytes; with a blunder, wrongly.
@@ -43,8 +43,8 @@ fn result(answer: Answer) -> u64 {
 }
 
 impl Engine {
-    pub fn found(&self, bytes: &mut [u8], capacity: u64, file_len: u64, names: &[u8]) -> u64 {
-        result(found(self.rules, bytes, capacity, file_len, names))
+    pub fn found(&self, bytes: &mut [u8], capacity: u64, file_len: u64, names: &[u8], choice: u64) -> u64 {
+        result(found(self.rules, bytes, capacity, file_len, names, choice))
     }
 
     pub fn read(
@@ -155,7 +155,12 @@ impl Engine {
         }
         ask(7, poll.current)?;
         ask(8, poll.epoch < LIMIT)?;
-        let mut list = self.rules.lay(answering);
+        let shape = match self.blunder {
+            Some(Blunder::NeverTall) => Shape::Wide,
+            Some(Blunder::CoordinatorsShape) => table.row(bytes, coordinator as usize).list.shape(),
+            _ => poll.list.shape(),
+        };
+        let mut list = self.rules.lay(shape, answering);
         if self.makes(Blunder::OldGrid) {
             list.mark = poll.list.mark;
         }
@@ -200,10 +205,10 @@ impl Engine {
 
     /// Question 1.
     fn judge(&self, bytes: &[u8]) -> Result<Table, u32> {
-        let judged = if self.makes(Blunder::MarksOfEpoch) {
-            blunder::decode_any_marks(bytes)
-        } else {
-            Table::decode_by(self.rules, bytes)
+        let judged = match self.blunder {
+            Some(Blunder::MarksOfEpoch) => blunder::decode_any_marks(bytes),
+            Some(Blunder::ShapesOfTable) => blunder::decode_any_shapes(bytes),
+            _ => Table::decode_by(self.rules, bytes),
         };
         judged.ok_or(1)
     }
@@ -283,7 +288,7 @@ impl Engine {
     }
 }
 
-fn found(rules: Rules, bytes: &mut [u8], capacity: u64, file_len: u64, names: &[u8]) -> Answer {
+fn found(rules: Rules, bytes: &mut [u8], capacity: u64, file_len: u64, names: &[u8], choice: u64) -> Answer {
     ask(11, names.len().is_multiple_of(2))?;
     let used = names.len() / 2;
     let names = names.chunks_exact(2).map(|name| u16::from_le_bytes([name[0], name[1]]));
@@ -291,6 +296,7 @@ fn found(rules: Rules, bytes: &mut [u8], capacity: u64, file_len: u64, names: &[
     let before = iter::once(0).chain(names.clone());
     let rising = before.zip(names.clone()).all(|(before, name)| before < name);
     ask(11, (1..=MAX_ROWS).contains(&used) && rising)?;
+    let shape = Shape::chosen(choice).ok_or(11_u32)?;
     let capacity_fits = (used as u64..=MAX_ROWS as u64).contains(&capacity);
     ask(12, capacity_fits && (1..=MAX_FILE as u64).contains(&file_len))?;
     let (capacity, file_len) = (capacity as usize, file_len as usize);
@@ -299,7 +305,7 @@ fn found(rules: Rules, bytes: &mut [u8], capacity: u64, file_len: u64, names: &[
     let table = Table { capacity, used, file_len, chain: Order::first(used) };
     bytes.fill(0);
     table.write_header(bytes, 1);
-    let list = rules.lay(table.all_used());
+    let list = rules.lay(shape, table.all_used());
     for (index, name) in (1..).zip(names) {
         let next = if index < used { index + 1 } else { 0 };
         let row = Row { name, next, stale: false, version: 0, desired: 0, epoch: 0, list };

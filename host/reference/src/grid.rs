@@ -9,11 +9,32 @@ pub enum Quorum {
     Write,
 }
 
+/// How a table's lists are laid: the choice of its founding.
+#[derive(Clone, Copy, Debug, PartialEq, Eq)]
+pub enum Shape {
+    Wide,
+    Tall,
+}
+
+impl Shape {
+    /// The shape that a founding chooses with this number.
+    pub fn chosen(choice: u64) -> Option<Shape> {
+        match choice {
+            0 => Some(Shape::Wide),
+            1 => Some(Shape::Tall),
+            _ => None,
+        }
+    }
+}
+
+/// The grid mark of every list in a tall table.
+pub const TALL: u8 = 2;
+
 /// A list as it was laid: its members, and the mark of its grid.
 #[derive(Clone, Copy, Debug, PartialEq, Eq)]
 pub struct Laid {
     pub members: u64,
-    /// 0 for the published grid, 1 for the new one of five.
+    /// 0 for the published grid, 1 for the new one of five, 2 for the tall one.
     pub mark: u8,
 }
 
@@ -23,6 +44,15 @@ impl Laid {
 
     pub fn is_empty(self) -> bool {
         self.members == 0
+    }
+
+    /// The shape of the table that the list, which is not empty, lies in.
+    pub fn shape(self) -> Shape {
+        if self.mark == TALL {
+            Shape::Tall
+        } else {
+            Shape::Wide
+        }
     }
 }
 
@@ -45,6 +75,25 @@ impl Grid {
         let columns = if root * root < length { root + 1 } else { root };
         let rows = if root * columns < length { root + 1 } else { root };
         Grid { rows, columns, empty: rows * columns - length }
+    }
+
+    /// The tall grid: the published one, with rows and columns exchanged where it has one row less than columns.
+    pub fn tall(length: usize) -> Grid {
+        let Grid { rows, columns, empty } = Grid::of(length);
+        if rows + 1 == columns {
+            Grid { rows: columns, columns: rows, empty }
+        } else {
+            Grid { rows, columns, empty }
+        }
+    }
+
+    /// The grid that a list of so many members with this mark lies in.
+    fn marked(mark: u8, length: usize) -> Grid {
+        match mark {
+            1 => Grid::NEW_FIVE,
+            TALL => Grid::tall(length),
+            _ => Grid::of(length),
+        }
     }
 
     pub fn column_of(&self, position: usize) -> usize {
@@ -76,8 +125,7 @@ impl Layout {
     /// Lays out `list`, whose members lie in `chain` in order, in its own grid.
     pub fn of(list: Laid, chain: &Order) -> Layout {
         let members = chain.cut(list.members);
-        let grid = if list.mark == 1 { Grid::NEW_FIVE } else { Grid::of(members.len()) };
-        Layout { list, grid, members }
+        Layout { list, grid: Grid::marked(list.mark, members.len()), members }
     }
 
     /// Lays out another list, unless it is the one that is laid out already.
@@ -147,13 +195,20 @@ mod tests {
         Layout::of(Laid { members: rows::first(length), mark }, &Order::first(length))
     }
 
-    /// Every list in the published grid, and five in the new one.
+    /// Every list in the published and in the tall grid, and five in the new one.
     fn every_list() -> impl Iterator<Item = Layout> {
-        (1..=64).map(list_of).chain([laid(5, 1)])
+        (1..=64).flat_map(|length| [laid(length, 0), laid(length, TALL)]).chain([laid(5, 1)])
     }
 
     fn set(positions: &[usize]) -> u64 {
         positions.iter().fold(0, |set, &row| set | rows::only(row))
+    }
+
+    /// The quorums that stop being one when any member is taken out.
+    fn smallest(quorum: Quorum, list: &Layout) -> Vec<u64> {
+        let holds = |set: &u64| list.holds(quorum, *set);
+        let smallest = |set: &u64| rows::members(*set).all(|row| !holds(&(set & !rows::only(row))));
+        (0..=list.list.members).filter(holds).filter(smallest).collect()
     }
 
     #[test]
@@ -170,6 +225,51 @@ mod tests {
         ];
         for (length, rows, columns, empty) in sizes {
             assert_eq!(Grid::of(length), Grid { rows, columns, empty });
+        }
+    }
+
+    #[test]
+    fn tall_sizes() {
+        let exchanged: Vec<usize> =
+            (1..=64).filter(|&length| Grid::tall(length) != Grid::of(length)).collect();
+        let runs = [2..=2, 5..=6, 10..=12, 17..=20, 26..=30, 37..=42, 50..=56];
+        assert_eq!(exchanged, runs.into_iter().flatten().collect::<Vec<_>>());
+        for length in 1..=64 {
+            let (grid, published) = (Grid::tall(length), Grid::of(length));
+            assert!(grid.rows >= grid.columns);
+            assert_eq!(grid.rows * grid.columns, length + grid.empty);
+            if exchanged.contains(&length) {
+                assert_eq!((grid.rows, grid.columns), (published.columns, published.rows));
+            }
+        }
+        assert_eq!(Grid::tall(5), Grid::NEW_FIVE);
+        assert_eq!(Grid::tall(2), Grid { rows: 2, columns: 1, empty: 0 });
+        assert_eq!(Grid::tall(11), Grid { rows: 4, columns: 3, empty: 1 });
+    }
+
+    /// As numbers, bit k - 1 for position k.
+    #[test]
+    fn smallest_quorums_of_tall_lists() {
+        assert_eq!(smallest(Quorum::Read, &laid(2, TALL)), [1, 2]);
+        assert_eq!(smallest(Quorum::Write, &laid(2, TALL)), [3]);
+        // Columns {1, 3, 5} and {2, 4, 6}.
+        assert_eq!(smallest(Quorum::Read, &laid(6, TALL)), [3, 6, 9, 12, 18, 24, 33, 36, 48]);
+        assert_eq!(smallest(Quorum::Write, &laid(6, TALL)), [23, 29, 43, 46, 53, 58]);
+        for quorum in [Quorum::Read, Quorum::Write] {
+            assert_eq!(smallest(quorum, &laid(5, TALL)), smallest(quorum, &laid(5, 1)));
+            for length in [1, 3, 4, 7, 8, 9] {
+                assert_eq!(smallest(quorum, &laid(length, TALL)), smallest(quorum, &laid(length, 0)));
+            }
+        }
+    }
+
+    #[test]
+    fn lists_of_four_and_more_bear_the_loss_of_one() {
+        for list in every_list() {
+            let all = list.list.members;
+            let bears_any = rows::members(all).all(|row| list.holds(Quorum::Write, all & !rows::only(row)));
+            let published_five = list.members.len() == 5 && list.list.mark == 0;
+            assert_eq!(bears_any, list.members.len() >= 4 && !published_five, "{:?}", list.list);
         }
     }
 
@@ -199,16 +299,11 @@ mod tests {
     /// Columns {1, 3, 5} and {2, 4}: as numbers, bit k - 1 for position k.
     #[test]
     fn smallest_quorums_of_five() {
-        let smallest = |quorum, mark| -> Vec<u64> {
-            let list = laid(5, mark);
-            let holds = |set: &u64| list.holds(quorum, *set);
-            let smallest = |set: &u64| rows::members(*set).all(|row| !holds(&(set & !rows::only(row))));
-            (0..32).filter(holds).filter(smallest).collect()
-        };
-        assert_eq!(smallest(Quorum::Write, 0), [7, 14, 21, 28]);
-        assert_eq!(smallest(Quorum::Write, 1), [11, 14, 23, 26, 29]);
-        assert_eq!(smallest(Quorum::Read, 0), [7, 14, 21, 28]);
-        assert_eq!(smallest(Quorum::Read, 1), [3, 6, 9, 12, 18, 24]);
+        let (published, new) = (laid(5, 0), laid(5, 1));
+        assert_eq!(smallest(Quorum::Write, &published), [7, 14, 21, 28]);
+        assert_eq!(smallest(Quorum::Write, &new), [11, 14, 23, 26, 29]);
+        assert_eq!(smallest(Quorum::Read, &published), [7, 14, 21, 28]);
+        assert_eq!(smallest(Quorum::Read, &new), [3, 6, 9, 12, 18, 24]);
     }
 
     #[test]
@@ -219,6 +314,20 @@ mod tests {
         assert_eq!(choices(6), [set(&[1, 2]), set(&[1, 2, 3, 5])]);
         assert_eq!(choices(7), [set(&[3, 4]), set(&[2, 3, 4])]);
         assert_eq!(choices(8), [set(&[2, 5]), set(&[1, 2, 3, 5])]);
+    }
+
+    #[test]
+    fn choices_of_tall_lists() {
+        let choices = |length, name| {
+            [Quorum::Read, Quorum::Write].map(|quorum| laid(length, TALL).choice(quorum, name))
+        };
+        assert_eq!(choices(2, 6), [set(&[1]), set(&[1, 2])]);
+        assert_eq!(choices(2, 7), [set(&[2]), set(&[1, 2])]);
+        // Columns {1, 3, 5} and {2, 4, 6}.
+        assert_eq!(choices(6, 7), [set(&[3, 4]), set(&[2, 3, 4, 6])]);
+        assert_eq!(choices(6, 8), [set(&[5, 6]), set(&[1, 3, 5, 6])]);
+        // Columns {1, 4, 7, 10}, {2, 5, 8, 11} and {3, 6, 9}.
+        assert_eq!(choices(11, 7), [set(&[10, 11, 6]), set(&[2, 5, 8, 10, 11, 6])]);
     }
 
     #[test]

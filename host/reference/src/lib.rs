@@ -14,5 +14,5 @@ mod table;
 pub use blunder::Blunder;
 pub use book::Book;
 pub use engine::Engine;
-pub use grid::{Grid, Laid, Layout, Quorum};
+pub use grid::{Grid, Laid, Layout, Quorum, Shape, TALL};
 pub use table::{Row, Rules, Table, FORM, HEADER, LIMIT, MAX_FILE, MAX_ROWS, ROW_HEADER};

@@ -1,7 +1,7 @@
 //! The table in memory: judging it, reading its rows, writing them.
 
 use crate::rows::{self, Order};
-use crate::Laid;
+use crate::{Laid, Shape, TALL};
 
 pub const HEADER: usize = 16;
 pub const ROW_HEADER: usize = 32;
@@ -17,7 +17,7 @@ pub const LIMIT: u32 = 1_000_000;
 pub enum Rules {
     /// The scope alone: every row has a list, and every list lies in the published grid.
     Published,
-    /// The requests too: a row may have an empty list, and a list of five is laid in the new grid.
+    /// The requests too: a row may have an empty list, and a list is laid in the new grid of five or in the tall one.
     #[default]
     Newest,
 }
@@ -28,9 +28,23 @@ impl Rules {
         list.is_empty() && self == Rules::Newest
     }
 
-    /// The list of these members, laid now.
-    pub fn lay(self, members: u64) -> Laid {
-        Laid { members, mark: u8::from(members.count_ones() == 5 && self == Rules::Newest) }
+    /// The list of these members, laid now in a table of this shape; the scope knows one shape.
+    pub fn lay(self, shape: Shape, members: u64) -> Laid {
+        let mark = match (self, shape) {
+            (Rules::Published, _) => 0,
+            (Rules::Newest, Shape::Wide) => u8::from(members.count_ones() == 5),
+            (Rules::Newest, Shape::Tall) => TALL,
+        };
+        Laid { members, mark }
+    }
+
+    /// May a list of these members, which is not empty, have this grid mark?
+    fn allow(self, members: u64, mark: u64) -> bool {
+        match mark {
+            0 => true,
+            1 => self == Rules::Newest && members.count_ones() == 5,
+            _ => self == Rules::Newest && mark == u64::from(TALL),
+        }
     }
 }
 
@@ -48,7 +62,7 @@ pub struct Row {
 
 impl Row {
     /// Reads the bytes before the contents.
-    fn read(bytes: &[u8; ROW_HEADER]) -> Row {
+    pub fn read(bytes: &[u8; ROW_HEADER]) -> Row {
         let number = |at: usize| u32::from_le_bytes([bytes[at], bytes[at + 1], bytes[at + 2], bytes[at + 3]]);
         Row {
             name: u16::from_le_bytes([bytes[0], bytes[1]]),
@@ -178,52 +192,46 @@ impl Table {
     }
 
     /// Is every used row in order by itself, does its list name used rows only, and unless the row is exempt, its own
-    /// row among them, and is it the one list of its epoch, in one grid?
+    /// row among them, and is it the one list of its epoch, in one grid, and in the shape of all lists?
     fn rows_fit(&self, rules: Rules, bytes: &[u8]) -> bool {
         let all_used = self.all_used();
         // The first row of each epoch; most tables have few epochs, and most rows that of the row before.
         let mut leaders = Order::EMPTY;
-        // Epoch and list of the last row that is not exempt; an empty list stands for none.
-        let mut before = (0, 0);
-        // The rows with more than zeros from the grid mark on: few.
-        let mut marked = 0;
+        // Epoch, list and grid mark of the last row that is not exempt; an empty list stands for none.
+        let mut before = (0, 0, 0);
+        // The shape of the first list.
+        let mut shape = None;
         for index in 1..=self.used {
             let header = self.row_header(bytes, index);
             let row = Row::read(header);
-            let members = row.list.members;
+            let Laid { members, .. } = row.list;
+            let mark = mark_and_zeros(header);
             if !row.fits(header) || members & !all_used != 0 {
                 return false;
             }
-            marked |= u64::from(!all_zero(&header[24..])) << (index - 1);
             if !rows::has(members, index) {
-                if rules.exempt(row.list) {
+                if mark == 0 && rules.exempt(row.list) {
                     continue;
                 }
                 return false;
             }
-            if before != (row.epoch, members) {
-                let mut earlier = leaders.iter().map(|&leader| self.row(bytes, usize::from(leader)));
-                match earlier.find(|leader| leader.epoch == row.epoch) {
-                    Some(leader) if leader.list.members != members => return false,
-                    Some(_) => {}
-                    None => leaders.push(index),
+            if before != (row.epoch, members, mark) {
+                let mut earlier = leaders.iter().map(|&leader| self.row(bytes, leader.into()));
+                let fits = match earlier.find(|leader| leader.epoch == row.epoch) {
+                    Some(leader) => leader.list.members == members && u64::from(leader.list.mark) == mark,
+                    None => {
+                        leaders.push(index);
+                        let of_one_shape = *shape.get_or_insert(row.list.shape()) == row.list.shape();
+                        of_one_shape && rules.allow(members, mark)
+                    }
+                };
+                if !fits {
+                    return false;
                 }
-                before = (row.epoch, members);
+                before = (row.epoch, members, mark);
             }
         }
-        marked == 0 || self.marks_fit(rules, bytes, marked)
-    }
-
-    /// Has each of these rows the mark that its list would be laid with now, and zeros behind it, and has every row of
-    /// its epoch that mark? The others of its epoch have the same list, or none.
-    fn marks_fit(&self, rules: Rules, bytes: &[u8], marked: u64) -> bool {
-        rows::members(marked).all(|index| {
-            let header = self.row_header(bytes, index);
-            let Row { epoch, list, .. } = Row::read(header);
-            let now = u64::from(rules.lay(list.members).mark).to_le_bytes();
-            let mut unmarked = rows::members(list.members & !marked).map(|other| self.row(bytes, other));
-            header[24..] == now && unmarked.all(|other| other.epoch != epoch || other.list.is_empty())
-        })
+        true
     }
 
     /// Gathers the chain; does it visit each used row once, and do its names rise strictly?
@@ -244,7 +252,17 @@ impl Table {
     }
 }
 
-/// Folds all bytes into one, which vectorizes.
+/// The last bytes of a row's header as one number: the grid mark, if there are zeros behind it.
+fn mark_and_zeros(header: &[u8; ROW_HEADER]) -> u64 {
+    u64::from_le_bytes(*header.last_chunk().expect("eight bytes of 32"))
+}
+
+/// Folds blocks of bytes, which vectorizes. (Without blocks the loop takes two vectors a turn, and its same instructions were
+/// seen to take 1.8 times as long in another place of the program.)
 fn all_zero(bytes: &[u8]) -> bool {
-    bytes.iter().fold(0, |bits, byte| bits | byte) == 0
+    fn zero(bytes: &[u8]) -> bool {
+        bytes.iter().fold(0, |bits, byte| bits | byte) == 0
+    }
+    let (blocks, rest) = bytes.as_chunks::<128>();
+    blocks.iter().all(|block| zero(block)) && zero(rest)
 }

@@ -35,6 +35,11 @@ fn send(engine: Engine, table: &mut [u8]) -> u64 {
 
 #[test]
 fn no_call_takes_memory() {
+    // In wide tables and in tall ones.
+    [0, 1].into_iter().for_each(every_call);
+}
+
+fn every_call(choice: u64) {
     let engine = Engine::default();
     let names: Vec<u8> = (1..=63u16).map(|rank| 10 * rank).flat_map(u16::to_le_bytes).collect();
     let mut table = vec![0; Table::length(64, 100)];
@@ -42,7 +47,7 @@ fn no_call_takes_memory() {
     let mut buffer = [0; 100];
     let before = TAKEN.get();
     let results = [
-        engine.found(&mut table, 64, 100, &names),
+        engine.found(&mut table, 64, 100, &names, choice),
         engine.join(&mut table, 305),
         engine.join(&mut table, 305),
         engine.join(&mut table, 306),

@@ -1,6 +1,6 @@
 use borrow.Author.Needs.{needs}
 use mathlib.Core.Path.{_≡_, refl, sym, _∙_, ap}
-use mathlib.Core.Bool.{true, false, _&&_}
+use mathlib.Core.Bool.{Bool, true, false, _&&_}
 use Prim.Native.Nat.{ℕ, _+_, _*_, _/_, _^_}
 use native.Mathlib.Omega.{arith}
 use borrow.Author.Tests.{not-true, not-false}
@@ -10,40 +10,47 @@ use Rattle.fields.specs.Layout.{stride}
 use Rattle.table.specs.WellFormed.{between}
 use Rattle.protocol.specs.Calls.{Founding, founding, namesIn}
 use Rattle.questions.proofs.QuestionLaws.{refused-is}
-use Rattle.founding.proofs.FoundingLaws.{NamesRight, SizesRight, two-each, found-answers, found-fits, found-done}
+use Rattle.founding.proofs.FoundingLaws.{Eleven, Twelve, two-each, found-answers, found-fits, found-done}
 use Rattle.founding.proofs.found.Statement.{statement}
 use Rattle.founding.proofs.found.Tie as tie
 
 -- the arguments of the call
 abbrev asked : tie.Start → Founding
-asked s = record { capacity = s .args .capacity; fileLength = s .args .file; names = s .args .names .now }
+asked s = record { capacity = s .args .capacity; fileLength = s .args .file; names = s .args .names .now; choice = s .args .choice }
 
--- question 11 is passed
-eleven : (c : tie.Else1) → let start = c .before .before .before .before in NamesRight (start .args .t .now) (asked start) ≡ true
-eleven c = sym (c .before .names-right .ensures) ∙ not-false _ (c .if1 .left)
+-- question 11 by its answer
+named : (c : tie.After-both) → let start = c .before .before .before .before in Eleven (start .args .t .now) (asked start) ≡ c .both .result
+named c = let choice = c .before .before .before .before .args .choice in sym (c .both .ensures ∙ ap (λ (b : Bool). b && leb choice 1) (c .before .names-right .ensures))
 
-half : (c : tie.Else1) → let names = c .before .before .before .before .args .names .now in length names / 2 ≡ length (namesIn names)
-half c = let start = c .before .before .before .before in omega (arith, two-each (start .args .t .now) (asked start) (eleven c))
+-- it is passed
+eleven : (c : tie.Else1) → let start = c .before .before .before .before .before in Eleven (start .args .t .now) (asked start) ≡ true
+eleven c = named (c .before) ∙ not-false _ (c .if1 .left)
+
+half : (c : tie.Else1) → let names = c .before .before .before .before .before .args .names .now in length names / 2 ≡ length (namesIn names)
+half c = let start = c .before .before .before .before .before in omega (arith, two-each (start .args .t .now) (asked start) (eleven c))
 
 -- question 12 by its answer
-sized : (c : tie.After-sizes-right) → let start = c .before .before .before .before .before in SizesRight (start .args .t .now) (asked start) ≡ c .sizes-right .result
+sized : (c : tie.After-sizes-right) → let start = c .before .before .before .before .before .before in Twelve (start .args .t .now) (asked start) ≡ c .sizes-right .result
 sized c =
-    let start = c .before .before .before .before .before in
+    let start = c .before .before .before .before .before .before in
     sym (c .sizes-right .ensures ∙ ap (λ (n : ℕ). between 1 (start .args .capacity) 64 && leb n (start .args .capacity) && between 1 (start .args .file) 4_096 && eqb (length (start .args .t .now)) (16 + start .args .capacity * stride (start .args .file))) (half (c .before)))
 
-twelve : (c : tie.Else2) → let start = c .before .before .before .before .before .before in SizesRight (start .args .t .now) (asked start) ≡ true
+twelve : (c : tie.Else2) → let start = c .before .before .before .before .before .before .before in Twelve (start .args .t .now) (asked start) ≡ true
 twelve c = sized (c .before) ∙ not-false _ (c .if2 .left)
 
 names-right-requires : tie.Need-names-right-requires
 names-right-requires c κs = search needs
+
+both-requires : tie.Need-both-requires
+both-requires c κs = search needs
 
 result-requires : tie.Need-result-requires
 result-requires c κs = search needs
 
 returns : tie.Need-returns
 returns c =
-    let start = c .before .before .before .before .before in
-    let no = refused-is (start .args .t .now) (founding (asked start)) 11 (sym (found-answers (start .args .t .now) (asked start) false _ (sym (c .before .before .names-right .ensures) ∙ not-true _ (c .before .if1 .taken)) refl)) (omega arith) in
+    let start = c .before .before .before .before .before .before in
+    let no = refused-is (start .args .t .now) (founding (asked start)) 11 (sym (found-answers (start .args .t .now) (asked start) false _ (named (c .before .before) ∙ not-true _ (c .before .if1 .taken)) refl)) (omega arith) in
     (c .result .ensures ∙ no .result, no .table)
 
 sizes-right-requires : tie.Need-sizes-right-requires
@@ -54,16 +61,16 @@ result-requires-2 c κs = search needs
 
 returns-2 : tie.Need-returns-2
 returns-2 c =
-    let start = c .before .before .before .before .before .before .before in
+    let start = c .before .before .before .before .before .before .before .before in
     let no = refused-is (start .args .t .now) (founding (asked start)) 12 (sym (found-answers (start .args .t .now) (asked start) true false (eleven (c .before .before .before)) (sized (c .before .before) ∙ not-true _ (c .before .if2 .taken)))) (omega arith) in
     (c .result2 .ensures ∙ no .result, no .table)
 
 lay-table-requires : tie.Need-lay-table-requires
-lay-table-requires c κs = let start = c .before .before .before .before .before .before .before in found-fits (start .args .t .now) (asked start) (eleven (c .before .before .before)) (twelve (c .before))
+lay-table-requires c κs = let start = c .before .before .before .before .before .before .before .before in found-fits (start .args .t .now) (asked start) (eleven (c .before .before .before)) (twelve (c .before))
 
 cast-result : tie.Need-cast-result
 cast-result c =
-    let start = c .before .before .before .before .before .before .before .before .before .before in
+    let start = c .before .before .before .before .before .before .before .before .before .before .before in
     let f = found-fits (start .args .t .now) (asked start) (eleven (c .before .before .before .before .before .before)) (twelve (c .before .before .before .before)) in
     record { fits = omega (arith, f .2, f .3, f .4) }
 
@@ -75,7 +82,7 @@ same-length c = search needs
 
 returns-3 : tie.Need-returns-3
 returns-3 c =
-    let start = c .before .before .before .before .before .before .before .before .before .before .before in
+    let start = c .before .before .before .before .before .before .before .before .before .before .before .before in
     let yes = found-done (start .args .t .now) (asked start) (eleven (c .before .before .before .before .before .before .before)) (twelve (c .before .before .before .before .before)) in
     (c .result3 .ensures ∙ ap (λ (n : ℕ). 0 * 2 ^ 32 + n) (half (c .before .before .before .before .before .before .before)) ∙ yes .0, c .before .before .before .lay-table .ensures ∙ yes .1)
 
@@ -84,6 +91,7 @@ found-spec =
     tie.close
     (tie.spec
     names-right-requires
+    both-requires
     result-requires
     returns
     sizes-right-requires

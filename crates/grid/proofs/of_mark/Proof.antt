@@ -1,7 +1,8 @@
-use mathlib.Core.Path.{sym, _∙_}
+use mathlib.Core.Path.{sym, _∙_, ap}
 use borrow.Author.Needs.{needs}
-use Rattle.grid.specs.Sizes.{newFive}
-use Rattle.grid.proofs.SizeLaws.{by-five, by-published}
+use borrow.Author.Tests.{eq-eqb, ne-eqb}
+use Rattle.grid.specs.Sizes.{newFive, exchanged}
+use Rattle.grid.proofs.SizeLaws.{by-five, by-tall, by-published}
 use Rattle.grid.proofs.of_mark.Statement.{statement}
 use Rattle.grid.proofs.of_mark.Tie as tie
 
@@ -15,8 +16,21 @@ returns c = let a = c .before .before .args in by-five (a .mark) (a .length) (sy
 published-requires : tie.Need-published-requires
 published-requires c κs = search needs
 
+exchanged-requires : tie.Need-exchanged-requires
+exchanged-requires c κs = search needs
+
 returns-2 : tie.Need-returns-2
-returns-2 c = let a = c .before .before .before .args in c .published .ensures ∙ by-published (a .mark) (a .length) (sym (c .before .before .both .ensures) ∙ c .before .if1 .left)
+returns-2 c =
+    let a = c .before .before .before .before .before .args in
+    c .exchanged .ensures ∙ ap exchanged (c .before .before .published .ensures) ∙ by-tall (a .mark) (a .length) (eq-eqb _ _ (c .before .if2 .taken))
+
+returns-3 : tie.Need-returns-3
+returns-3 c =
+    let e = c .before .before in
+    let a = e .before .before .args in
+    c .before .published .ensures ∙ by-published (a .mark) (a .length) (sym (e .before .both .ensures) ∙ e .if1 .left) (ne-eqb _ _ (c .if2 .left))
 
 pub of-mark-spec : {M : Type 1} → statement M
-of-mark-spec = tie.close (tie.spec both-requires returns published-requires returns-2)
+of-mark-spec =
+    tie.close
+    (tie.spec both-requires returns published-requires exchanged-requires returns-2 returns-3)

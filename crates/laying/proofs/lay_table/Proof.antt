@@ -1,35 +1,37 @@
 use mathlib.Core.Path.{_≡_, refl, _∙_, ap}
-use Prim.Native.Nat.{ℕ, _+_, _-_, _*_, _/_, _^_, _≤_}
+use Prim.Native.Nat.{ℕ, _+_, _-_, _*_, _/_, _≤_}
 use native.Mathlib.Omega.{arith}
 use borrow.Author.Needs.{needs}
+use lib.Dec.{eqb}
 use lib.ListN.{length}
 use Rattle.fields.specs.Layout.{bodyLength, stride}
 use Rattle.laying.proofs.LaidLaws.{LaidOut, none-laid, all-laid, Turn, laid-fits, lent-zeros, laid-long, laid-turn, all-rows}
 use Rattle.laying.proofs.NameLaws.{name-at}
 use Rattle.bytes.proofs.ByteLaws.{length-zeros}
 use Rattle.protocol.specs.Lists.{laidNow}
-use Rattle.protocol.specs.Calls.{namesIn}
+use Rattle.protocol.specs.Calls.{namesIn, foundedList}
 use Rattle.laying.proofs.lay_table.Statement.{statement}
 use Rattle.laying.proofs.lay_table.Tie as tie
 
 abbrev Inv-loop : tie.InvT-loop
-Inv-loop t₀ capacity file names n list size at₀ i₀ t at i = (i ≤ n) × (length t ≡ length t₀) × LaidOut capacity n file (bodyLength file) (namesIn names) i at t
+Inv-loop t₀ capacity file names choice n list size at₀ i₀ t at i = (i ≤ n) × (length t ≡ length t₀) × LaidOut capacity n list file (bodyLength file) (namesIn names) i at t
 
 abbrev μ-loop : tie.MeasureT-loop
-μ-loop t₀ capacity file names n list size at₀ i₀ t at i = n - i
+μ-loop t₀ capacity file names choice n list size at₀ i₀ t at i = n - i
 
 -- the rows fill the table behind its header
 rows-long : (c : tie.After-row-size Inv-loop μ-loop) → let a = c .before .before .before .before .before .args in 16 + a .capacity * c .row-size .result ≡ length (a .t .now)
 rows-long c = let s = c .before .before .before .before .before in omega (arith, ap (λ (x : ℕ). s .args .capacity * x) (c .row-size .ensures), s .pre .0)
 
 -- the list is that of all used rows
-list-is : (c : tie.After-laid-now Inv-loop μ-loop) → c .laid-now .result ≡ laidNow (2 ^ (length (c .before .before .before .before .args .names .now) / 2) - 1)
+list-is : (c : tie.After-laid-now Inv-loop μ-loop) → let a = c .before .before .before .before .args in c .laid-now .result ≡ foundedList (a .choice) (length (a .names .now) / 2)
+unfolding foundedList
 list-is c =
     let s = c .before .before .before .before in
-    c .laid-now .ensures ∙ ap laidNow (all-rows (length (s .args .names .now) / 2) (c .before .first .result .bits) (omega (arith, s .pre .2, s .pre .3, s .pre .4)) (omega arith) (c .before .first .ensures))
+    c .laid-now .ensures ∙ ap (laidNow (eqb (s .args .choice) 1)) (all-rows (length (s .args .names .now) / 2) (c .before .first .result .bits) (omega (arith, s .pre .2, s .pre .3, s .pre .4)) (omega arith) (c .before .first .ensures))
 
 turn : (l : tie.In-loop Inv-loop μ-loop) → let a = l .before .before .before .before .before .before .before .before .before .before .before .before .before .before .before .args in
-    Turn (a .capacity) (length (a .names .now) / 2) (a .file) (bodyLength (a .file)) (namesIn (a .names .now)) (l .before .loop .i) (l .before .loop .at) (l .before .before .before .before .before .before .before .before .before .before .row-size .result) (l .before .loop .t)
+    Turn (a .capacity) (length (a .names .now) / 2) (l .before .before .before .before .before .before .before .before .before .before .before .laid-now .result) (a .file) (bodyLength (a .file)) (namesIn (a .names .now)) (l .before .loop .i) (l .before .loop .at) (l .before .before .before .before .before .before .before .before .before .before .row-size .result) (l .before .loop .t)
 unfolding stride
 turn l =
     let p = l .before .before .before .before .before .before .before .before .before .before .before .before .before .before .before .pre in
@@ -71,7 +73,7 @@ loop-holds c =
     let s = c .before .before .before .before .before .before .before .before .before .before .before .before .before in (
       omega arith,
       refl,
-      none-laid _ _ _ _ _ _ (s .args .t .now) _ _ (omega (arith, rows-long (c .before .before .before .before .before .before .before .before))) (s .pre .0) (s .pre .2) (omega (arith, s .pre .2, s .pre .3, s .pre .4)) (c .before .before .before .before .before .before .fill .ensures) (c .before .before .set-header .ensures),
+      none-laid _ _ _ _ _ _ _ (s .args .t .now) _ _ (omega (arith, rows-long (c .before .before .before .before .before .before .before .before))) (s .pre .0) (s .pre .2) (omega (arith, s .pre .2, s .pre .3, s .pre .4)) (c .before .before .before .before .before .before .fill .ensures) (c .before .before .set-header .ensures),
     )
 
 mul-u16-at : tie.Need-mul-u16-at Inv-loop μ-loop
@@ -115,8 +117,8 @@ loop-again c =
     let row = c .before .before .found-row in (
       omega (arith, l .loop-test .taken),
       laid-long (turn l) (row .last .0) (row .kept .0) ∙ l .before .loop .inv .1,
-      laid-turn (turn l) _ _ _ _ (row .ensures) (c .before .before .before .before .before .u16-at .ensures ∙ name-at _ _ (omega (arith, l .loop-test .taken)))
-          (omega arith) (c .before .before .before .next-row .ensures) (list-is (l .before .before .before .before .before .before .before .before .before .before .before)),
+      laid-turn (turn l) _ _ _ (row .ensures) (c .before .before .before .before .before .u16-at .ensures ∙ name-at _ _ (omega (arith, l .loop-test .taken)))
+          (omega arith) (c .before .before .before .next-row .ensures),
     )
 
 same-length : tie.Need-same-length Inv-loop μ-loop
@@ -126,7 +128,7 @@ returns : tie.Need-returns Inv-loop μ-loop
 returns c =
     let l = c .before .loop in
     let s = c .before .before .before .before .before .before .before .before .before .before .before .before .before .before .before in
-    all-laid _ _ _ _ _ _ _ (omega (arith, s .pre .3)) (omega (arith, s .pre .3)) (l .inv .2)
+    all-laid _ _ _ _ _ _ _ _ _ (list-is (c .before .before .before .before .before .before .before .before .before .before .before)) (omega (arith, s .pre .3)) (omega (arith, s .pre .3)) (l .inv .2)
 
 pub lay-table-spec : {M : Type 1} → statement M
 lay-table-spec =

@@ -41,13 +41,13 @@ follow-requires c κs = linked-here (c .before)
 returns-3 : tie.Need-returns-3
 returns-3 c = (by-chain _ (linked-here (c .before .before .before)) (sym (c .before .follow .ensures .0) ∙ not-true _ (c .if3 .taken)), λ e. absurd (clash e))
 
-lists-agree-requires : tie.Need-lists-agree-requires
-lists-agree-requires c κs = linked-here (c .before .before .before) .sized
+lists-right-requires : tie.Need-lists-right-requires
+lists-right-requires c κs = linked-here (c .before .before .before) .sized
 
 returns-4 : tie.Need-returns-4
 returns-4 c =
     let e = c .before .before in
-    (by-lists _ (linked-here (e .before .before .before)) (chained e) (sym (c .before .lists-agree .ensures) ∙ not-true _ (c .if4 .taken)), λ e. absurd (clash e))
+    (by-lists _ (linked-here (e .before .before .before)) (chained e) (sym (c .before .lists-right .ensures) ∙ not-true _ (c .if4 .taken)), λ e. absurd (clash e))
 
 unused-zero-requires : tie.Need-unused-zero-requires
 unused-zero-requires c κs = linked-here (c .before .before .before .before .before) .sized
@@ -56,7 +56,7 @@ returns-5 : tie.Need-returns-5
 returns-5 c =
     let a = c .before in
     let e = a .before .before in (
-      c .unused-zero .ensures ∙ by-unused _ (linked-here (e .before .before .before)) (chained e) (sym (a .before .lists-agree .ensures) ∙ not-false _ (a .if4 .left)),
+      c .unused-zero .ensures ∙ by-unused _ (linked-here (e .before .before .before)) (chained e) (sym (a .before .lists-right .ensures) ∙ not-false _ (a .if4 .left)),
       λ _. e .before .follow .ensures .1 (not-false _ (e .if3 .left)),
     )
 
@@ -70,7 +70,7 @@ ordered-spec =
     returns-2
     follow-requires
     returns-3
-    lists-agree-requires
+    lists-right-requires
     returns-4
     unused-zero-requires
     returns-5)
