@@ -55,41 +55,31 @@ fn lay(order: &[u8; 64], count: usize, members: RowSet) -> Seats
     }
 }
 
-// The same; a list of all rows has the order of the chain.
-fn seated(order: &[u8; 64], count: usize, members: RowSet) -> Seats
-    requires { ⌜ Listed count (now order) count ⌝ }
-    ensures { λ r. ⌜ Listed 64 (r .rows) (r .count) × (take (r .count) (r .rows) ≡ seats (take count (now (order .entry))) (has (members .bits))) ⌝ }
+// Where `counts` holds, a set of positions, each moved up by one, with position 1 in it where b holds; the set as it is otherwise.
+fn pushed(set: RowSet, counts: bool, b: bool) -> RowSet
+    requires { ⌜ set .bits < 2 ^ 63 ⌝ }
+    ensures { λ r. ⌜ r .bits ≡ cond counts (2 * set .bits + cond b 1 0) (set .bits) ⌝ }
 {
-    if members.fills(count) {
-        return Seats {
-            rows: *order,
-            count: count,
+    if counts {
+        let moved = 2 * set.bits;
+        return RowSet {
+            bits: if b { moved + 1 } else { moved },
         };
     }
-    lay(order, count, members)
+    set
 }
 
-// A set of positions, each moved up by one; position 1 is in it where b holds.
-fn pushed(set: RowSet, b: bool) -> RowSet
-    requires { ⌜ set .bits < 2 ^ 63 ⌝ }
-    ensures { λ r. ⌜ r .bits ≡ 2 * set .bits + cond b 1 0 ⌝ }
-{
-    let moved = 2 * set.bits;
-    RowSet {
-        bits: if b { moved + 1 } else { moved },
-    }
-}
-
-// The positions at which a set of rows sits, the last looked at first.
-fn held(rows: &[u8; 64], count: usize, set: RowSet) -> RowSet
-    requires { ⌜ Listed 64 (now rows) count ⌝ }
-    ensures { λ r. ⌜ has (r .bits) ≡ atSeat (take count (now (rows .entry))) (has (set .bits)) ⌝ }
+// The positions of a list at which a set of rows sits, the last row of the chain looked at first.
+fn held(order: &[u8; 64], count: usize, members: RowSet, set: RowSet) -> RowSet
+    requires { ⌜ Listed 64 (now order) count ⌝ }
+    ensures { λ r. ⌜ has (r .bits) ≡ atSeat (seats (take count (now (order .entry))) (has (members .bits))) (has (set .bits)) ⌝ }
 {
     let mut positions = RowSet::EMPTY;
     let mut j = count;
     while 0 < j {
         j -= 1;
-        positions = pushed(positions, set.at(place_at(rows, j)));
+        let place = place_at(order, j);
+        positions = pushed(positions, members.at(place), set.at(place));
     }
     positions
 }
@@ -125,12 +115,11 @@ pub fn quorum(kind: Kind, order: &[u8; 64], count: usize, list: Laid, set: RowSe
 {
     let members = RowSet { bits: list.members };
     let length = members.size();
-    let seats = seated(order, count, members);
     coterie::holds(
         kind,
         grid::of_mark(list.mark, length),
         length,
-        held(&seats.rows, seats.count, set),
+        held(order, count, members, set),
     )
 }
 
@@ -142,6 +131,10 @@ pub fn choice(kind: Kind, order: &[u8; 64], count: usize, list: Laid, name: u16)
     let members = RowSet { bits: list.members };
     let length = members.size();
     let chosen = coterie::choose(kind, grid::of_mark(list.mark, length), length, name);
-    let seats = seated(order, count, members);
+    if members.fills(count) {
+        // a list of all rows has the order of the chain
+        return standing(order, count, chosen);
+    }
+    let seats = lay(order, count, members);
     standing(&seats.rows, seats.count, chosen)
 }
