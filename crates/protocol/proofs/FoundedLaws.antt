@@ -24,7 +24,7 @@ use Rattle.bytes.specs.Bytes.{number, bytesOf, part, zeros, allZero}
 use Rattle.blocks.specs.Blocks.{block}
 use Rattle.fields.specs.declared.Laid.{Laid}
 use Rattle.fields.specs.Layout.{isTall, get, form, formValue, capacity, used, first, fileLength, name, link, mark, version, desired, epoch, members, gridMark, list, reserved, contents, bodyLength, stride, rowLength, rowsEnd, rowBytes, capacityOf, usedOf, firstOf, fileLengthOf, nameOf, linkOf, listOf}
-use Rattle.table.specs.Chain.{chain, orderOf, among, risesFrom}
+use Rattle.table.specs.Chain.{chain, among, risesFrom}
 use Rattle.table.specs.WellFormed.{between, limit, headerValues, lengthRight, visitsEach, namesRise, unusedZero}
 use Rattle.bytes.proofs.ByteLaws.{length-bytes, number-bytes, length-zeros, zeros-zero, first-zeros}
 use Rattle.fields.proofs.FieldLaws.{body-room, contents-part, list-is}
@@ -303,10 +303,6 @@ module _ (a : Calls.Founding) (f : Founds a) where
   path-is m l =
       let e : suc (length names - 1) ≡ length names = omega (arith, f .some) in
       chain-up (length names - 1) 0 m (omega (arith, f .some)) (omega (arith, f .some)) ∙ ap (λ (x : ℕ). upward x 1) e
-
-  pub founded-order : orderOf (Calls.founded choice c file names) ≡ upward (length names) 1
-  unfolding orderOf
-  founded-order = ap₂ (chain (linkOf (Calls.founded choice c file names))) founded-used founded-first ∙ path-is (length names) (omega arith)
 
   founded-path : chain (linkOf (Calls.founded choice c file names)) (suc (usedOf (Calls.founded choice c file names))) (firstOf (Calls.founded choice c file names)) ≡ upward (length names) 1
   founded-path = ap₂ (λ (m i : ℕ). chain (linkOf (Calls.founded choice c file names)) (suc m) i) founded-used founded-first ∙ path-is (suc (length names)) (omega arith)

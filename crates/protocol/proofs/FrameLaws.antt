@@ -9,7 +9,6 @@ use lib.ListN.{drop}
 use Rattle.sets.specs.Upto.{Within}
 use Rattle.bytes.specs.Bytes.{allZero}
 use Rattle.fields.specs.Layout.{get, form, capacity, used, first, fileLength, name, link, capacityOf, usedOf, firstOf, fileLengthOf, nameOf, linkOf, rowsEnd, rowBytes}
-use Rattle.table.specs.Chain.{orderOf}
 use Rattle.table.specs.WellFormed.{headerValues, lengthRight, visitsEach, namesRise, unusedZero}
 use Rattle.blocks.specs.Blocks.{block}
 use Rattle.table.proofs.TableLaws.{Like, like-get, like-end, Changed, behind}
@@ -35,10 +34,6 @@ module _ {t u : List ℕ} (f : Frame t u) where
   pub same-file : fileLengthOf u ≡ fileLengthOf t
   unfolding fileLengthOf fileLength
   same-file = like-get (f .like) fileLength (omega arith)
-
-  pub same-order : orderOf u ≡ orderOf t
-  unfolding orderOf
-  same-order = rw (f .links, same-used, same-first)
 
   pub same-header : headerValues u ≡ headerValues t
   unfolding headerValues form

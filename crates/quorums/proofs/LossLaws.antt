@@ -72,7 +72,7 @@ room-bears-loss g N wide high = one-missed g N (omega arith) (omega arith)
 
 pub four-bear-loss : FourBearLoss
 unfolding FourBearLoss RoomBearsLoss bears
-four-bear-loss tall N k four = let r = roomy tall N (omega arith) in room-bears-loss (gridBy (newMark tall N) N) N (r .0) (r .1) _ (losing-one (isPosition N) k)
+four-bear-loss tall N k four = let r = roomy tall N four in room-bears-loss (gridBy (newMark tall N) N) N (r .0) (r .1) _ (losing-one (isPosition N) k)
 
 -- ---- shorter lists: by computing the definitions
 pub shorter-hold : lossesHold shorter ≡ true
