@@ -1,5 +1,6 @@
 // A list of rows in chain order: the quorum that a set holds of it, and the choice that a name makes over it.
 // The chain order is the first `count` of an array of 64 rows.
+use bools::both;
 use fields::Laid;
 use quorums::Kind;
 use rows::RowSet;
@@ -27,32 +28,6 @@ fn place_at(order: &[u8; 64], j: usize) -> usize
     ensures { λ r. ⌜ r + 1 ≡ getD (now (order .entry)) j 0 ⌝ }
 {
     order[j] as usize - 1
-}
-
-// The rows at the positions of a list, position 1 first: the first `count` of `rows`.
-struct Seats {
-    rows: [u8; 64],
-    count: usize,
-}
-
-// The members of a list in chain order.
-fn lay(order: &[u8; 64], count: usize, members: RowSet) -> Seats
-    requires { ⌜ Listed 64 (now order) count ⌝ }
-    ensures { λ r. ⌜ Listed 64 (r .rows) (r .count) × (take (r .count) (r .rows) ≡ seats (take count (now (order .entry))) (has (members .bits))) ⌝ }
-{
-    let mut rows = [0u8; 64];
-    let mut n = 0;
-    let mut j = 0;
-    while j < count {
-        let place = place_at(order, j);
-        rows[n] = place as u8 + 1;
-        n = step(n, members.at(place));
-        j += 1;
-    }
-    Seats {
-        rows: rows,
-        count: n,
-    }
 }
 
 // Where `counts` holds, a set of positions, each moved up by one, with position 1 in it where b holds; the set as it is otherwise.
@@ -84,7 +59,7 @@ fn held(order: &[u8; 64], count: usize, members: RowSet, set: RowSet) -> RowSet
     positions
 }
 
-// The rows that sit at some positions.
+// The rows at some positions of the chain.
 fn standing(rows: &[u8; 64], count: usize, positions: RowSet) -> RowSet
     requires { ⌜ Listed 64 (now rows) count ⌝ }
     ensures { λ r. ⌜ has (r .bits) ≡ (λ (i : ℕ). some 64 (λ k. has (positions .bits) k && atSeat (take count (now (rows .entry))) (eqb i) k)) ⌝ }
@@ -94,6 +69,24 @@ fn standing(rows: &[u8; 64], count: usize, positions: RowSet) -> RowSet
     while !left.is_empty() {
         set = set.add(place_at(rows, left.lowest() - 1), true);
         left = left.rest();
+    }
+    set
+}
+
+// The members of a list at some positions of it.
+fn seated(order: &[u8; 64], count: usize, members: RowSet, positions: RowSet) -> RowSet
+    requires { ⌜ Listed 64 (now order) count ⌝ }
+    ensures { λ r. ⌜ has (r .bits) ≡ (λ (i : ℕ). some 64 (λ k. has (positions .bits) k && atSeat (seats (take count (now (order .entry))) (has (members .bits))) (eqb i) k)) ⌝ }
+{
+    let mut set = RowSet::EMPTY;
+    let mut passed = 0;
+    let mut j = 0;
+    while j < count {
+        let place = place_at(order, j);
+        let member = members.at(place);
+        set = set.add(place, both(member, positions.at(passed)));
+        passed = step(passed, member);
+        j += 1;
     }
     set
 }
@@ -135,6 +128,5 @@ pub fn choice(kind: Kind, order: &[u8; 64], count: usize, list: Laid, name: u16)
         // a list of all rows has the order of the chain
         return standing(order, count, chosen);
     }
-    let seats = lay(order, count, members);
-    standing(&seats.rows, seats.count, chosen)
+    seated(order, count, members, chosen)
 }

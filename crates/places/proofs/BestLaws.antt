@@ -14,7 +14,7 @@ use Rattle.sets.proofs.UptoLaws.{some-at, some-of, most-le, most-under, most-at
 use Rattle.sets.proofs.SetLaws.{has-empty}
 use Rattle.sets.proofs.MemberLaws.{only}
 use Rattle.places.specs.declared.Top.{Top}
-use Rattle.places.specs.Places.{Tops}
+use Rattle.places.specs.Places.{Tops, Better}
 
 pub tops-none : (f : ℕ → ℕ) (b : Top) → b .value ≡ 0 → b .rows .bits ≡ 0 → Tops noRow f b
 unfolding noRow
@@ -65,15 +65,38 @@ module _ (p : ℕ → Bool) (f : ℕ → ℕ) (rows : (j : ℕ) → p j ≡ true
           rw (eq-eqb j i e, or-true (p j), q, n) (and-false (p j))
       go (no d) false h false k = let q : max m (f i) ≡ m = omega (arith, ltb-false) in rw (ne-eqb j i d, or-false (p j), q)
 
-  pub tops-more : (b r : Top) (v : ℕ) (one : ℕ → Bool) → Tops p f b → v ≡ f i → one ≡ only i → r .value ≡ max (b .value) v
-      → has (r .rows .bits) ≡ cond (ltb (b .value) v) one (cond (eqb v (b .value)) (joining (has (b .rows .bits)) one) (has (b .rows .bits)))
-      → Tops (joining p (only i)) f r
-  tops-more b r v one t ev eo er es =
-      let value : r .value ≡ max (b .value) (f i) = er ∙ ap (max (b .value)) ev in
+  pub tops-more : (b r : Top) (v : ℕ) (one : ℕ → Bool) → Tops p f b → v ≡ f i → one ≡ only i → Better b v one r → Tops (joining p (only i)) f r
+  tops-more b r v one t ev eo e =
+      let value : r .value ≡ max (b .value) (f i) = e .value ∙ ap (max (b .value)) ev in
       record {
         value = value ∙ ap (λ (m : ℕ). max m (f i)) (t .value) ∙ sym more;
-        rows = es ∙ rw (ev, eo, t .rows, value) (fun-ext (having (b .value) (t .value)));
+        rows = e .rows ∙ rw (ev, eo, t .rows, value) (fun-ext (having (b .value) (t .value)));
       }
+
+-- the same of those of p that count
+module _ (p q : ℕ → Bool) (f : ℕ → ℕ) (rows : (j : ℕ) → p j ≡ true → Within 64 j) (i : ℕ) (w : Within 64 i) where
+  -- row i is one more of them
+  counted : q i ≡ true → joining (λ j. p j && q j) (only i) ≡ (λ j. joining p (only i) j && q j)
+  unfolding joining
+  counted e = fun-ext (λ j. go j (ℕ-discrete j i))
+    where
+      go : (j : ℕ) → Dec (j ≡ i) → ((p j && q j) || eqb j i) ≡ ((p j || eqb j i) && q j)
+      go j (yes z) = rw (eq-eqb j i z, z, e, or-true (p i), or-true (p i && true))
+      go j (no d) = rw (ne-eqb j i d, or-false (p j)) (or-false (p j && q j))
+
+  -- or not
+  passed : q i ≡ false → _≡_ {A = ℕ → Bool} (λ j. p j && q j) (λ j. joining p (only i) j && q j)
+  unfolding joining
+  passed e = fun-ext (λ j. go j (ℕ-discrete j i))
+    where
+      go : (j : ℕ) → Dec (j ≡ i) → (p j && q j) ≡ ((p j || eqb j i) && q j)
+      go j (yes z) = rw (z, e, and-false (p i), and-false (p i || eqb i i))
+      go j (no d) = rw (ne-eqb j i d, or-false (p j))
+
+  pub tops-where : (b r : Top) (v : ℕ) (one : ℕ → Bool) (counts : Bool) → Tops (λ j. p j && q j) f b → v ≡ f i → one ≡ only i → counts ≡ q i
+      → (counts ≡ true → Better b v one r) × (counts ≡ false → r ≡ b) → Tops (λ j. joining p (only i) j && q j) f r
+  tops-where b r v one true t ev eo ec e = rw (← counted (sym ec)) (tops-more (λ j. p j && q j) f (λ j m. rows j (and-l _ _ m)) i w b r v one t ev eo (e .0 refl))
+  tops-where b r v one false t ev eo ec e = rw (← passed (sym ec), e .1 refl) t
 
 -- some row has more than v: the highest is more than v
 pub above-is : (p : ℕ → Bool) (f : ℕ → ℕ) (v : ℕ) → ltb v (most 64 p f) ≡ some 64 (λ i. p i && ltb v (f i))

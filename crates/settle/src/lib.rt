@@ -1,12 +1,12 @@
 // The set that a call works on: P or R.
+use bools::both;
 use fields::Laid;
 use quorums::Kind;
 use rows::RowSet;
+use scans::scanned;
 use verdicts::Verdict;
 use verdicts::asked;
-use verdicts::judged;
 use verdicts::quorum_held;
-use verdicts::told;
 ghost use mathlib.Core.Path.{_≡_};
 ghost use mathlib.Core.Bool.{true, not, cond, _&&_};
 ghost use Prim.Native.Nat.{_^_, _<_};
@@ -80,29 +80,11 @@ pub fn settle(kind: Kind, t: &[u8], order: &[u8; 64], c: usize, answering: RowSe
     let own = fields::list(row);
     let chosen = lists::choice(kind, order, count, own, fields::name(row));
     let tried = chosen.cut(answering);
-    if tried.bits == chosen.bits {
-        // the whole choice answered: it is polled alone, and holds a quorum of the list that it was made over
-        let part = judged(t, tried);
-        let sure = part.list.same(own);
-        if passes(kind, order, count, part.list, tried, part.current, sure) {
-            return settled_on(tried, 0, part);
-        }
-        return on_all(kind, order, count, answering, judged(t, answering));
-    }
-    // one poll for both sets
-    let poll = polls::gather(t, answering);
-    let stale = poll.stale;
-    let part = told(t, stale, &poll.versions, &poll.desired, &poll.epochs, tried);
-    if passes(kind, order, count, part.list, tried, part.current, false) {
+    let part = scanned(t, tried);
+    // a choice that answered whole holds a quorum of the list that it was made over
+    let sure = both(tried.bits == chosen.bits, part.list.same(own));
+    if passes(kind, order, count, part.list, tried, part.current, sure) {
         return settled_on(tried, 0, part);
     }
-    let whole = told(
-        t,
-        stale,
-        &poll.versions,
-        &poll.desired,
-        &poll.epochs,
-        answering,
-    );
-    on_all(kind, order, count, answering, whole)
+    on_all(kind, order, count, answering, scanned(t, answering))
 }

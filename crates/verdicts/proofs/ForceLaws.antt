@@ -53,7 +53,7 @@ module _ (p : Poll) (s : ℕ → Bool) where
 -- ---- a set of rows that answered, by their poll
 module _ (t : List ℕ) (r s : ℕ) (sub : (i : ℕ) → has s i ≡ true → has r i ≡ true) where
   -- each says its list; no row says none
-  said : (i : ℕ) → (1 ≤ i → has s i ≡ true) → answers t r .list i ≡ listOf t i
+  pub said : (i : ℕ) → (1 ≤ i → has s i ≡ true) → answers t r .list i ≡ listOf t i
   unfolding answers polled has
   said zero m = sym (no-row-no-list t)
   said (suc k) m = rw (sub (suc k) (m (omega arith)))

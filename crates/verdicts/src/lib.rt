@@ -57,7 +57,7 @@ fn tally_of<'a>(stale: RowSet, versions: &'a [u32; 64], desired: &'a [u32; 64], 
 }
 
 // The list of the lowest of some rows; none where there is no row.
-fn list_of(t: &[u8], leaders: RowSet) -> Laid
+pub fn list_of(t: &[u8], leaders: RowSet) -> Laid
     requires { ⌜ Sized (now t) × ((i : ℕ) → has (leaders .bits) i ≡ true → Within (usedOf (now t)) i) ⌝ }
     ensures { λ r. ⌜ r ≡ listOf (now (t .entry)) (lowest 64 (has (leaders .bits))) ⌝ }
 {

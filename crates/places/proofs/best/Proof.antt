@@ -1,4 +1,4 @@
-use mathlib.Core.Bool.{Bool, true, false}
+use mathlib.Core.Bool.{Bool, true}
 use mathlib.Core.Path.{_≡_, refl, sym, ap, _∙_, subst}
 use Prim.Native.Nat.{ℕ}
 use native.Mathlib.Omega.{arith}
@@ -83,7 +83,7 @@ loop-again c =
       one-taken (l .inv .1) (some-left (r .before)) (w .lowest .ensures) (r .rest .ensures),
       tops-more p (placed (a .values .now)) (inside (r .before)) i (hand w .0) _ _ _ _ (l .inv .2) (sym (placed-row (a .values .now) i (hand w .0)))
           (c .before .outside .ensures ∙ taken-out (l .inv .1) (some-left (r .before)) (w .lowest .ensures) (r .rest .ensures))
-          (c .better .ensures .0) (c .better .ensures .1),
+          (c .better .ensures),
     )
 
 returns : tie.Need-returns Inv-loop μ-loop

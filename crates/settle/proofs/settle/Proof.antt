@@ -3,7 +3,9 @@ use mathlib.Core.Path.{_≡_, refl, sym, _∙_, ap, ap₂}
 use mathlib.Core.List.{List}
 use Prim.Native.Nat.{ℕ, _^_, _<_}
 use native.Mathlib.Omega.{arith}
+use lib.Dec.{eqb}
 use borrow.Author.Needs.{needs}
+use borrow.Author.Tests.{eqb-true}
 use lib.ListN.{take}
 use Rattle.settle.proofs.SettleLaws.{sure-held, try-in, works-on-try, works-on-all, alone}
 use Rattle.verdicts.specs.Judged.{Judged}
@@ -16,7 +18,7 @@ use Rattle.table.specs.Contracts.{Listed}
 use Rattle.table.specs.Chain.{orderOf}
 use Rattle.fields.specs.declared.Laid.{Laid}
 use Rattle.fields.specs.Layout.{get, name, list, noList, usedOf, nameOf, listOf}
-use Rattle.bools.proofs.BoolLaws.{clash}
+use Rattle.bools.proofs.BoolLaws.{and-l, and-r}
 use Rattle.sets.proofs.SetLaws.{has-within, within-lt}
 use Rattle.sets.specs.Sets.{has, cutTo}
 use Rattle.sets.specs.Upto.{Within}
@@ -64,25 +66,12 @@ tried-used c =
     within-lt (usedOf (s .args .t .now)) (c .cut .result .bits) (few-rows (sized (s .pre .0))) (omega arith)
     (λ i m. has-within _ (s .args .answering .bits) i (s .pre .2) (try-in (s .args .kind) (s .args .t .now) (s .args .c) (s .args .answering .bits) (c .cut .result .bits) (tried c) i m))
 
--- what a poll of the rows that answered says of P, and of them all
-part-alone : (c : tie.After-judged) → let s = c .before .before .before .before .before .before .before .before .before .before .before in
-    Judged (answers (s .args .t .now) (s .args .answering .bits)) (has (c .before .before .before .before .cut .result .bits)) (c .judged .result)
-part-alone c =
-    let s = c .before .before .before .before .before .before .before .before .before .before .before in
-    alone (s .args .kind) (s .args .t .now) (s .args .c) (s .args .answering .bits) (c .before .before .before .before .cut .result .bits) (tried (c .before .before .before .before)) _ (c .judged .ensures)
-
-part-told : (c : tie.After-told) → let s = c .before .before .before .before .before .before .before .before .before .before .before .before .before .before .before .before .before in
-    Judged (answers (s .args .t .now) (s .args .answering .bits)) (has (c .before .before .before .before .before .before .before .before .before .before .cut .result .bits)) (c .told .result)
-unfolding answers
-part-told c =
-    let s = c .before .before .before .before .before .before .before .before .before .before .before .before .before .before .before .before .before in
-    let p = c .before .before .before .before .before .before .before .before .before .before in
-    c .told .ensures (s .args .answering .bits) (try-in (s .args .kind) (s .args .t .now) (s .args .c) (s .args .answering .bits) (p .cut .result .bits) (tried p)) (c .before .before .before .before .before .before .gather .ensures)
-
-whole-told : (c : tie.After-told2) → let s = c .before .before .before .before .before .before .before .before .before .before .before .before .before .before .before .before .before .before .before .before .before .before .before .before in
-    Judged (answers (s .args .t .now) (s .args .answering .bits)) (has (s .args .answering .bits)) (c .told2 .result)
-unfolding answers
-whole-told c = c .told2 .ensures (c .before .before .before .before .before .before .before .before .before .before .before .before .before .before .before .before .before .before .before .before .before .before .before .before .args .answering .bits) (λ i m. m) (c .before .before .before .before .before .before .before .before .before .before .before .before .before .gather .ensures)
+-- what a poll of the rows that answered says of P
+part : (c : tie.After-scanned) → let s = c .before .before .before .before .before .before .before .before in
+    Judged (answers (s .args .t .now) (s .args .answering .bits)) (has (c .before .cut .result .bits)) (c .scanned .result)
+part c =
+    let s = c .before .before .before .before .before .before .before .before in
+    alone (s .args .kind) (s .args .t .now) (s .args .c) (s .args .answering .bits) (c .before .cut .result .bits) (tried (c .before)) _ (c .scanned .ensures)
 
 used-requires : tie.Need-used-requires
 used-requires c κs = long (sized (c .before .pre .0))
@@ -102,25 +91,31 @@ choice-requires c κs = listed (c .before .before .before)
 cut-requires : tie.Need-cut-requires
 cut-requires c κs = search needs
 
-judged-requires : tie.Need-judged-requires
-judged-requires c κs = (sized (c .before .before .before .before .before .before .before .before .before .before .pre .0), tried-used (c .before .before .before))
+scanned-requires : tie.Need-scanned-requires
+scanned-requires c κs = (sized (c .before .before .before .before .before .before .before .pre .0), tried-used c)
 
 same-requires : tie.Need-same-requires
 same-requires c κs = search needs
+
+both-requires : tie.Need-both-requires
+both-requires c κs = search needs
 
 -- where the list in force is the coordinator's own, P, which is the whole choice, holds a quorum of it
 passes-requires : tie.Need-passes-requires
 unfolding listOf list
 passes-requires c κs =
-    let j = c .before in
-    let s = c .before .before .before .before .before .before .before .before .before .before .before .before in
-    let t = s .args .t .now in
-    let p = c .before .before .before .before .before in (
-      listed (c .before .before .before .before .before .before .before .before .before .before),
+    let j = c .before .before .before .before in
+    let p = j .before in
+    let o = p .before .before .before in
+    let u = o .before .before in
+    let s = u .before .before in
+    let t = s .args .t .now in (
+      listed u,
       λ k sure.
-          let whole : has (p .cut .result .bits) ≡ has (p .before .choice .result .bits) = ap has (c .before .before .if1 .taken) in
-          let force : j .judged .result .list ≡ listOf t (s .args .c) = c .same .ensures .0 sure ∙ own-is (c .before .before .before .before .before .before .before .before) in
-          rw (order-is (c .before .before .before .before .before .before .before .before .before .before), force) (sure-held (s .args .kind) t (p .cut .result .bits) _ (listOf t (s .args .c)) (s .pre .0) (formed t (s .pre .0) .rows _ (own-used (c .before .before .before .before .before .before .before .before .before .before)) .only) (whole ∙ chosen-is (p .before)) (sym (j .judged .ensures .current) ∙ k)),
+          let yes = sym (c .both .ensures) ∙ sure in
+          let whole : has (p .cut .result .bits) ≡ has (p .before .choice .result .bits) = ap has (eqb-true _ _ (and-l _ _ yes)) in
+          let force : j .scanned .result .list ≡ listOf t (s .args .c) = c .before .same .ensures .0 (and-r (eqb (p .cut .result .bits) (p .before .choice .result .bits)) _ yes) ∙ own-is o in
+          rw (order-is u, force) (sure-held (s .args .kind) t (p .cut .result .bits) _ (listOf t (s .args .c)) (s .pre .0) (formed t (s .pre .0) .rows _ (own-used u) .only) (whole ∙ chosen-is (p .before)) (sym (j .scanned .ensures .current) ∙ k)),
     )
 
 settled-on-requires : tie.Need-settled-on-requires
@@ -128,55 +123,30 @@ settled-on-requires c κs = search needs
 
 returns : tie.Need-returns
 returns c =
-    let s = c .before .before .before .before .before .before .before .before .before .before .before .before .before .before .before in
-    let p = c .before .before .before .before .before .before .before .before in
-    works-on-try (s .args .kind) (s .args .t .now) (s .args .c) (s .args .answering .bits) (p .cut .result .bits) (tried p) _ (order-is (c .before .before .before .before .before .before .before .before .before .before .before .before .before)) _ (part-alone (c .before .before .before .before)) _ (c .before .before .passes .ensures)
-    (c .before .if2 .taken) _ (p .cut .result) refl (c .settled-on .ensures)
+    let y = c .before .before in
+    let j = y .before .before .before .before .before in
+    let p = j .before in
+    let u = p .before .before .before .before .before in
+    let s = u .before .before in
+    works-on-try (s .args .kind) (s .args .t .now) (s .args .c) (s .args .answering .bits) (p .cut .result .bits) (tried p) _ (order-is u) _ (part j) _ (y .passes .ensures)
+    (c .before .if1 .taken) _ (p .cut .result) refl (c .settled-on .ensures)
 
-judged-requires-2 : tie.Need-judged-requires-2
-judged-requires-2 c κs = let s = c .before .before .before .before .before .before .before .before .before .before .before .before .before .before in (sized (s .pre .0), s .pre .2)
+scanned-requires-2 : tie.Need-scanned-requires-2
+scanned-requires-2 c κs = let s = c .before .before .before .before .before .before .before .before .before .before .before .before .before .before in (sized (s .pre .0), s .pre .2)
 
 on-all-requires : tie.Need-on-all-requires
 on-all-requires c κs = listed (c .before .before .before .before .before .before .before .before .before .before .before .before .before)
 
 returns-2 : tie.Need-returns-2
 returns-2 c =
-    let s = c .before .before .before .before .before .before .before .before .before .before .before .before .before .before .before .before in
-    let p = c .before .before .before .before .before .before .before .before .before in
-    works-on-all (s .args .kind) (s .args .t .now) (s .args .c) (s .args .answering .bits) (p .cut .result .bits) (tried p) _ (order-is (c .before .before .before .before .before .before .before .before .before .before .before .before .before .before)) _ (part-alone (c .before .before .before .before .before)) _ (c .before .before .before .passes .ensures)
-    (c .before .before .if2 .left) _ (s .args .answering) _ refl (c .before .judged2 .ensures) (c .on-all .ensures)
-
-gather-requires : tie.Need-gather-requires
-gather-requires c κs = let s = c .before .before .before .before .before .before .before .before .before .before in (sized (s .pre .0), s .pre .2)
-
-told-requires : tie.Need-told-requires
-told-requires c κs = (sized (c .before .before .before .before .before .before .before .before .before .before .before .before .before .before .before .before .pre .0), tried-used (c .before .before .before .before .before .before .before .before .before))
-
-passes-requires-2 : tie.Need-passes-requires-2
-passes-requires-2 c κs = (listed (c .before .before .before .before .before .before .before .before .before .before .before .before .before .before .before), λ k never. absurd (clash never))
-
-settled-on-requires-2 : tie.Need-settled-on-requires-2
-settled-on-requires-2 c κs = search needs
-
-returns-3 : tie.Need-returns-3
-returns-3 c =
-    let s = c .before .before .before .before .before .before .before .before .before .before .before .before .before .before .before .before .before .before .before .before in
-    let p = c .before .before .before .before .before .before .before .before .before .before .before .before .before in
-    works-on-try (s .args .kind) (s .args .t .now) (s .args .c) (s .args .answering .bits) (p .cut .result .bits) (tried p) _ (order-is (c .before .before .before .before .before .before .before .before .before .before .before .before .before .before .before .before .before .before)) _ (part-told (c .before .before .before)) _ (c .before .before .passes2 .ensures)
-    (c .before .if3 .taken) _ (p .cut .result) refl (c .settled-on2 .ensures)
-
-told-requires-2 : tie.Need-told-requires-2
-told-requires-2 c κs = let s = c .before .before .before .before .before .before .before .before .before .before .before .before .before .before .before .before .before .before .before .before .before .before .before in (sized (s .pre .0), s .pre .2)
-
-on-all-requires-2 : tie.Need-on-all-requires-2
-on-all-requires-2 c κs = listed (c .before .before .before .before .before .before .before .before .before .before .before .before .before .before .before .before .before .before .before .before .before .before)
-
-returns-4 : tie.Need-returns-4
-returns-4 c =
-    let s = c .before .before .before .before .before .before .before .before .before .before .before .before .before .before .before .before .before .before .before .before .before .before .before .before .before in
-    let p = c .before .before .before .before .before .before .before .before .before .before .before .before .before .before .before .before .before .before in
-    works-on-all (s .args .kind) (s .args .t .now) (s .args .c) (s .args .answering .bits) (p .cut .result .bits) (tried p) _ (order-is (c .before .before .before .before .before .before .before .before .before .before .before .before .before .before .before .before .before .before .before .before .before .before .before)) _ (part-told (c .before .before .before .before .before .before .before .before)) _ (c .before .before .before .before .before .before .before .passes2 .ensures)
-    (c .before .before .before .before .before .before .if3 .left) _ (s .args .answering) _ refl (whole-told (c .before)) (c .on-all2 .ensures)
+    let e = c .before .before in
+    let y = e .before in
+    let j = y .before .before .before .before .before in
+    let p = j .before in
+    let u = p .before .before .before .before .before in
+    let s = u .before .before in
+    works-on-all (s .args .kind) (s .args .t .now) (s .args .c) (s .args .answering .bits) (p .cut .result .bits) (tried p) _ (order-is u) _ (part j) _ (y .passes .ensures)
+    (e .if1 .left) _ (s .args .answering) _ refl (c .before .scanned2 .ensures) (c .on-all .ensures)
 
 pub settle-spec : {M : Type 1} → statement M
 settle-spec =
@@ -188,19 +158,12 @@ settle-spec =
     name-requires
     choice-requires
     cut-requires
-    judged-requires
+    scanned-requires
     same-requires
+    both-requires
     passes-requires
     settled-on-requires
     returns
-    judged-requires-2
+    scanned-requires-2
     on-all-requires
-    returns-2
-    gather-requires
-    told-requires
-    passes-requires-2
-    settled-on-requires-2
-    returns-3
-    told-requires-2
-    on-all-requires-2
-    returns-4)
+    returns-2)
