@@ -7,7 +7,7 @@ use borrow.Author.Tests.{not-true, not-false}
 use Rattle.sets.specs.Upto.{every}
 use Rattle.fields.specs.Layout.{usedOf, list, listOf, isEmpty, isTall}
 use Rattle.fields.specs.declared.Laid.{Laid}
-use Rattle.table.proofs.TestLaws.{every-more, every-not}
+use Rattle.sets.proofs.TestLaws.{every-more, every-not}
 use Rattle.table.proofs.WellFormedLaws.{long}
 use Rattle.agreement.proofs.all_tall.Statement.{statement}
 use Rattle.agreement.proofs.all_tall.Tie as tie

@@ -8,7 +8,7 @@ use borrow.Author.Tests.{eq-eqb, ne-eqb}
 use Rattle.sets.specs.Upto.{some}
 use Rattle.sets.proofs.UptoLaws.{some-of}
 use Rattle.fields.specs.Layout.{get, gridMark, usedOf, list, listOf, isTall}
-use Rattle.table.proofs.TestLaws.{none-more}
+use Rattle.sets.proofs.TestLaws.{none-more}
 use Rattle.table.proofs.WellFormedLaws.{long}
 use Rattle.agreement.proofs.some_tall.Statement.{statement}
 use Rattle.agreement.proofs.some_tall.Tie as tie
