@@ -15,7 +15,7 @@ use Rattle.grid.specs.Sizes.{gridBy}
 use Rattle.bytes.specs.Bytes.{number, bytesOf, part, put}
 use Rattle.bytes.proofs.ByteLaws.{length-bytes, number-bytes, part-part, length-put, part-put, drop-put-after}
 use Rattle.asking.specs.Asking.{firstNo}
-use Rattle.charting.specs.Charts.{chart, inPlaces, hasChart, chartQuestions, Charted, charted}
+use Rattle.charting.specs.Charts.{chart, inPlaces, hasChart, places, chartQuestions, Charted, charted}
 use Rattle.charting.specs.Claims.{ChartIs, PlacesSuffice, PlacesHold, UnusedStay}
 use Rattle.charting.proofs.SmallestLaws.{chart-is}
 use Rattle.charting.proofs.Computed.{chart-length, places-suffice}
@@ -47,15 +47,15 @@ module _ (N mark : ℕ) (list : List ℕ) where
   drawn = record { refusal = 0; value = length (chart (gridBy mark N) N); list = put 0 (inPlaces (chart (gridBy mark N) N)) list }
 
   pub charted-17 : hasChart N mark ≡ false → charted N mark list ≡ refusedBy 17
-  unfolding charted chartQuestions firstNo
+  unfolding charted chartQuestions firstNo places
   charted-17 e = rw e
 
   pub charted-5 : hasChart N mark ≡ true → length list < 128 → charted N mark list ≡ refusedBy 5
-  unfolding charted chartQuestions firstNo
+  unfolding charted chartQuestions firstNo places
   charted-5 e h = rw (e, lt-leb 128 (length list) h)
 
   pub charted-done : hasChart N mark ≡ true → 128 ≤ length list → charted N mark list ≡ drawn
-  unfolding charted chartQuestions firstNo
+  unfolding charted chartQuestions firstNo places
   charted-done e h = rw (e, le-leb 128 (length list) h)
 
   -- what is shown of a refusal and of a drawn chart is shown of every call
@@ -70,7 +70,7 @@ module _ (N mark : ℕ) (list : List ℕ) where
   -- ---- a drawn chart in its list
   module _ (e : hasChart N mark ≡ true) (l : 128 ≤ length list) where
     fits : 0 + length (inPlaces (chart (gridBy mark N) N)) ≤ length list
-    unfolding PlacesSuffice
+    unfolding PlacesSuffice places
     fits = omega (arith, places-length (chart (gridBy mark N) N), places-suffice N mark e)
 
     -- a number of the chart has two bytes

@@ -15,15 +15,28 @@ use Rattle.grid.specs.Sizes.{root, rootUp, published, newFive, exchanged, gridB
 use Rattle.quorums.specs.Quorums.{touches, covers, readQuorum, writeQuorum, quorum}
 use Rattle.bytes.specs.Bytes.{bytesOf, put}
 use Rattle.asking.specs.Asking.{firstNo}
-use Rattle.charting.specs.Charts.{smallest, chart, inPlaces, hasChart, chartQuestions, charted}
-use Rattle.charting.specs.Claims.{PlacesSuffice, ChartsShown, caseHolds, casesHold, cases}
+use Rattle.charting.specs.Charts.{smallest, chart, inPlaces, hasChart, places, chartQuestions, charted}
+use Rattle.charting.specs.Claims.{PlacesSuffice, ChartsShown, ListShown, caseHolds, casesHold, cases}
 
--- ---- no chart has more than 64 numbers: one test over the marks 0 to 2 and the lengths 1 to 9
+-- ---- charts and calls
+pub charts-shown : ChartsShown
+unfolding ChartsShown chart smallest keep upward gridBy newFive exchanged root rootUp published columnOf every some has losing touches covers readQuorum writeQuorum quorum
+charts-shown = (refl, refl, refl, refl)
+
+pub list-shown : ListShown
+unfolding ListShown charted chartQuestions firstNo places hasChart markFits inPlaces bytesOf put chart smallest keep upward gridBy newFive exchanged root rootUp published columnOf every some has losing touches covers readQuorum writeQuorum quorum
+list-shown = refl
+
+pub cases-hold : casesHold cases ≡ true
+unfolding casesHold caseHolds cases charted chartQuestions firstNo places hasChart markFits inPlaces bytesOf put chart smallest keep upward gridBy newFive exchanged root rootUp published columnOf every some has losing touches covers readQuorum writeQuorum quorum
+cases-hold = refl
+
+-- ---- no chart has more numbers than there are places: one test over the marks 0 to 2 and the lengths 1 to 9
 roomy : ℕ → ℕ → Bool
-roomy mark N = not (hasChart N mark) || leb (length (chart (gridBy mark N) N)) 64
+roomy mark N = not (hasChart N mark) || leb (length (chart (gridBy mark N) N)) places
 
 all-roomy : every 3 (λ m. every 9 (roomy (m - 1))) ≡ true
-unfolding roomy hasChart markFits chart smallest keep upward gridBy newFive exchanged root rootUp published columnOf every some has losing touches covers readQuorum writeQuorum quorum
+unfolding roomy places hasChart markFits chart smallest keep upward gridBy newFive exchanged root rootUp published columnOf every some has losing touches covers readQuorum writeQuorum quorum
 all-roomy = refl
 
 pub chart-length : (N mark : ℕ) → hasChart N mark ≡ true → Within 9 N
@@ -52,13 +65,4 @@ places-suffice N mark e =
     let m : mark + 1 - 1 ≡ mark = omega arith in
     let row = every-at 3 _ all-roomy (mark + 1) (omega (arith, chart-mark N mark e)) in
     let r : roomy mark N ≡ true = (rw m at (every-at 9 _ row N (chart-length N mark e))) in
-    leb-true _ 64 (rw e at r)
-
--- ---- charts and calls
-pub charts-shown : ChartsShown
-unfolding ChartsShown chart smallest keep upward gridBy newFive exchanged root rootUp published columnOf every some has losing touches covers readQuorum writeQuorum quorum
-charts-shown = (refl, refl, refl, refl)
-
-pub cases-hold : casesHold cases ≡ true
-unfolding casesHold caseHolds cases charted chartQuestions firstNo hasChart markFits inPlaces bytesOf put chart smallest keep upward gridBy newFive exchanged root rootUp published columnOf every some has losing touches covers readQuorum writeQuorum quorum
-cases-hold = refl
+    leb-true _ places (rw e at r)

@@ -1,3 +1,3 @@
-pub mod SmallestLaws
 pub mod Computed
+pub mod SmallestLaws
 pub mod ChartLaws

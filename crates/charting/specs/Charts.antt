@@ -31,11 +31,15 @@ inPlaces (x ∷ xs) = bytesOf 2 x ++ inPlaces xs
 unfoldable pub hasChart : ℕ → ℕ → Bool
 hasChart N mark = leb 1 N && (leb N 9 && markFits mark N)
 
--- "Too short a list is refused by 5 .. before that .. 17"; "at least 64 places of 2 bytes"
+-- "a lent list of at least 64 places"
+unfoldable pub places : ℕ
+places = 64
+
+-- "Too short a list is refused by 5 .. before that .. 17"; a place has 2 bytes
 unfoldable pub chartQuestions : ℕ → ℕ → List ℕ → List Question
 chartQuestions N mark list =
     record { ask = 17; yes = hasChart N mark }
-    ∷ record { ask = 5; yes = leb (64 * 2) (length list) }
+    ∷ record { ask = 5; yes = leb (places * 2) (length list) }
     ∷ []
 
 -- what the call leaves: refusal number (0: done), value, the list's bytes

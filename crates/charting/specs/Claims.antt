@@ -12,7 +12,7 @@ use Rattle.grid.specs.Sizes.{gridBy}
 use Rattle.quorums.specs.declared.Kind.the-variants.{Write}
 use Rattle.quorums.specs.Quorums.{quorum}
 use Rattle.bytes.specs.Bytes.{number, part}
-use Rattle.charting.specs.Charts.{smallest, chart, hasChart, Charted, charted}
+use Rattle.charting.specs.Charts.{smallest, chart, hasChart, places, charted}
 
 -- ---- "One argument serves every grid mark": of any grid and any length
 -- "every smallest write quorum": a number is in the chart exactly where it is below 2 ^ N and a smallest write quorum
@@ -33,9 +33,9 @@ HoldsCharted = (g : Grid) (N : ℕ) (held : ℕ → Bool) → quorum Write g N h
     → (x : ℕ) × (among (chart g N) x ≡ true) × ((k : ℕ) → has x k ≡ true → held k ≡ true)
 
 -- ---- the call
--- "at least 64 places": no chart that can be asked for has more numbers
+-- no chart that can be asked for has more numbers than the list has places
 unfoldable pub PlacesSuffice : Type 0
-PlacesSuffice = (N mark : ℕ) → hasChart N mark ≡ true → length (chart (gridBy mark N) N) ≤ 64
+PlacesSuffice = (N mark : ℕ) → hasChart N mark ≡ true → length (chart (gridBy mark N) N) ≤ places
 
 -- the places from the first on hold the numbers of the chart, in their order
 unfoldable pub PlacesHold : Type 0
@@ -54,6 +54,10 @@ ChartsShown = (chart (gridBy 0 4) 4 ≡ 7 ∷ 11 ∷ 13 ∷ 14 ∷ [])
     × (chart (gridBy 0 5) 5 ≡ 7 ∷ 14 ∷ 21 ∷ 28 ∷ [])
     × (chart (gridBy 1 5) 5 ≡ 11 ∷ 14 ∷ 23 ∷ 26 ∷ 29 ∷ [])
     × (chart (gridBy 2 5) 5 ≡ 11 ∷ 14 ∷ 23 ∷ 26 ∷ 29 ∷ [])
+
+-- the chart of four in a list of 9s
+unfoldable pub ListShown : Type 0
+ListShown = charted 4 0 (replicate 129 9) .list ≡ 7 ∷ 0 ∷ 11 ∷ 0 ∷ 13 ∷ 0 ∷ 14 ∷ 0 ∷ replicate 121 9
 
 -- a call with a list of so many bytes, and its refusal and value
 pub data Case : Type 0 where

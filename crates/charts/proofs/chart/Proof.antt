@@ -9,7 +9,7 @@ use Rattle.grid.specs.declared.Grid.{Grid}
 use Rattle.grid.specs.Sizes.{gridBy}
 use Rattle.bytes.specs.Bytes.{put}
 use Rattle.asking.specs.Asking.{result}
-use Rattle.charting.specs.Charts.{chart, inPlaces, hasChart, Charted}
+use Rattle.charting.specs.Charts.{chart, inPlaces, hasChart, places, Charted}
 use Rattle.charting.specs.Claims.{PlacesSuffice}
 use Rattle.charting.proofs.Computed.{chart-length, chart-mark, places-suffice}
 use Rattle.charting.proofs.ChartLaws.{charted-17, charted-5, charted-done}
@@ -32,7 +32,7 @@ the-grid c =
     c .of-mark .ensures ∙ rw (le-leb (a .length) 64 (omega (arith, chart-length (a .length) (a .mark) (there-is e))))
 
 few : (c : tie.After-of-mark) → let a = c .before .before .before .before .before .args in length (chart (c .of-mark .result) (a .length)) ≤ 64
-unfolding PlacesSuffice
+unfolding PlacesSuffice places
 few c = let a = c .before .before .before .before .before .args in rw (the-grid c) (places-suffice (a .length) (a .mark) (there-is (c .before .before)))
 
 has-chart-requires : tie.Need-has-chart-requires
