@@ -8,13 +8,13 @@ use Rattle.charts.proofs.has_chart.Statement.{statement}
 use Rattle.charts.proofs.has_chart.Tie as tie
 
 returns : tie.Need-returns
-returns c = no-members _ _ (c .if1 .taken)
+returns c = no-members _ _ (omega arith)
 
 returns-2 : tie.Need-returns-2
-returns-2 c = too-many _ _ (c .if2 .taken)
+returns-2 c = too-many _ _ (omega arith)
 
 returns-3 : tie.Need-returns-3
-returns-3 c = no-mark _ _ (c .if3 .taken)
+returns-3 c = no-mark _ _ (omega arith)
 
 cast-mark-fits : tie.Need-cast-mark-fits
 cast-mark-fits c = search needs
