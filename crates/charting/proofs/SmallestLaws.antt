@@ -8,7 +8,7 @@ use lib.Dec.{eqb, ltb}
 use lib.Pow.{pow-pos}
 use borrow.Author.Tests.{not-true, eq-eqb, eqb-true, le-leb, lt-ltb}
 use Rattle.bools.proofs.BoolLaws.{and-l, and-r, and-i, clash, same-test}
-use Rattle.sets.specs.Upto.{Within, some, count, upward, keep, among, risesFrom}
+use Rattle.sets.specs.Upto.{Within, some, count, upward, keep, risesFrom}
 use Rattle.sets.specs.Sets.{has, losing}
 use Rattle.sets.proofs.UptoLaws.{every-at, every-of, some-at, count-ext}
 use Rattle.sets.proofs.TestLaws.{none-at}
@@ -124,6 +124,9 @@ unfolding HoldsCharted ChartIs
 holds-charted g N held q =
     let r = reduced g N (count N held) held (omega arith) q in
     let x = stored N (r .0) in
-    let so : smallest g N (has (x .0)) ≡ true = same-smallest g N (r .0) (has (x .0)) (λ k w. sym (x .2 k w)) (r .1) in
-    (x .0, chart-is g N (x .0) ∙ and-i (ltb (x .0) (2 ^ N)) _ (lt-ltb (x .0) (2 ^ N) (x .1)) so, λ k m.
-    r .2 k (sym (x .2 k (has-within N (x .0) k (x .1) m)) ∙ m))
+    let so : smallest g N (has (x .0)) ≡ true = same-smallest g N (r .0) (has (x .0)) (λ k w. sym (x .2 k w)) (r .1) in (
+      x .0,
+      chart-is g N (x .0) ∙ and-i (ltb (x .0) (2 ^ N)) _ (lt-ltb (x .0) (2 ^ N) (x .1)) so,
+      λ k m.
+          r .2 k (sym (x .2 k (has-within N (x .0) k (x .1) m)) ∙ m),
+    )

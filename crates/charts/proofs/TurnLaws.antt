@@ -1,15 +1,14 @@
 -- One turn of each loop of the code, over plain variables.
 use mathlib.Core.Path.{_≡_, refl, sym, _∙_, ap}
-use mathlib.Core.Bool.{Bool, true, false, not, cond, _&&_, _||_, and-false}
-use mathlib.Core.List.{List, [], _∷_, _++_, append-assoc}
+use mathlib.Core.Bool.{Bool, true, false, not, cond, _&&_, and-false}
+use mathlib.Core.List.{List, [], _∷_, _++_}
 use Prim.Native.Nat.{ℕ, zero, suc, _+_, _-_, _*_, _/_, _^_, _≤_, _<_}
 use native.Mathlib.Nat.{zero-add, suc-add}
 use native.Mathlib.Numerals.{add-one}
 use native.Mathlib.Omega.{arith}
 use borrow.Author.Tests.{le-leb, lt-leb}
 use lib.Dec.{leb}
-use lib.ListN.{length, drop, length-append}
-use lib.Seq.{take-at, drop-at, drop-drop}
+use lib.ListN.{length, length-append}
 use Rattle.bools.proofs.BoolLaws.{and-i, clash, same-test}
 use Rattle.sets.specs.Upto.{Within, every, upward, keep}
 use Rattle.sets.specs.Sets.{has, losing}
@@ -21,6 +20,7 @@ use Rattle.grid.specs.Sizes.{markFits}
 use Rattle.quorums.specs.declared.Kind.the-variants.{Write}
 use Rattle.quorums.specs.Quorums.{quorum}
 use Rattle.bytes.specs.Bytes.{bytesOf, put}
+use Rattle.bytes.proofs.ByteLaws.{put-more}
 use Rattle.charting.specs.Charts.{smallest, chart, inPlaces, hasChart}
 use Rattle.charting.proofs.Computed.{chart-mark}
 use Rattle.charting.proofs.ChartLaws.{places-length, places-more}
@@ -54,21 +54,6 @@ module _ (g : Grid) (N : ℕ) (s : ℕ → Bool) where
   pub none-spared : quorum Write g N s ≡ true → every N needs-it ≡ true → true ≡ smallest g N s
   unfolding smallest
   none-spared q e = sym (and-i (quorum Write g N s) _ q e)
-
--- bytes put behind those that were put at the start
-put-more : (q b xs : List ℕ) → put (length q) b (put 0 q xs) ≡ put 0 (q ++ b) xs
-unfolding put
-put-more q b xs =
-    rw (
-      zero-add (length q),
-      zero-add (length (q ++ b)),
-      length-append q b,
-      take-at q (drop (length q) xs) (length q) refl,
-      ← drop-drop (length b) (length q) (q ++ drop (length q) xs),
-      drop-at q (drop (length q) xs) (length q) refl,
-      drop-drop (length b) (length q) xs,
-    )
-    (sym (append-assoc q b (drop (length q + length b) xs)))
 
 -- ---- draw: the chart as far as the sets below n
 module _ (g : Grid) (N : ℕ) where

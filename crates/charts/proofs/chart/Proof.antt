@@ -1,4 +1,4 @@
-use mathlib.Core.Path.{_≡_, refl, sym, _∙_, ap}
+use mathlib.Core.Path.{_≡_, sym, _∙_, ap}
 use mathlib.Core.Bool.{true}
 use Prim.Native.Nat.{ℕ, _≤_}
 use native.Mathlib.Omega.{arith}
@@ -82,7 +82,7 @@ returns-3 c =
     let e = c .before .before .before .before .before .before .before in
     let a = e .before .before .before .args in
     let t = leaves (charted-done (a .length) (a .mark) (a .list .now) (there-is e) (omega arith))
-        (c .result3 .ensures ∙ ap (result 0) (d .ensures .0 ∙ ap (λ (x : Grid). length (chart x (a .length))) g)) in
+    (c .result3 .ensures ∙ ap (result 0) (d .ensures .0 ∙ ap (λ (x : Grid). length (chart x (a .length))) g)) in
     (t .0, d .ensures .1 ∙ ap (λ (x : Grid). put 0 (inPlaces (chart x (a .length))) (a .list .now)) g ∙ t .1)
 
 pub chart-spec : {M : Type 1} → statement M

@@ -1,8 +1,6 @@
 use mathlib.Core.Path.{_∙_}
 use borrow.Author.Needs.{needs}
-use borrow.Author.Tests.{le-leb}
 use native.Mathlib.Omega.{arith}
-use Rattle.charting.specs.Charts.{hasChart}
 use Rattle.charts.proofs.TurnLaws.{no-members, too-many, no-mark, by-mark}
 use Rattle.charts.proofs.has_chart.Statement.{statement}
 use Rattle.charts.proofs.has_chart.Tie as tie
