@@ -1,11 +1,12 @@
--- What a yes and a no say of the first no.
+-- What a yes and a no say of the first no; what a result tells.
 use mathlib.Core.Path.{_≡_, refl}
 use mathlib.Core.Bool.{Bool, true, false, cond}
 use mathlib.Core.List.{List, [], _∷_, _++_}
-use Prim.Native.Nat.{ℕ, suc, _≤_}
+use Prim.Native.Nat.{ℕ, suc, _/_, _%_, _^_, _≤_, _<_}
 use native.Mathlib.Omega.{arith}
+use lib.Pow.{high, low}
 use borrow.Author.Tests.{eq-eqb, ne-eqb}
-use Rattle.asking.specs.Asking.{Question, firstNo, before}
+use Rattle.asking.specs.Asking.{Question, firstNo, before, result}
 
 -- where no answer is no, the first is yes
 pub yes-first : (n : ℕ) (x : Bool) (qs : List Question) → firstNo (record { ask = suc n; yes = x } ∷ qs) ≡ 0 → (x ≡ true) × (firstNo qs ≡ 0)
@@ -36,3 +37,10 @@ before-here n x qs = rw (eq-eqb n n refl)
 pub before-other : (n m : ℕ) (x : Bool) (qs : List Question) → (m ≡ n → ⊥) → before n (record { ask = m; yes = x } ∷ qs) ≡ record { ask = m; yes = x } ∷ before n qs
 unfolding before
 before-other n m x qs d = rw (ne-eqb m n d)
+
+-- refusal and value can be read off the result
+pub result-refusal : (refusal value : ℕ) → value < 2 ^ 32 → result refusal value / 2 ^ 32 ≡ refusal
+result-refusal refusal value h = high refusal 32 h
+
+pub result-value : (refusal value : ℕ) → value < 2 ^ 32 → result refusal value % 2 ^ 32 ≡ value
+result-value refusal value h = low refusal 32 h

@@ -1,7 +1,7 @@
--- Numbered questions, put in their order.
+-- Numbered questions, put in their order, and the result.
 use mathlib.Core.Bool.{Bool, cond}
 use mathlib.Core.List.{List, [], _∷_}
-use Prim.Native.Nat.{ℕ}
+use Prim.Native.Nat.{ℕ, _+_, _*_, _^_}
 use lib.Dec.{eqb}
 
 -- a question's number, and its answer
@@ -18,3 +18,7 @@ firstNo (q ∷ qs) = cond (q .yes) (firstNo qs) (q .ask)
 unfoldable pub before : ℕ → List Question → List Question
 before n [] = []
 before n (q ∷ qs) = cond (eqb (q .ask) n) [] (q ∷ before n qs)
+
+-- "A result is one 64-bit number: refusal number times 2^32, plus value."
+abbrev pub result : ℕ → ℕ → ℕ
+result refusal value = refusal * 2 ^ 32 + value

@@ -1,7 +1,7 @@
 // An epoch check: its questions in order, then what is done.
+use asking::result;
 use questions::below_limit;
 use questions::coordinator_asked;
-use questions::result;
 use quorums::Kind;
 use rows::RowSet;
 use verdicts::asked;

@@ -1,13 +1,15 @@
 // What a host program in C sees: one function for each call. The result is refusal number times 2^32, plus value.
 ghost use mathlib.Core.Path.{_≡_};
+ghost use Rattle.asking.specs.Asking.{result};
+ghost use Rattle.charting.specs.Charts.{charted};
 ghost use Rattle.protocol.specs.Calls.{founding, join, read, write, send, check, resultOf, outcome};
 
 // The number of this interface: it rises with every change of a signature, so that header and archive can be compared.
 #[no_mangle]
 pub extern "C" fn grid_interface() -> u64
-    ensures { λ r. ⌜ r ≡ 3 ⌝ }
+    ensures { λ r. ⌜ r ≡ 4 ⌝ }
 {
-    3
+    4
 }
 
 #[no_mangle]
@@ -73,4 +75,11 @@ pub extern "C" fn grid_check(table: &mut [u8], coordinator: u64, answering: u64)
     ensures { λ r. ⌜ (let o = outcome (now (table .entry)) (check (record { c = coordinator; r = answering })) in (r ≡ resultOf o) × (now (table .exit) ≡ o .table)) ⌝ }
 {
     checks::check(table, coordinator as usize, answering)
+}
+
+#[no_mangle]
+pub extern "C" fn grid_chart(length: u64, mark: u64, list: &mut [u8]) -> u64
+    ensures { λ r. ⌜ (let o = charted length mark (now (list .entry)) in (r ≡ result (o .refusal) (o .value)) × (now (list .exit) ≡ o .list)) ⌝ }
+{
+    charts::chart(length, mark, list)
 }

@@ -1,6 +1,6 @@
 // The founding of a table: its questions in order, then what is done.
+use asking::result;
 use bools::both;
-use questions::result;
 use values::between;
 ghost use mathlib.Core.Path.{_≡_};
 ghost use mathlib.Core.Bool.{_&&_};

@@ -8,6 +8,7 @@ use native.Mathlib.Omega.{arith}
 use lib.Dec.{eqb, ltb}
 use lib.ListN.{length, take, drop, length-drop}
 use borrow.Author.Tests.{eq-eqb, ne-eqb}
+use Rattle.sets.proofs.RisingLaws.{among-e}
 use Rattle.bytes.specs.Bytes.{bytesOf, part, put, zeros}
 use Rattle.bytes.proofs.ByteLaws.{length-bytes, drop-put-after, first-zeros, split-zeros, zeros-are}
 use Rattle.blocks.specs.Blocks.{block, withBlock}
@@ -17,7 +18,7 @@ use Rattle.table.specs.Chain.{orderOf}
 use Rattle.table.specs.WellFormed.{wellFormed, unusedZero}
 use Rattle.table.proofs.FormLaws.{formed}
 use Rattle.table.proofs.WellFormedLaws.{sized, header, long, rows-in, linked, link-in}
-use Rattle.table.proofs.RisingLaws.{among-e, order-within}
+use Rattle.table.proofs.RisingLaws.{order-within}
 use Rattle.table.proofs.TableLaws.{Like, like-end, Roomy, row-long, Changed, one-row}
 use Rattle.linking.specs.Linking.{behind}
 use Rattle.linking.proofs.InsertLaws.{last-among}

@@ -9,10 +9,10 @@ use lib.Dec.{ltb}
 use lib.ListN.{length}
 use borrow.Author.Tests.{eq-eqb}
 use Rattle.bools.proofs.BoolLaws.{or-l, or-r}
-use Rattle.sets.specs.Upto.{Within}
+use Rattle.sets.specs.Upto.{Within, among}
 use Rattle.sets.proofs.UptoLaws.{last, every-of}
 use Rattle.fields.specs.Layout.{usedOf, firstOf, nameOf, linkOf}
-use Rattle.table.specs.Chain.{chain, orderOf, among}
+use Rattle.table.specs.Chain.{chain, orderOf}
 use Rattle.table.specs.WellFormed.{visitsEach, namesRise, wellFormed}
 use Rattle.table.proofs.ChainLaws.{order-path, order-length, order-each, order-rises}
 use Rattle.table.proofs.RisingLaws.{order-within}

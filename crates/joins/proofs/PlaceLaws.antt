@@ -11,14 +11,14 @@ use lib.ListN.{getD, drop, drop-of-length-le}
 use lib.Seq.{drop-cons, getD-take}
 use borrow.Author.Tests.{eqb-true, eq-eqb, ne-eqb, lt-ltb, le-ltb}
 use Rattle.bools.proofs.BoolLaws.{clash, same-test}
-use Rattle.sets.specs.Upto.{Within, some}
+use Rattle.sets.specs.Upto.{Within, some, among, risesFrom}
 use Rattle.sets.proofs.UptoLaws.{some-at, some-of, some-none}
+use Rattle.sets.proofs.RisingLaws.{among-e, rises-tail, rises-above}
 use Rattle.fields.specs.Layout.{usedOf, nameOf}
-use Rattle.table.specs.Chain.{orderOf, among, risesFrom}
+use Rattle.table.specs.Chain.{orderOf}
 use Rattle.table.specs.WellFormed.{wellFormed}
 use Rattle.table.specs.Contracts.{Ordered}
 use Rattle.table.proofs.ChainLaws.{order-length, order-each, order-rises}
-use Rattle.table.proofs.RisingLaws.{among-e, rises-tail, rises-above}
 use Rattle.linking.specs.Linking.{lastOf}
 use Rattle.linking.proofs.InsertLaws.{last-none}
 use Rattle.joining.specs.Joining.{rowBefore}

@@ -1,6 +1,6 @@
 // A joining: its questions in order, then what is done.
+use asking::result;
 use bools::any;
-use questions::result;
 ghost use mathlib.Core.Path.{_≡_};
 ghost use mathlib.Core.Bool.{true};
 ghost use lib.Dec.{eqb};

@@ -8,13 +8,14 @@ use native.Mathlib.Decide.{ℕ-discrete}
 use native.Mathlib.Omega.{arith}
 use borrow.Author.Tests.{eqb-true, eq-eqb, ne-eqb}
 use Rattle.bools.proofs.BoolLaws.{or-l, or-r, or-e, clash, same-test}
-use Rattle.sets.specs.Upto.{Within}
+use Rattle.sets.specs.Upto.{Within, among, risesFrom}
 use Rattle.sets.proofs.UptoLaws.{last}
+use Rattle.sets.proofs.RisingLaws.{among-head, among-e, rises-tail, rises-above, rises-once}
 use Rattle.fields.specs.Layout.{usedOf, nameOf}
-use Rattle.table.specs.Chain.{orderOf, among, risesFrom}
+use Rattle.table.specs.Chain.{orderOf}
 use Rattle.table.specs.WellFormed.{wellFormed}
 use Rattle.table.proofs.ChainLaws.{order-each, order-rises}
-use Rattle.table.proofs.RisingLaws.{among-head, among-e, rises-tail, rises-above, rises-once, order-within}
+use Rattle.table.proofs.RisingLaws.{order-within}
 use Rattle.linking.specs.Linking.{inserted, byName}
 use Rattle.linking.proofs.InsertLaws.{inserted-among, inserted-same, inserted-rises}
 

@@ -9,9 +9,10 @@ use lib.Dec.{ltb}
 use lib.ListN.{length}
 use borrow.Author.Tests.{ne-eqb}
 use Rattle.bools.proofs.BoolLaws.{clash}
-use Rattle.table.specs.Chain.{chain, among, risesFrom}
+use Rattle.sets.specs.Upto.{among, risesFrom}
+use Rattle.sets.proofs.RisingLaws.{among-head, among-tail, among-e}
+use Rattle.table.specs.Chain.{chain}
 use Rattle.table.proofs.ChainLaws.{chain-zero, chain-suc}
-use Rattle.table.proofs.RisingLaws.{among-head, among-tail, among-e}
 use Rattle.linking.specs.Linking.{behind}
 
 -- it goes by the names of the rows on the list alone

@@ -17,12 +17,13 @@ use Rattle.table.proofs.FormLaws.{formed, well-formed-of, header-facts}
 use Rattle.protocol.specs.Polls.{highestEpoch, inForce}
 use Rattle.protocol.specs.Calls
 use Rattle.asking.specs.Asking.{firstNo}
+use Rattle.asking.proofs.AskingLaws.{result-refusal, result-value}
 use Rattle.protocol.specs.Calls.{Call, founding, join, read, write, send, check, questions, done, outcome, answers, workSet}
 use Rattle.protocol.specs.Claims
 use Rattle.joining.proofs.FrameLaws.{joined-alters}
 use Rattle.joining.proofs.RowLaws.{more-formed}
 use Rattle.protocol.proofs.PollLaws.{worked-in}
-use Rattle.protocol.proofs.QuestionLaws.{result-refusal, result-value, refusal-is, when-done, when-refused, join-yes, read-yes, write-yes, send-yes, CheckYes, check-yes}
+use Rattle.protocol.proofs.QuestionLaws.{refusal-is, when-done, when-refused, join-yes, read-yes, write-yes, send-yes, CheckYes, check-yes}
 use Rattle.protocol.proofs.DoneLaws.{version-small, epoch-small, Leaves, writeTable, write-leaves, sendTable, send-leaves, checkTable, check-leaves}
 use Rattle.protocol.proofs.KeepLaws.{write-formed, send-formed}
 use Rattle.protocol.proofs.FoundedLaws.{founds-of, founded-formed}
@@ -56,8 +57,8 @@ small-done t (check a) h = go (eqb (a .r) (inForce (answers t (a .r)) (has (a .r
     go false q = let room : ltb (highestEpoch (answers t (a .r)) (has (a .r))) limit ≡ true = rw q at (y .room) in omega (arith, ltb-true)
 
 pub result-tells : Claims.ResultTells
-unfolding Claims.ResultTells limit
-result-tells t k = let s = go (outcome t k .refusal) refl in record { small = s; refusal = result-refusal (outcome t k) s; value = result-value (outcome t k) s }
+unfolding Claims.ResultTells Calls.resultOf limit
+result-tells t k = let s = go (outcome t k .refusal) refl in record { small = s; refusal = result-refusal (outcome t k .refusal) _ s; value = result-value (outcome t k .refusal) _ s }
   where
     go : (x : ℕ) → outcome t k .refusal ≡ x → outcome t k .value < 2 ^ 32
     go zero q = let z = small-done t k (sym (refusal-is t k) ∙ q) in rw (when-done t k q) (omega arith)

@@ -1,6 +1,6 @@
 -- What a founded table says: its header, each row, the chain; and that it is well formed, whatever lay in the table before.
 use mathlib.Core.Path.{_≡_, refl, sym, _∙_, ap, ap₂, subst}
-use mathlib.Core.Bool.{true, cond, _&&_, _||_}
+use mathlib.Core.Bool.{true, cond, _&&_}
 use mathlib.Core.List.{List, [], _∷_, _++_, append-assoc}
 use Prim.Native.Nat.{ℕ, zero, suc, _+_, _-_, _*_, _%_, _^_, _≤_, _<_}
 use native.Mathlib.Nat.{add-mul, suc-mul, zero-mul, lt-of-lt-of-le, le-of-suc-le-suc, not-suc-le-zero}
@@ -11,20 +11,21 @@ use lib.Dec.{eqb, leb, ltb}
 use lib.Pow.{pow-mono, ones-lt}
 use lib.ListN.{length, getD, take, drop, length-append}
 use lib.Seq.{take-at, drop-at, drop-drop}
-use borrow.Author.Tests.{eq-eqb, ne-eqb, ltb-true, leb-true}
-use Rattle.sets.specs.Upto.{Within, count, upward}
+use borrow.Author.Tests.{eq-eqb, ne-eqb, lt-ltb, ltb-true, le-leb, leb-true}
+use Rattle.sets.specs.Upto.{Within, count, upward, risesFrom}
 use Rattle.sets.specs.Sets.{has}
 use Rattle.grid.specs.Sizes.{newMark}
 use Rattle.grid.proofs.SizeLaws.{new-mark-fits, new-mark-small}
-use Rattle.bools.proofs.BoolLaws.{and-l, and-r, and-i, or-l, or-r, clash}
+use Rattle.bools.proofs.BoolLaws.{and-l, and-r, and-i, clash}
 use Rattle.sets.proofs.UptoLaws.{every-of}
 use Rattle.sets.proofs.SetLaws.{has-all}
 use Rattle.sets.proofs.CountLaws.{count-one}
+use Rattle.sets.proofs.RisingLaws.{upward-length, upward-among}
 use Rattle.bytes.specs.Bytes.{number, bytesOf, part, zeros, allZero}
 use Rattle.blocks.specs.Blocks.{block}
 use Rattle.fields.specs.declared.Laid.{Laid}
 use Rattle.fields.specs.Layout.{isTall, get, form, formValue, capacity, used, first, fileLength, name, link, mark, version, desired, epoch, members, gridMark, list, reserved, contents, bodyLength, stride, rowLength, rowsEnd, rowBytes, capacityOf, usedOf, firstOf, fileLengthOf, nameOf, linkOf, listOf}
-use Rattle.table.specs.Chain.{chain, among, risesFrom}
+use Rattle.table.specs.Chain.{chain}
 use Rattle.table.specs.WellFormed.{between, limit, headerValues, lengthRight, visitsEach, namesRise, unusedZero}
 use Rattle.bytes.proofs.ByteLaws.{length-bytes, number-bytes, length-zeros, zeros-zero, first-zeros}
 use Rattle.fields.proofs.FieldLaws.{body-room, contents-part, list-is}
@@ -307,25 +308,11 @@ module _ (a : Calls.Founding) (f : Founds a) where
   founded-path : chain (linkOf (Calls.founded choice c file names)) (suc (usedOf (Calls.founded choice c file names))) (firstOf (Calls.founded choice c file names)) ≡ upward (length names) 1
   founded-path = ap₂ (λ (m i : ℕ). chain (linkOf (Calls.founded choice c file names)) (suc m) i) founded-used founded-first ∙ path-is (suc (length names)) (omega arith)
 
-  length-upward : (k j : ℕ) → length (upward k j) ≡ k
-  unfolding upward
-  length-upward zero j = refl
-  length-upward (suc k) j = ap suc (length-upward k (suc j))
-
-  among-upward : (k j i : ℕ) → j ≤ i → i < j + k → among (upward k j) i ≡ true
-  unfolding upward among
-  among-upward zero j i l h = absurd (omega arith)
-  among-upward (suc k) j i l h = go (ℕ-discrete j i) (among-upward k (suc j) i)
-    where
-      go : Dec (j ≡ i) → (suc j ≤ i → i < suc j + k → among (upward k (suc j)) i ≡ true) → (among (upward k (suc j)) i || eqb j i) ≡ true
-      go (yes e) ih = or-r (among (upward k (suc j)) i) _ (eq-eqb j i e)
-      go (no d) ih = or-l _ (eqb j i) (ih (omega arith) (omega arith))
-
   founded-visits : visitsEach (Calls.founded choice c file names) ≡ true
   unfolding visitsEach
   founded-visits =
-      rw (founded-path, founded-used) (and-i (eqb (length (upward (length names) 1)) (length names)) _ (eq-eqb _ _ (length-upward (length names) 1))
-      (every-of (length names) _ (λ i w. among-upward (length names) 1 i (omega arith) (omega arith))))
+      rw (founded-path, founded-used) (and-i (eqb (length (upward (length names) 1)) (length names)) _ (eq-eqb _ _ (upward-length (length names) 1))
+      (every-of (length names) _ (λ i w. upward-among (length names) 1 i ∙ rw (le-leb 1 i (w .0), lt-ltb i (1 + length names) (omega arith)))))
 
   -- names rise along the rows from row j + 1 on as they do in the list
   rise-from : (l : List ℕ) (a j : ℕ) → Calls.namesRising a l ≡ true → ((k : ℕ) → k < length l → nameOf (Calls.founded choice c file names) (suc j + k) ≡ getD l k 0)

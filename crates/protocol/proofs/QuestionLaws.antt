@@ -2,11 +2,10 @@
 use mathlib.Core.Path.{_≡_, refl, sym, _∙_}
 use mathlib.Core.Bool.{true, false, not, cond, _&&_, _||_}
 use mathlib.Core.List.{List}
-use Prim.Native.Nat.{ℕ, zero, suc, _+_, _%_, _/_, _^_, _≤_, _<_}
+use Prim.Native.Nat.{ℕ, zero, suc, _+_, _^_, _≤_, _<_}
 use native.Mathlib.Omega.{arith}
 use lib.Dec.{eqb, leb, ltb, eqb·suc-zero}
 use lib.ListN.{length}
-use lib.Pow.{high, low}
 use borrow.Author.Tests.{eqb-false, eq-eqb, ltb-true, leb-true, not-true}
 use Rattle.sets.specs.Upto.{Within, some}
 use Rattle.sets.specs.Sets.{has}
@@ -22,15 +21,6 @@ use Rattle.protocol.specs.Polls.{highestEpoch, inForce, goodVersion, cur
 use Rattle.asking.specs.Asking.{Question, firstNo, before}
 use Rattle.asking.proofs.AskingLaws.{yes-first, no-first, before-other}
 use Rattle.protocol.specs.Calls
-
--- ---- the result is one number, from which refusal and value can be read off
-pub result-refusal : (o : Calls.Outcome) → o .value < 2 ^ 32 → Calls.resultOf o / 2 ^ 32 ≡ o .refusal
-unfolding Calls.resultOf
-result-refusal o h = high (o .refusal) 32 h
-
-pub result-value : (o : Calls.Outcome) → o .value < 2 ^ 32 → Calls.resultOf o % 2 ^ 32 ≡ o .value
-unfolding Calls.resultOf
-result-value o h = low (o .refusal) 32 h
 
 -- ---- the first no
 done-zero : (t : List ℕ) (k : Calls.Call) → Calls.done t k .refusal ≡ 0

@@ -13,7 +13,7 @@ use Rattle.fields.specs.declared.Laid.{Laid}
 use Rattle.fields.specs.Layout.{isTall, formValue, bodyLength, stride, capacityOf, usedOf, fileLengthOf, nameOf, staleOf, versionOf, desiredOf, contentsOf, rowBytes, withRow, withRows}
 use Rattle.table.specs.Chain.{orderOf}
 use Rattle.table.specs.WellFormed.{between, limit, onlyRows, wellFormed}
-use Rattle.asking.specs.Asking.{Question, firstNo}
+use Rattle.asking.specs.Asking.{Question, firstNo, result}
 use Rattle.protocol.specs.Lists.{laidNow}
 use Rattle.protocol.specs.Polls.{Poll, polled, highestEpoch, inForce, goodVersion, good, current, quorumHeld, workedOn}
 use Rattle.protocol.specs.Rows.{refreshedRow, wroteRow, checkedRow}
@@ -89,7 +89,7 @@ buffered bytes o = record { refusal = o .refusal; value = o .value; table = o .t
 
 -- "A result is one 64-bit number: refusal number times 2^32, plus value."
 unfoldable pub resultOf : Outcome → ℕ
-resultOf o = o .refusal * 2 ^ 32 + o .value
+resultOf o = result (o .refusal) (o .value)
 
 -- i is a used row
 unfoldable pub isUsed : List ℕ → ℕ → Bool

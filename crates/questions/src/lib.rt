@@ -1,23 +1,16 @@
-// The questions that a call is asked before its poll, the limit, and the result.
+// The questions that a call is asked before its poll, and the limit.
 use bools::both;
 use rows::RowSet;
 ghost use mathlib.Core.Path.{_≡_};
 ghost use mathlib.Core.Bool.{_&&_};
 ghost use mathlib.Core.List.{[]};
-ghost use Prim.Native.Nat.{_+_, _*_, _^_};
+ghost use Prim.Native.Nat.{_+_};
 ghost use lib.Dec.{leb, ltb};
 ghost use Rattle.table.specs.WellFormed.{limit};
 ghost use Rattle.table.specs.Contracts.{Ordered};
 ghost use Rattle.asking.specs.Asking.{firstNo};
 ghost use Rattle.protocol.specs.Calls.{byCoordinator};
 ghost use Rattle.questions.specs.Stages.{toRange};
-
-// A result: refusal number times 2^32, plus value.
-pub fn result(refusal: u32, value: u32) -> u64
-    ensures { λ r. ⌜ r ≡ refusal * 2 ^ 32 + value ⌝ }
-{
-    refusal as u64 * 4_294_967_296 + value as u64
-}
 
 // Question 8: may a version or an epoch number still grow?
 pub fn below_limit(number: u32) -> bool

@@ -1,6 +1,6 @@
 // A read: its questions in order, then what is done.
+use asking::result;
 use questions::range_asked;
-use questions::result;
 use quorums::Kind;
 use rows::RowSet;
 ghost use mathlib.Core.Path.{_≡_};

@@ -1,4 +1,3 @@
-pub mod RisingKept
 pub mod SeatLaws
 pub mod HeldLaws
 pub mod LossLaws

@@ -6,10 +6,10 @@ use Prim.Native.Nat.{ℕ, suc, _-_, _<_}
 use native.Mathlib.Omega.{arith}
 use lib.ListN.{length, getD}
 use Rattle.bools.proofs.BoolLaws.{and-i, and-r, same-test, clash}
-use Rattle.sets.specs.Upto.{Within, count, keep}
+use Rattle.sets.specs.Upto.{Within, count, keep, among}
 use Rattle.sets.proofs.UptoLaws.{count-ext}
 use Rattle.fields.specs.Layout.{usedOf, nameOf}
-use Rattle.table.specs.Chain.{orderOf, among}
+use Rattle.table.specs.Chain.{orderOf}
 use Rattle.table.specs.WellFormed.{wellFormed}
 use Rattle.table.proofs.WellFormedLaws.{sized, few-rows}
 use Rattle.table.proofs.ChainLaws.{order-each, order-rises}
@@ -17,7 +17,7 @@ use Rattle.protocol.specs.Lists.{seats}
 use Rattle.seats.specs.Seats.{rowAt, EveryListIsSeated}
 use Rattle.table.proofs.RisingLaws.{order-within}
 use Rattle.sets.proofs.CountLaws.{count-to}
-use Rattle.seats.proofs.RisingKept.{keep-count, keep-among, among-at, place-of, keep-rises, rises-apart}
+use Rattle.sets.proofs.RisingLaws.{keep-count, keep-among, among-at, place-of, keep-rises, rises-apart}
 
 module _ (t : List ℕ) (e : wellFormed t ≡ true) (p : ℕ → Bool) (listed : (i : ℕ) → p i ≡ true → Within (usedOf t) i) where
   seats-size : length (seats (orderOf t) p) ≡ count 64 p

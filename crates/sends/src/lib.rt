@@ -1,6 +1,6 @@
 // A send: its questions in order, then what is done.
+use asking::result;
 use bools::both;
-use questions::result;
 use rows::RowSet;
 use values::between;
 ghost use mathlib.Core.Path.{_≡_};

@@ -12,16 +12,16 @@ use lib.ListN.{length, take, set, length-set, length-take, length-append}
 use lib.Seq.{take-all, take-suc-set, append-snoc, getD-set-same, getD-set-other}
 use borrow.Author.Tests.{eqb-true, eq-eqb, ne-eqb, lt-ltb, le-ltb}
 use borrow.Author.Count.{below-more}
-use Rattle.sets.specs.Upto.{Within, every}
+use Rattle.sets.specs.Upto.{Within, every, among, risesFrom}
 use Rattle.sets.specs.Sets.{has, gaining}
 use Rattle.bools.proofs.BoolLaws.{and-l, and-r}
 use Rattle.sets.proofs.UptoLaws.{every-at}
 use Rattle.sets.proofs.SetLaws.{empty-at, gain-where}
 use Rattle.fields.specs.Layout.{usedOf, firstOf, linkOf, nameOf}
-use Rattle.table.specs.Chain.{chain, orderOf, among, risesFrom}
+use Rattle.table.specs.Chain.{chain, orderOf}
 use Rattle.table.specs.WellFormed.{visitsEach, namesRise, wellFormed}
 use Rattle.table.specs.Contracts.{Linked, Listed, Ordered}
-use Rattle.table.proofs.TestLaws.{eqb-swap}
+use Rattle.sets.proofs.TestLaws.{eqb-swap}
 use Rattle.table.proofs.WellFormedLaws.{header, few-rows, link-in}
 
 pub chain-zero : (next : ℕ → ℕ) (m : ℕ) → chain next m 0 ≡ []

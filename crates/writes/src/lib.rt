@@ -1,7 +1,7 @@
 // A write: its questions in order, then what is done.
+use asking::result;
 use questions::below_limit;
 use questions::range_asked;
-use questions::result;
 use quorums::Kind;
 use rows::RowSet;
 ghost use mathlib.Core.Path.{_≡_};

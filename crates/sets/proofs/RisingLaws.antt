@@ -1,21 +1,56 @@
--- The part of a rising list that passes a test.
+-- Lists of numbers: what stands in them, lists along which something rises strictly, and the part of one that passes a test.
 use mathlib.Core.Path.{_≡_, refl, sym, _∙_, ap, ap₂}
 use mathlib.Core.Bool.{Bool, true, false, cond, _&&_, _||_, and-true, and-false, or-self, or-false}
-use mathlib.Core.Logic.{⊎-elim}
-use mathlib.Core.List.{List, [], _∷_}
+use mathlib.Core.Logic.{_⊎_, ⊎-elim, inl, inr}
+use mathlib.Core.List.{List, [], _∷_, _++_}
 use Prim.Native.Nat.{ℕ, zero, suc, _+_, _≤_, _<_}
-use native.Mathlib.Decide.{decLt}
+use native.Mathlib.Nat.{add-zero}
+use native.Mathlib.Decide.{ℕ-discrete, decLt}
 use native.Mathlib.Omega.{arith}
-use lib.Dec.{eqb, ltb}
+use lib.Dec.{eqb, leb, ltb}
 use lib.ListN.{length, getD}
-use borrow.Author.Tests.{lt-ltb, eqb-true}
-use Rattle.bools.proofs.BoolLaws.{and-i, same-test, clash}
-use Rattle.sets.specs.Upto.{Within, count, keep}
+use borrow.Author.Tests.{lt-ltb, le-ltb, ltb-true, le-leb, lt-leb, leb-true, eqb-true, eq-eqb}
+use Rattle.bools.proofs.BoolLaws.{and-l, and-r, and-i, or-l, or-r, or-e, same-test, clash}
+use Rattle.sets.specs.Upto.{Within, count, upward, keep, among, risesFrom}
 use Rattle.sets.proofs.UptoLaws.{count-ext}
-use Rattle.table.specs.Chain.{among, risesFrom}
-use Rattle.table.proofs.TestLaws.{eqb-swap}
-use Rattle.table.proofs.RisingLaws.{among-head, among-tail, among-e, rises-head, rises-tail, rises-once}
 use Rattle.sets.proofs.CountLaws.{count-to, count-gain}
+use Rattle.sets.proofs.TestLaws.{eqb-swap}
+
+-- ---- members
+pub among-head : (x : ℕ) (xs : List ℕ) → among (x ∷ xs) x ≡ true
+unfolding among
+among-head x xs = or-r (among xs x) _ (eq-eqb x x refl)
+
+pub among-tail : (x : ℕ) (xs : List ℕ) (j : ℕ) → among xs j ≡ true → among (x ∷ xs) j ≡ true
+unfolding among
+among-tail x xs j e = or-l (among xs j) _ e
+
+pub among-e : (x : ℕ) (xs : List ℕ) (j : ℕ) → among (x ∷ xs) j ≡ true → (among xs j ≡ true) ⊎ (x ≡ j)
+unfolding among
+among-e x xs j e = ⊎-elim (λ h. inl h) (λ h. inr (eqb-true x j h)) (or-e (among xs j) _ e)
+
+-- ---- rising
+module _ (f : ℕ → ℕ) where
+  pub rises-head : (a x : ℕ) (xs : List ℕ) → risesFrom a f (x ∷ xs) ≡ true → a < f x
+  unfolding risesFrom
+  rises-head a x xs h = ltb-true _ _ (and-l _ _ h)
+
+  pub rises-tail : (a x : ℕ) (xs : List ℕ) → risesFrom a f (x ∷ xs) ≡ true → risesFrom (f x) f xs ≡ true
+  unfolding risesFrom
+  rises-tail a x xs h = and-r (ltb a (f x)) _ h
+
+  -- what rises from a is above a
+  pub rises-above : (a : ℕ) (xs : List ℕ) → risesFrom a f xs ≡ true → (j : ℕ) → among xs j ≡ true → a < f j
+  unfolding among
+  rises-above a [] h j e = absurd (clash e)
+  rises-above a (x ∷ xs) h j e = ⊎-elim
+      (λ m. omega (arith, rises-head a x xs h, rises-above (f x) xs (rises-tail a x xs h) j m))
+      (λ q. rw (← q) (rises-head a x xs h))
+      (among-e x xs j e)
+
+  -- so nothing stands in it twice
+  pub rises-once : (x : ℕ) (xs : List ℕ) → risesFrom (f x) f xs ≡ true → (j : ℕ) → among xs j ≡ true → j ≡ x → ⊥
+  rises-once x xs h j m q = let l : f x < f j = rises-above (f x) xs h j m in let e : f j ≡ f x = ap f q in omega arith
 
 -- ---- how many it is
 -- one row more among them
@@ -105,3 +140,48 @@ module _ (f : ℕ → ℕ) where
       go (yes d) _ = absurd (omega (arith, rises-later a xs h j k d m, ap f q))
       go (no d) (yes c) = absurd (omega (arith, rises-later a xs h k j c l, ap f q))
       go (no d) (no c) = omega arith
+
+-- ---- the numbers a, a + 1, .., k of them
+pub upward-length : (k a : ℕ) → length (upward k a) ≡ k
+unfolding upward
+upward-length zero a = refl
+upward-length (suc k) a = ap suc (upward-length k (suc a))
+
+pub upward-among : (k a x : ℕ) → among (upward k a) x ≡ (leb a x && ltb x (a + k))
+unfolding upward among
+upward-among zero a x = sym (go (decLt x a))
+  where
+    go : Dec (x < a) → (leb a x && ltb x (a + 0)) ≡ false
+    go (yes h) = rw (lt-leb a x h)
+    go (no h) = rw (le-ltb x (a + 0) (omega arith)) (and-false (leb a x))
+upward-among (suc k) a x = rw (upward-among k (suc a) x) (same-test _ _ to from)
+  where
+    to : ((leb (suc a) x && ltb x (suc a + k)) || eqb a x) ≡ true → (leb a x && ltb x (a + suc k)) ≡ true
+    to h = ⊎-elim
+        (λ e. and-i (leb a x) _ (le-leb a x (omega (arith, leb-true (suc a) x (and-l _ _ e)))) (lt-ltb x (a + suc k) (omega (arith, ltb-true x (suc a + k) (and-r (leb (suc a) x) _ e)))))
+        (λ e. and-i (leb a x) _ (le-leb a x (omega (arith, eqb-true a x e))) (lt-ltb x (a + suc k) (omega (arith, eqb-true a x e))))
+        (or-e (leb (suc a) x && ltb x (suc a + k)) (eqb a x) h)
+
+    from : (leb a x && ltb x (a + suc k)) ≡ true → ((leb (suc a) x && ltb x (suc a + k)) || eqb a x) ≡ true
+    from h = go (ℕ-discrete a x)
+      where
+        l : a ≤ x
+        l = leb-true a x (and-l _ _ h)
+
+        u : x < a + suc k
+        u = ltb-true x (a + suc k) (and-r (leb a x) _ h)
+
+        go : Dec (a ≡ x) → ((leb (suc a) x && ltb x (suc a + k)) || eqb a x) ≡ true
+        go (yes e) = or-r (leb (suc a) x && ltb x (suc a + k)) _ (eq-eqb a x e)
+        go (no d) = or-l (leb (suc a) x && ltb x (suc a + k)) _ (and-i (leb (suc a) x) _ (le-leb (suc a) x (omega (arith, l))) (lt-ltb x (suc a + k) (omega (arith, u))))
+
+pub upward-rises : (k a b : ℕ) → b < a → risesFrom b (λ x. x) (upward k a) ≡ true
+unfolding upward risesFrom
+upward-rises zero a b h = refl
+upward-rises (suc k) a b h = and-i (ltb b a) _ (lt-ltb b a h) (upward-rises k (suc a) a (omega arith))
+
+-- one number more
+pub upward-more : (k a : ℕ) → upward (suc k) a ≡ upward k a ++ ((a + k) ∷ [])
+unfolding upward
+upward-more zero a = ap (λ (x : ℕ). x ∷ []) (sym (add-zero a))
+upward-more (suc k) a = ap (λ (l : List ℕ). a ∷ l) (upward-more k (suc a) ∙ ap (λ (x : ℕ). upward k (suc a) ++ (x ∷ [])) (omega arith))

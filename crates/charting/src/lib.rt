@@ -1,0 +1,1 @@
+// The wall chart of quorums: definitions and laws.
