@@ -1,3 +1,4 @@
 pub mod SeatLaws
 pub mod HeldLaws
 pub mod LossLaws
+pub mod SizeLaws
