@@ -9,7 +9,7 @@ ghost use lib.Dec.{leb, ltb};
 ghost use Rattle.table.specs.WellFormed.{limit};
 ghost use Rattle.table.specs.Contracts.{Ordered};
 ghost use Rattle.asking.specs.Asking.{firstNo};
-ghost use Rattle.protocol.specs.Calls.{byCoordinator};
+ghost use Rattle.protocol.specs.Calls.{byCoordinator, noted};
 ghost use Rattle.questions.specs.Stages.{toRange};
 
 // A result: refusal number times 2^32, plus value.
@@ -17,6 +17,30 @@ pub fn result(refusal: u32, value: u32) -> u64
     ensures { λ r. ⌜ r ≡ refusal * 2 ^ 32 + value ⌝ }
 {
     refusal as u64 * 4_294_967_296 + value as u64
+}
+
+// What a read or a write answers: its result, and how many machines were called.
+pub struct Answered {
+    pub result: u64,
+    pub called: u8,
+}
+
+pub fn answer_of(refusal: u32, value: u32, called: u8) -> Answered
+    ensures { λ r. ⌜ r ≡ record { result = refusal * 2 ^ 32 + value; called = called } ⌝ }
+{
+    Answered {
+        result: result(refusal, value),
+        called: called,
+    }
+}
+
+// How many machines were called, noted in a list of one byte; one of another length is left alone.
+pub fn note(bytes: &mut [u8], called: u8)
+    ensures { λ r. ⌜ now (bytes .exit) ≡ noted (now (bytes .entry)) called ⌝ }
+{
+    if bytes.len() == 1 {
+        bytes[0] = called;
+    }
 }
 
 // Question 8: may a version or an epoch number still grow?
