@@ -1,9 +1,11 @@
-/* Four machines share a file of results: found it, write, read, and meet a refusal. */
+/* Four machines share a file of results: found it, write, read, meet a refusal, and ask which machines are enough to write. */
 #include <stdio.h>
 #include <string.h>
 #include "dyngrid.h"
 
 enum { MACHINES = 4, FILE_BYTES = 16, TABLE_BYTES = GRID_HEADER + MACHINES * (GRID_ROW_HEADER + FILE_BYTES) };
+/* Where the first row has the mark of its list's grid. */
+enum { GRID_MARK = GRID_HEADER + 24 };
 
 /* What to tell the operator. */
 static const char *meaning(uint32_t refusal)
@@ -14,7 +16,7 @@ static const char *meaning(uint32_t refusal)
     case GRID_NO_SUCH_ROW: return "there is no such row: rows count from 1 to the rows used";
     case GRID_NOT_ANSWERING: return "the coordinator did not answer: it must be in the answering set";
     case GRID_OUT_OF_RANGE: return "the range is empty or ends beyond the file";
-    case GRID_WRONG_BUFFER: return "the buffer is not as long as the range";
+    case GRID_WRONG_BUFFER: return "the buffer is not as long as the range, or too short for a chart";
     case GRID_NO_QUORUM: return "too few machines answered: try again when more do";
     case GRID_NOT_CURRENT: return "no machine that answered has the newest version: wait for one that has";
     case GRID_AT_LIMIT: return "a million versions or epochs: found a new table";
@@ -24,6 +26,7 @@ static const char *meaning(uint32_t refusal)
     case GRID_BAD_SIZE: return "capacity, file length and table length do not fit together";
     case GRID_NAME_NOT_FREE: return "the name is 0 or in use: join with another one";
     case GRID_NO_ROOM: return "every row of the table is in use: found a larger table";
+    case GRID_NO_CHART: return "a chart is of 1 to 9 machines with a grid mark that so many can have";
     default: return "no such refusal";
     }
 }
@@ -39,9 +42,23 @@ static int report(const char *call, uint64_t result)
     return refusal == GRID_DONE;
 }
 
+/* Prints the sets of a chart, each by the places of its machines in name order. */
+static void print_chart(const uint8_t *sets, uint32_t count)
+{
+    for (uint32_t place = 0; place < count; place++) {
+        unsigned set = sets[2 * place] | (unsigned)sets[2 * place + 1] << 8;
+        printf("enough to write:");
+        for (unsigned machine = 1; machine <= MACHINES; machine++)
+            if (set >> (machine - 1) & 1)
+                printf(" %u", machine);
+        printf("\n");
+    }
+}
+
 int main(void)
 {
     static uint8_t table[TABLE_BYTES];
+    uint8_t sets[GRID_CHART_BYTES];
     const uint8_t names[2 * MACHINES] = {10, 0, 20, 0, 30, 0, 40, 0};
     const char score[] = "1-0";
     uint8_t got[sizeof score] = {0};
@@ -66,5 +83,11 @@ int main(void)
 
     /* Alone it is refused: an old score would look like any other. */
     report("read by row 4 alone", grid_read(table, sizeof table, 4, grid_row(4), 0, sizeof got, got, sizeof got));
+
+    /* The smallest sets of machines that are enough for a write. */
+    uint64_t chart = grid_chart(MACHINES, table[GRID_MARK], sets, sizeof sets);
+    if (!report("chart of four", chart))
+        return 1;
+    print_chart(sets, grid_value(chart));
     return memcmp(got, score, sizeof score) != 0;
 }

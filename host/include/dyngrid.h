@@ -1,10 +1,11 @@
 /* The dynamic grid: copies of one file on up to 64 machines, as a C program calls it.
  *
  * Link with libdyngrid.a; it needs nothing but memcpy and memset. Each call is one step over a table that the
- * caller owns: it takes no memory, and returns for any bytes and any numbers. Who answered is the caller's business.
+ * caller owns (a chart needs none): it takes no memory, and returns for any bytes and any numbers. Who answered is the
+ * caller's business.
  *
  * Conventions
- *   A list is a pointer and then its length in bytes. Names are two bytes each, low byte first.
+ *   A list is a pointer and then its length in bytes. Names, and sets in a chart, are two bytes each, low byte first.
  *   Rows have the numbers 1 upward. In an answering set, bit i - 1 stands for row i (see grid_row).
  *   A result is the refusal number (0: done) times 2^32, plus the value (see grid_refusal, grid_value).
  *   A refused call has value 0 and alters no byte of the table, of a buffer or of anything else.
@@ -39,9 +40,9 @@
 extern "C" {
 #endif
 
-/* Rises with every change of a signature in this header, and with nothing else: a new form of the table does not raise it,
-   for a table tells its form itself, and one of another form is refused by 1. */
-#define DYNGRID_INTERFACE 3
+/* Rises with every signature in this header that is new or changed, and with nothing else: a new form of the table does not
+   raise it, for a table tells its form itself, and one of another form is refused by 1. */
+#define DYNGRID_INTERFACE 4
 
 /* The number of the archive. */
 uint64_t grid_interface(void);
@@ -53,14 +54,15 @@ static inline int grid_interface_agrees(void)
     return grid_interface() == DYNGRID_INTERFACE;
 }
 
-/* Why a call was refused. The questions behind the numbers are put in this order; the first no counts. */
+/* Why a call was refused. The questions behind the numbers are put in this order (a chart's 17 before its 5); the first no
+   counts. */
 enum grid_refusals {
     GRID_DONE = 0,                 /* not refused */
     GRID_MALFORMED = 1,            /* the table is not well formed: use a good copy of it, or found it anew; form 1: see above */
     GRID_NO_SUCH_ROW = 2,          /* a row is not in use, or a send names one row twice */
     GRID_NOT_ANSWERING = 3,        /* the coordinator, or an end of a send, is not in the answering set */
     GRID_OUT_OF_RANGE = 4,         /* the range is empty or ends beyond the file */
-    GRID_WRONG_BUFFER = 5,         /* the buffer is not exactly as long as the range */
+    GRID_WRONG_BUFFER = 5,         /* the buffer is not exactly as long as the range; a chart's list is shorter than 128 bytes */
     GRID_NO_QUORUM = 6,            /* the rows that answered hold no quorum: try again when more answer */
     GRID_NOT_CURRENT = 7,          /* no row that answered has the newest version: try again when one answers */
     GRID_AT_LIMIT = 8,             /* the version, or the epoch, is at 1,000,000: found a new table */
@@ -69,7 +71,8 @@ enum grid_refusals {
     GRID_BAD_NAMES = 11,           /* names must be 1 to 64, rise strictly, and none be 0; the choice must be wide or tall */
     GRID_BAD_SIZE = 12,            /* capacity (1 to 64, no fewer than the names), file (1 to 4,096) and table length must fit */
     GRID_NAME_NOT_FREE = 13,       /* the name is 0 or in use: join with another one, 1 to 65,535 */
-    GRID_NO_ROOM = 14              /* every row of the table is in use: found a larger table and carry the file over */
+    GRID_NO_ROOM = 14,             /* every row of the table is in use: found a larger table and carry the file over */
+    GRID_NO_CHART = 17             /* a chart is of 1 to 9 members with a grid mark that so many can have (see grid_chart) */
 };
 
 /* The form of a table, in its first byte. */
@@ -78,8 +81,14 @@ enum grid_forms { GRID_FORM = 2 };
 /* The choices of a founding. */
 enum grid_shapes { GRID_WIDE = 0, GRID_TALL = 1 };
 
+/* The marks of the grid that a list lies in: byte 24 of a row that has a list. */
+enum grid_marks { GRID_MARK_PUBLISHED = 0, GRID_MARK_NEW_FIVE = 1, GRID_MARK_TALL = 2 };
+
 /* Limits of a table. */
 enum grid_limits { GRID_MAX_ROWS = 64, GRID_MAX_FILE = 4096, GRID_HEADER = 16, GRID_ROW_HEADER = 32 };
+
+/* Limits of a chart: the members of a list, and the bytes that it is put into at least. */
+enum grid_chart_limits { GRID_MAX_CHART = 9, GRID_CHART_BYTES = 128 };
 
 /* The refusal number of a result; GRID_DONE if the call was done. */
 static inline uint32_t grid_refusal(uint64_t result)
@@ -143,6 +152,16 @@ uint64_t grid_check(uint8_t *table, size_t table_len, uint64_t coordinator, uint
    all that answered. Its version is 0, without a mark. Before the first write it is as good as any row; a send to it is
    refused by 10 until a check that it answers, or a write that works on all that answered, has marked it. */
 uint64_t grid_join(uint8_t *table, size_t table_len, uint16_t name);
+
+/* The wall chart: lists every smallest write quorum of a list of so many members, 1 to 9, with this grid mark. These are the
+   sets of members that are enough for a write or a check, and no longer are if any one of them is taken out.
+   A set is a number of two bytes, bit k - 1 for the k-th member in name order. The sets rise from the first place of the list
+   on, each once; the other bytes stay. The list has at least 128 bytes (GRID_CHART_BYTES). No table is asked.
+   Value: how many sets. Refusals: 17, then 5.
+
+   Mark 0 is for lists of any length (of five only in a table taken over from form 1), mark 1 for lists of five, mark 2 for
+   lists of any length in a tall table. Four members with mark 0 give 7, 11, 13, 14. */
+uint64_t grid_chart(uint64_t length, uint64_t mark, uint8_t *list, size_t list_len);
 
 #ifdef __cplusplus
 }

@@ -12,6 +12,7 @@ pub trait Calls {
     fn send(&self, table: &mut [u8], from: u64, to: u64, answering: u64) -> u64;
     fn check(&self, table: &mut [u8], coordinator: u64, answering: u64) -> u64;
     fn join(&self, table: &mut [u8], name: u16) -> u64;
+    fn chart(&self, length: u64, mark: u64, list: &mut [u8]) -> u64;
 }
 
 pub struct Library;
@@ -60,6 +61,10 @@ impl Calls for Library {
     fn join(&self, table: &mut [u8], name: u16) -> u64 {
         unsafe { raw::grid_join(table.as_mut_ptr(), table.len(), name) }
     }
+
+    fn chart(&self, length: u64, mark: u64, list: &mut [u8]) -> u64 {
+        unsafe { raw::grid_chart(length, mark, list.as_mut_ptr(), list.len()) }
+    }
 }
 
 impl Calls for Engine {
@@ -85,5 +90,9 @@ impl Calls for Engine {
 
     fn join(&self, table: &mut [u8], name: u16) -> u64 {
         Engine::join(self, table, name)
+    }
+
+    fn chart(&self, length: u64, mark: u64, list: &mut [u8]) -> u64 {
+        Engine::chart(self, length, mark, list)
     }
 }

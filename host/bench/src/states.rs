@@ -35,6 +35,7 @@ const TALL_SIZES: [Size; 2] = [
     Size { title: "12 machines, 1,024 bytes", used: 12, capacity: 12, file_len: 1024 },
     Size { title: "64 machines, 4,096 bytes", used: 64, capacity: 64, file_len: 4096 },
 ];
+const CHARTED: Size = Size { title: "9 machines, 64 bytes", used: 9, capacity: 9, file_len: 64 };
 const SPARSE: Size = Size { title: "5 of 64 rows used, 4,096 bytes", used: 5, capacity: 64, file_len: 4096 };
 
 const SOME_TASKS: &[Task] = &[Task::Read(16), Task::Write(16), Task::Send, Task::CheckSame];
@@ -61,6 +62,7 @@ pub fn all() -> Vec<State> {
         .collect();
     states.push(State { tasks: SPARSE_TASKS, ..founded(SPARSE) });
     states.extend(TALL_SIZES.map(tall));
+    states.push(State { tasks: &[Task::Chart], ..founded(CHARTED) });
     for state in &states {
         assert!(Table::decode(&state.table).is_some(), "{}: malformed", state.title);
     }

@@ -2,7 +2,7 @@
 
 use crate::engines::Calls;
 use crate::states::{self, State};
-use reference::rows;
+use reference::{rows, CHART_PLACES};
 use std::fmt;
 use std::hint::black_box;
 use std::time::{Duration, Instant};
@@ -22,6 +22,8 @@ pub enum Task {
     CheckNew,
     /// In the middle of the chain of a founded table.
     Join,
+    /// Of as many members as there are machines, in the published grid; the table has no part in it.
+    Chart,
 }
 
 pub const EVERY_TASK: [Task; 9] = [
@@ -49,6 +51,7 @@ impl fmt::Display for Task {
             Task::CheckSame => f.write_str("check, same list"),
             Task::CheckNew => f.write_str("check, new list"),
             Task::Join => f.write_str("join"),
+            Task::Chart => f.write_str("chart"),
         }
     }
 }
@@ -62,14 +65,15 @@ impl Task {
         }
     }
 
-    /// Makes `calls` calls on a fresh copy of the table; gives the time of all, the table and the last result.
-    pub fn run(self, engine: &impl Calls, state: &State, calls: u32) -> (Duration, Vec<u8>, u64) {
+    /// Makes `calls` calls on a fresh copy of the table; gives the time of all, and what they leave.
+    pub fn run(self, engine: &impl Calls, state: &State, calls: u32) -> (Duration, Left) {
         let State { size, coordinator, answering, .. } = *state;
         let mut table = state.table.clone();
         let (all, but_one) = (answering, answering & !rows::only(size.used));
         let names = size.names();
         let mut bytes = match self {
             Task::Read(length) | Task::Write(length) => vec![7; length.min(size.file_len)],
+            Task::Chart => vec![7; 2 * CHART_PLACES],
             _ => Vec::new(),
         };
         let (one, two) = (size.row_at(1), size.row_at(2));
@@ -105,12 +109,21 @@ impl Task {
                     unjoin(&mut table, size.row_at(middle), size.row_at(next));
                     engine.join(black_box(&mut table), name)
                 }
+                Task::Chart => engine.chart(size.used as u64, 0, black_box(&mut bytes)),
             };
             assert!(black_box(result) >> 32 == self.refusal(), "{}: {self} has another refusal", state.title);
         }
         let time = started.elapsed();
-        (time, table, result)
+        (time, Left { table, bytes, result })
     }
+}
+
+/// What the calls of a task leave: the table, the other bytes that were lent, and the last result.
+#[derive(PartialEq, Eq)]
+pub struct Left {
+    table: Vec<u8>,
+    bytes: Vec<u8>,
+    result: u64,
 }
 
 /// Marks the row that begins here: version 0, desiring version 1.

@@ -12,7 +12,7 @@ const LONGEST_LIST: usize = 12_000;
 
 pub struct Archive {
     table: Guard,
-    /// The second slice of a call: its names, buffer or patch.
+    /// The other slice of a call: its names, buffer, patch or the list of a chart.
     list: Guard,
     pub edge: Edge,
 }
@@ -29,6 +29,7 @@ impl Archive {
             Call::Found { names, .. } => names,
             Call::Read { buffer, .. } => buffer,
             Call::Write { patch, .. } => patch,
+            Call::Chart { list, .. } => list,
             Call::Send { .. } | Call::Check { .. } | Call::Join { .. } => &[],
         };
         self.table.place(table, self.edge);
@@ -43,12 +44,12 @@ impl Archive {
         if !self.list.intact() {
             return Err("the archive wrote beside a list".into());
         }
-        let is_read = matches!(call, Call::Read { .. });
-        if !is_read && self.list.slice() != lent {
+        let written = call.lent().is_some();
+        if !written && self.list.slice() != lent {
             return Err("the archive altered names or patch".into());
         }
         table.copy_from_slice(self.table.slice());
-        Ok(Answer { result, buffer: if is_read { self.list.slice().to_vec() } else { Vec::new() } })
+        Ok(Answer { result, buffer: if written { self.list.slice().to_vec() } else { Vec::new() } })
     }
 
     fn enter(&mut self, table_len: usize, list_len: usize, call: &Call) -> u64 {
@@ -71,6 +72,7 @@ impl Archive {
                     raw::grid_check(table, table_len, coordinator, answering)
                 }
                 Call::Join { name } => raw::grid_join(table, table_len, name),
+                Call::Chart { length, mark, .. } => raw::grid_chart(length, mark, list, list_len),
             }
         }
     }

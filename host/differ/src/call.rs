@@ -11,9 +11,10 @@ pub enum Call {
     Send { from: u64, to: u64, answering: u64 },
     Check { coordinator: u64, answering: u64 },
     Join { name: u16 },
+    Chart { length: u64, mark: u64, list: Vec<u8> },
 }
 
-/// What a call gave: its result, and the bytes that its buffer then holds (empty but for a read).
+/// What a call gave: its result, and the bytes that its buffer, or the list of a chart, then holds (empty but for these).
 #[derive(Clone, Debug, PartialEq, Eq)]
 pub struct Answer {
     pub result: u64,
@@ -21,7 +22,7 @@ pub struct Answer {
 }
 
 impl Call {
-    pub const KINDS: [&'static str; 6] = ["found", "read", "write", "send", "check", "join"];
+    pub const KINDS: [&'static str; 7] = ["found", "read", "write", "send", "check", "join", "chart"];
 
     /// Its place in `KINDS`.
     pub fn kind(&self) -> usize {
@@ -32,13 +33,23 @@ impl Call {
             Call::Send { .. } => 3,
             Call::Check { .. } => 4,
             Call::Join { .. } => 5,
+            Call::Chart { .. } => 6,
         }
     }
 
-    /// The rows that answered; nobody is asked in a founding or a joining.
+    /// What the call may write besides the table.
+    pub fn lent(&self) -> Option<&[u8]> {
+        match self {
+            Call::Read { buffer, .. } => Some(buffer),
+            Call::Chart { list, .. } => Some(list),
+            _ => None,
+        }
+    }
+
+    /// The rows that answered; nobody is asked in a founding, a joining or a chart.
     pub fn answering(&self) -> Option<u64> {
         match *self {
-            Call::Found { .. } | Call::Join { .. } => None,
+            Call::Found { .. } | Call::Join { .. } | Call::Chart { .. } => None,
             Call::Read { answering, .. }
             | Call::Write { answering, .. }
             | Call::Send { answering, .. }
@@ -49,7 +60,7 @@ impl Call {
     /// Lets only these rows answer.
     pub fn cut_down(&mut self, rows: u64) {
         match self {
-            Call::Found { .. } | Call::Join { .. } => {}
+            Call::Found { .. } | Call::Join { .. } | Call::Chart { .. } => {}
             Call::Read { answering, .. }
             | Call::Write { answering, .. }
             | Call::Send { answering, .. }
@@ -59,13 +70,12 @@ impl Call {
 
     /// Puts the call to the reference.
     pub fn refer(&self, engine: Engine, table: &mut [u8]) -> Answer {
-        let mut lent = Vec::new();
+        let mut lent = self.lent().unwrap_or_default().to_vec();
         let result = match self {
             Call::Found { capacity, file_len, names, choice } => {
                 engine.found(table, *capacity, *file_len, names, *choice)
             }
-            Call::Read { coordinator, answering, offset, length, buffer } => {
-                lent.clone_from(buffer);
+            Call::Read { coordinator, answering, offset, length, .. } => {
                 engine.read(table, *coordinator, *answering, *offset, *length, &mut lent)
             }
             Call::Write { coordinator, answering, offset, patch } => {
@@ -74,6 +84,7 @@ impl Call {
             Call::Send { from, to, answering } => engine.send(table, *from, *to, *answering),
             Call::Check { coordinator, answering } => engine.check(table, *coordinator, *answering),
             Call::Join { name } => engine.join(table, *name),
+            Call::Chart { length, mark, .. } => engine.chart(*length, *mark, &mut lent),
         };
         Answer { result, buffer: lent }
     }
@@ -101,6 +112,9 @@ impl fmt::Display for Call {
                 write!(f, "grid_check(coordinator {coordinator}, answering {})", set_shown(*answering))
             }
             Call::Join { name } => write!(f, "grid_join(name {name})"),
+            Call::Chart { length, mark, list } => {
+                write!(f, "grid_chart(length {length}, mark {mark}, list {})", bytes_shown(list))
+            }
         }
     }
 }

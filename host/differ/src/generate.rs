@@ -7,14 +7,19 @@ use crate::random::Random;
 use crate::tables::{self, Picture, Size};
 use reference::{rows, Engine, Layout, Quorum, Rules, Table, MAX_FILE, MAX_ROWS};
 
+/// What every chart is asked for: the lengths of lists of members, some beyond nine; grid marks; bytes of the list to fill.
+const CHART_LENGTHS: [u64; 13] = [0, 1, 2, 3, 4, 5, 6, 7, 8, 9, 10, 1 << 32, (1 << 32) + 5];
+const CHART_MARKS: [u64; 7] = [0, 1, 2, 3, 4, 257, 1 << 32];
+const CHART_LISTS: [usize; 5] = [0, 127, 128, 129, 200];
+
 /// What a case tries: a table to start from, and how its calls are picked.
 pub struct Plan {
     start: Vec<u8>,
     /// The book of the history that led to the start, if one did.
     ledger: Ledger,
     calls: usize,
-    /// Made first.
-    opening: Option<Call>,
+    /// Made first, in this order.
+    opening: std::vec::IntoIter<Call>,
     /// Every call is a founding of about this size.
     foundings: Option<Size>,
     /// The table as last seen well formed: other calls are fitted to it.
@@ -50,7 +55,7 @@ impl Plan {
             start,
             ledger: Ledger::default(),
             calls: random.between(10, 100),
-            opening: Some(opening),
+            opening: vec![opening].into_iter(),
             foundings: None,
             known: None,
             up,
@@ -66,7 +71,8 @@ impl Plan {
         for _ in 0..random.between(1, 12) {
             let mut table = plan.table();
             let call = plan.next(random, &table);
-            let of_a_request = matches!(call, Call::Join { .. } | Call::Found { choice: 1.., .. });
+            let of_a_request =
+                matches!(call, Call::Join { .. } | Call::Chart { .. } | Call::Found { choice: 1.., .. });
             if !of_a_request {
                 let answer = call.refer(engine, &mut table);
                 plan.ledger
@@ -89,7 +95,7 @@ impl Plan {
             start,
             ledger: Ledger::default(),
             calls: random.between(1, 9),
-            opening: None,
+            opening: Vec::new().into_iter(),
             foundings: None,
             known,
             up,
@@ -104,7 +110,7 @@ impl Plan {
             start,
             ledger: Ledger::default(),
             calls: random.between(2, 6),
-            opening: None,
+            opening: Vec::new().into_iter(),
             foundings: None,
             known: Some(table),
             up,
@@ -124,8 +130,31 @@ impl Plan {
             start,
             ledger: Ledger::default(),
             calls: random.between(2, 6),
-            opening: Some(opening),
+            opening: vec![opening].into_iter(),
             foundings: Some(size),
+            known: None,
+            up: 0,
+        }
+    }
+
+    /// Every chart, and every way to be refused one: a length, a mark and a list of bytes at or beyond its limit.
+    pub fn charts(random: &mut Random) -> Plan {
+        let mut calls = Vec::new();
+        for length in CHART_LENGTHS {
+            for mark in CHART_MARKS {
+                calls.extend(CHART_LISTS.map(|bytes| Call::Chart {
+                    length,
+                    mark,
+                    list: random.bytes(bytes),
+                }));
+            }
+        }
+        Plan {
+            start: Vec::new(),
+            ledger: Ledger::default(),
+            calls: calls.len(),
+            opening: calls.into_iter(),
+            foundings: None,
             known: None,
             up: 0,
         }
@@ -146,8 +175,8 @@ impl Plan {
 
     /// The next call on a table that now holds these bytes.
     pub fn next(&mut self, random: &mut Random, bytes: &[u8]) -> Call {
-        if let Some(opening) = self.opening.take() {
-            return opening;
+        if let Some(call) = self.opening.next() {
+            return call;
         }
         if let Some(size) = self.foundings {
             return bad_founding(random, size);
@@ -257,7 +286,8 @@ fn fitting(random: &mut Random, table: &Picture, up: u64) -> Call {
             let answering = answering(random, table, up, coordinator, Quorum::Write);
             Call::Check { coordinator: coordinator as u64, answering }
         }
-        93..=98 => Call::Join { name: joining_name(random, table) },
+        93..=97 => Call::Join { name: joining_name(random, table) },
+        98 => chart(random),
         _ => {
             let used = random.between(1, table.capacity);
             let choice = choice(random);
@@ -340,6 +370,14 @@ fn joining_name(random: &mut Random, table: &Picture) -> u16 {
     name.min(65_535) as u16
 }
 
+/// A chart that mostly can be given.
+fn chart(random: &mut Random) -> Call {
+    let length = random.between(1, 9) as u64;
+    let mark = if length == 5 { random.pick(&[0, 1, 2]) } else { random.pick(&[0, 2]) };
+    let bytes = random.between(128, 300);
+    Call::Chart { length, mark, list: random.bytes(bytes) }
+}
+
 /// Gives one argument of the call a value at or beyond its limits.
 fn spoil(random: &mut Random, call: &mut Call, table: &Picture) {
     let (used, longest) = (table.used as u64, table.file_len as u64);
@@ -380,6 +418,11 @@ fn spoil(random: &mut Random, call: &mut Call, table: &Picture) {
         Call::Join { name } => {
             *name = random.pick(&[0, 1, 65_535, *name ^ 1, *name ^ 0x100, table.row(1).name])
         }
+        Call::Chart { length, mark, list } => match random.between(0, 2) {
+            0 => *length = edge(random, 9, *length),
+            1 => *mark = edge(random, 2, *mark),
+            _ => list.truncate(random.between(0, 129)),
+        },
     }
 }
 
@@ -410,6 +453,22 @@ fn resize(random: &mut Random, list: &mut Vec<u8>, file_len: usize) {
 #[cfg(test)]
 mod tests {
     use super::*;
+
+    #[test]
+    fn every_chart_is_tried() {
+        let mut random = Random::new(6, 0);
+        let mut plan = Plan::charts(&mut random);
+        let mut answers = std::collections::BTreeMap::new();
+        for _ in 0..plan.calls() {
+            let call = plan.next(&mut random, &[]);
+            *answers.entry(call.refer(Engine::default(), &mut []).result >> 32).or_insert(0) += 1;
+        }
+        // Nineteen pairs of length and mark have a chart; each is asked for with two lists that are too short, and with three more.
+        assert_eq!(
+            answers.into_iter().collect::<Vec<_>>(),
+            [(0, 19 * 3), (5, 19 * 2), (17, (13 * 7 - 19) * 5)]
+        );
+    }
 
     #[test]
     fn names_to_join_with_lie_everywhere() {

@@ -54,7 +54,12 @@ impl Run {
         archive::now_in(self.seed, number);
         let mut random = Random::new(self.seed, number);
         let edge = if random.chance(1, 2) { Edge::Start } else { Edge::End };
-        let mut plan = Plan::pick(&mut random);
+        // The first two cases try every chart, in lists against one edge and against the other.
+        let (edge, mut plan) = match number {
+            0 => (Edge::Start, Plan::charts(&mut random)),
+            1 => (Edge::End, Plan::charts(&mut random)),
+            _ => (edge, Plan::pick(&mut random)),
+        };
         let mut case = Case { table: plan.table(), ledger: plan.ledger(), calls: Vec::new(), edge };
         let mut trial = Trial::new(&mut self.archive, self.reference, &case);
         for _ in 0..plan.calls() {

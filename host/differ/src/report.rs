@@ -3,13 +3,11 @@
 use crate::call::Call;
 use crate::tables::Picture;
 use reference::Shape;
-use std::collections::BTreeMap;
+use std::collections::{BTreeMap, BTreeSet};
 use std::fmt;
 use std::ops::RangeInclusive;
 
 const KINDS: usize = Call::KINDS.len();
-/// The highest refusal number that a call has.
-const HIGHEST: u32 = 14;
 
 /// What came up in a run.
 #[derive(Clone)]
@@ -35,7 +33,11 @@ const POSSIBLE: [&[u32]; KINDS] = [
     &[0, 1, 2, 3, 9, 10],
     &[0, 1, 2, 3, 6, 7, 8],
     &[0, 1, 13, 14],
+    &[0, 5, 17],
 ];
+
+/// The kinds of calls that are not asked what the table holds: founding and chart.
+const TABLELESS: [usize; 2] = [0, 6];
 
 /// The kinds of calls that the scope alone puts question 1 to.
 const PUBLISHED: RangeInclusive<usize> = 1..=4;
@@ -165,8 +167,7 @@ impl Counts {
         for (kind, name) in Call::KINDS.into_iter().enumerate() {
             let answers = POSSIBLE[kind].iter().filter(|answer| !self.answers[kind].contains_key(answer));
             missing.extend(answers.map(|answer| format!("{name} {answer}")));
-            // A founding is not asked what the table holds.
-            if kind == 0 {
+            if TABLELESS.contains(&kind) {
                 continue;
             }
             let grounds = Ground::ALL.into_iter().filter(|&ground| self.grounds[kind][ground as usize] == 0);
@@ -197,14 +198,16 @@ impl Counts {
 
 impl fmt::Display for Counts {
     fn fmt(&self, f: &mut fmt::Formatter) -> fmt::Result {
+        let refusals: BTreeSet<u32> =
+            POSSIBLE.into_iter().flatten().copied().filter(|&answer| answer > 0).collect();
         write!(f, "{:7}{:>8}", "", "done")?;
-        for refusal in 1..=HIGHEST {
+        for refusal in &refusals {
             write!(f, "{refusal:>7}")?;
         }
         for (kind, counts) in Call::KINDS.into_iter().zip(&self.answers) {
             write!(f, "\n{kind:7}{:>8}", counts.get(&0).unwrap_or(&0))?;
-            for refusal in 1..=HIGHEST {
-                write!(f, "{:>7}", counts.get(&refusal).map_or("-".into(), u64::to_string))?;
+            for refusal in &refusals {
+                write!(f, "{:>7}", counts.get(refusal).map_or("-".into(), u64::to_string))?;
             }
         }
         Ok(())
@@ -223,6 +226,7 @@ mod tests {
             Call::Send { from: 1, to: 2, answering: 3 },
             Call::Check { coordinator: 1, answering: 1 },
             Call::Join { name: 1 },
+            Call::Chart { length: 1, mark: 0, list: vec![0; 128] },
         ]
     }
 
@@ -241,7 +245,7 @@ mod tests {
             for &answer in possible {
                 counts.add(call, step(answer));
             }
-            for used in (1..=64).filter(|_| call.kind() > 0) {
+            for used in (1..=64).filter(|_| !TABLELESS.contains(&call.kind())) {
                 counts.add(call, Step { twin_of: Some(used), ..step(0) });
             }
             for ground in Ground::ALL {
@@ -267,21 +271,24 @@ mod tests {
             }
         }
         assert_eq!((counts.missing(), counts.decided()), (vec![], 9));
-        assert_eq!(counts.impossible(), ["found 1"]);
+        assert_eq!(counts.impossible(), ["found 1", "chart 1"]);
     }
 
     #[test]
     fn no_other_answer_may_come() {
         let mut counts = Counts::default();
-        for (call, answer) in calls().iter().zip([13, 14, 15, 8, u32::MAX, 12]) {
+        for (call, answer) in calls().iter().zip([13, 14, 15, 8, u32::MAX, 12, 6]) {
             counts.add(call, step(answer));
         }
-        let others = ["found 13", "read 14", "write 15", "send 8", "check 4294967295", "join 12"];
+        let others = ["found 13", "read 14", "write 15", "send 8", "check 4294967295", "join 12", "chart 6"];
         assert_eq!(counts.impossible(), others);
     }
 
     #[test]
-    fn the_highest_number_has_a_column() {
-        assert_eq!(POSSIBLE.iter().flat_map(|answers| answers.iter()).max(), Some(&HIGHEST));
+    fn every_refusal_has_a_column() {
+        let shown = Counts::default().to_string();
+        let heads: Vec<&str> = shown.lines().next().expect("a line of heads").split_whitespace().collect();
+        assert_eq!(heads.join(" "), "done 1 2 3 4 5 6 7 8 9 10 11 12 13 14 17");
+        assert_eq!(shown.lines().count(), 1 + KINDS);
     }
 }

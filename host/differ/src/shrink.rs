@@ -108,6 +108,15 @@ fn on_fewer_machines(case: &Case, count: usize) -> Option<Case> {
 fn plainer(call: &Call) -> Vec<Call> {
     match call {
         Call::Found { choice: 0, .. } | Call::Join { .. } => Vec::new(),
+        Call::Chart { length, mark, list } => {
+            let plain = vec![0xff; list.len()];
+            let with = |list| Call::Chart { length: *length, mark: *mark, list };
+            if plain == *list {
+                Vec::new()
+            } else {
+                vec![with(plain)]
+            }
+        }
         Call::Found { capacity, file_len, names, .. } => {
             vec![Call::Found { capacity: *capacity, file_len: *file_len, names: names.clone(), choice: 0 }]
         }

@@ -113,7 +113,7 @@ impl<'a> Trial<'a> {
     }
 
     /// Rows that did not answer have no part in a call beyond names and links: another table that differs in them gives
-    /// the same. Nobody answers a joining. Gives the used rows, if there is such a table.
+    /// the same. Nobody answers a joining. Gives the used rows, if there is such a table; a chart has none.
     fn ask_twin(
         &mut self,
         call: &Call,
@@ -124,7 +124,8 @@ impl<'a> Trial<'a> {
         const LONGEST: usize = 6_000;
         let answering = call.answering().unwrap_or(0);
         let none_differs = table.all_used() & !answering == 0;
-        if matches!(call, Call::Found { .. }) || before.len() > LONGEST || none_differs {
+        let asked = !matches!(call, Call::Found { .. } | Call::Chart { .. });
+        if !asked || before.len() > LONGEST || none_differs {
             return Ok(None);
         }
         let mut random = Random::new(answering, answer.result ^ before.len() as u64);
@@ -156,7 +157,7 @@ fn deciding_mark(call: &Call, answer: &Answer, table: &Picture) -> Option<u8> {
     let (answering, quorum) = match *call {
         Call::Read { answering, .. } => (answering, Quorum::Read),
         Call::Write { answering, .. } | Call::Check { answering, .. } => (answering, Quorum::Write),
-        Call::Found { .. } | Call::Send { .. } | Call::Join { .. } => return None,
+        Call::Found { .. } | Call::Send { .. } | Call::Join { .. } | Call::Chart { .. } => return None,
     };
     let list = table.newest(answering);
     let other = match list.mark {
@@ -193,10 +194,15 @@ fn same_bytes(of: &str, archive: &[u8], reference: &[u8]) -> Result<(), String> 
 /// A refused call has value 0 and alters nothing; a done one, founding and joining aside, alters only rows that answered.
 fn frame(call: &Call, answer: &Answer, before: &[u8], after: &[u8]) -> Result<(), String> {
     if answer.result >> 32 != 0 {
-        let buffer_kept = !matches!(call, Call::Read { buffer, .. } if *buffer != answer.buffer);
-        if before != after || !buffer_kept || answer.result as u32 != 0 {
+        let lent_kept = call.lent().is_none_or(|lent| lent == answer.buffer);
+        if before != after || !lent_kept || answer.result as u32 != 0 {
             return Err(format!("refused with {}, and something altered", result_shown(answer.result)));
         }
+    } else if let Call::Chart { length, list, .. } = call {
+        if before != after {
+            return Err("a chart altered the table".into());
+        }
+        return chart_frame(*length, list, answer);
     } else if let Call::Join { name } = *call {
         return joining_frame(name, answer.result, before, after);
     } else if let (Some(answering), true) = (call.answering(), before != after) {
@@ -207,6 +213,22 @@ fn frame(call: &Call, answer: &Answer, before: &[u8], after: &[u8]) -> Result<()
         if let Some(at) = strays {
             return Err(format!("byte {at} altered, and its row did not answer"));
         }
+    }
+    Ok(())
+}
+
+/// A done chart lists rising sets of its members from the first place on; every other byte of the list stays.
+fn chart_frame(length: u64, list: &[u8], answer: &Answer) -> Result<(), String> {
+    let Some((listed, rest)) = answer.buffer.split_at_checked(2 * answer.result as usize) else {
+        return Err(format!("{} sets have no room in {} bytes", answer.result, list.len()));
+    };
+    if rest != &list[listed.len()..] {
+        return Err("a chart altered bytes behind its sets".into());
+    }
+    let sets: Vec<u16> = listed.chunks(2).map(|set| u16::from_le_bytes([set[0], set[1]])).collect();
+    let of_members = sets.iter().all(|&set| u64::from(set) & !rows::first(length as usize) == 0);
+    if sets.is_empty() || !of_members || !sets.is_sorted_by(|one, next| one < next) {
+        return Err(format!("no rising sets of {length} members: {sets:?}"));
     }
     Ok(())
 }
@@ -273,6 +295,24 @@ mod tests {
                 assert!(joining_frame(name, value, &before, &altered).is_err(), "byte {at}");
             }
         }
+    }
+
+    #[test]
+    fn a_chart_that_strays_is_found_out() {
+        let frame = |result, buffer: &[u8]| {
+            let answer = Answer { result, buffer: buffer.to_vec() };
+            frame(&Call::Chart { length: 4, mark: 0, list: vec![9; 7] }, &answer, &[1], &[1])
+        };
+        assert_eq!(frame(2, &[3, 0, 6, 0, 9, 9, 9]), Ok(()));
+        for strayed in
+            [[3, 0, 6, 0, 0, 9, 9], [3, 0, 6, 0, 9, 9, 0], [6, 0, 3, 0, 9, 9, 9], [3, 0, 3, 0, 9, 9, 9]]
+        {
+            assert!(frame(2, &strayed).is_err());
+        }
+        assert!(frame(2, &[3, 0, 16, 0, 9, 9, 9]).is_err() && frame(2, &[3, 0, 6, 1, 9, 9, 9]).is_err());
+        assert!(frame(0, &[9; 7]).is_err() && frame(4, &[9; 7]).is_err());
+        assert_eq!(frame(17 << 32, &[9; 7]), Ok(()));
+        assert!(frame(17 << 32 | 1, &[9; 7]).is_err() && frame(5 << 32, &[0; 7]).is_err());
     }
 
     /// A row in the wrong place of the chain has one link before it too, but the names no longer rise.

@@ -2,7 +2,7 @@
 //!
 //! A [`Table`] holds a row for each machine. The caller says which machines answered ([`Rows`]);
 //! each call is one atomic step over the table, and is done with a value or refused by a [`Refusal`].
-//! Rows have numbers of one type, `usize`, from 1 on.
+//! Rows have numbers of one type, `usize`, from 1 on. A [`chart()`] needs no table.
 //!
 //! ```
 //! use dyngrid::{Rows, Shape, Table};
@@ -17,11 +17,13 @@
 
 #![deny(missing_docs)]
 
+mod chart;
 pub mod raw;
 mod refusal;
 mod rows;
 mod table;
 
+pub use chart::chart;
 pub use refusal::Refusal;
 pub use rows::{Rows, RowsIter};
 pub use table::{NotATable, Shape, Table};

@@ -4,12 +4,14 @@
 //! The slices of one call must not overlap. Reads of one table may run at the same time, each with its own buffer;
 //! while any other call runs on a table, nothing else may touch it.
 //!
-//! Who calls these functions calls [`assert_interface`] before the first of them. A [`Table`](crate::Table) does it by itself.
+//! Who calls these functions calls [`assert_interface`] before the first of them. A [`Table`](crate::Table) does it by itself,
+//! and so does [`chart`](crate::chart()).
 
 use std::sync::OnceLock;
 
-/// Rises with every change of a signature below, as in the archive, and with nothing else: a table tells its form itself.
-pub const INTERFACE: u64 = 3;
+/// Rises with every signature below that is new or changed, as in the archive, and with nothing else: a table tells its form
+/// itself.
+pub const INTERFACE: u64 = 4;
 
 /// The choices of a founding: a wide table, or a tall one.
 pub const WIDE: u64 = 0;
@@ -77,6 +79,9 @@ extern "C" {
 
     /// Joins a machine in the first unused row. Value: that row.
     pub fn grid_join(table: *mut u8, table_len: usize, name: u16) -> u64;
+
+    /// Lists the smallest write quorums of a list of so many members with this grid mark. Value: how many.
+    pub fn grid_chart(length: u64, mark: u64, list: *mut u8, list_len: usize) -> u64;
 }
 
 #[cfg(test)]
@@ -90,7 +95,7 @@ mod tests {
 
     #[test]
     #[should_panic(
-        expected = "has interface 7, and this wrapper needs 3: build archive and wrapper from one checkout"
+        expected = "has interface 7, and this wrapper needs 4: build archive and wrapper from one checkout"
     )]
     fn another_archive_is_refused() {
         agree(7);

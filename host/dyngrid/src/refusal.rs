@@ -15,7 +15,7 @@ pub enum Refusal {
     NotAnswering,
     /// 4: the range is empty or ends beyond the file.
     OutOfRange,
-    /// 5: the buffer is not exactly as long as the range.
+    /// 5: the buffer is not exactly as long as the range, or a chart's list is shorter than 128 bytes.
     WrongBuffer,
     /// 6: the rows that answered hold no quorum.
     NoQuorum,
@@ -35,13 +35,15 @@ pub enum Refusal {
     NameNotFree,
     /// 14: no unused row is left to join in.
     NoRoom,
+    /// 17: a chart of no member or of more than nine, or with a grid mark that no list of that length can have.
+    NoChart,
     /// A number that this wrapper has no name for: the archive is newer than the wrapper.
     Unknown(u32),
 }
 
 impl Refusal {
-    /// Every refusal that has a name; the first has number 1, and so on upward.
-    pub const ALL: [Refusal; 14] = [
+    /// Every refusal that has a name, in the order of their numbers.
+    pub const ALL: [Refusal; 15] = [
         Refusal::Malformed,
         Refusal::NoSuchRow,
         Refusal::NotAnswering,
@@ -56,6 +58,7 @@ impl Refusal {
         Refusal::BadSize,
         Refusal::NameNotFree,
         Refusal::NoRoom,
+        Refusal::NoChart,
     ];
 
     /// Its number, as the library gave it.
@@ -75,14 +78,15 @@ impl Refusal {
             Refusal::BadSize => 12,
             Refusal::NameNotFree => 13,
             Refusal::NoRoom => 14,
+            Refusal::NoChart => 17,
             Refusal::Unknown(number) => number,
         }
     }
 
     /// The refusal of this number; none for 0, which means done. A number without a name is kept as `Unknown`.
     pub fn from_number(number: u32) -> Option<Refusal> {
-        let place = number.checked_sub(1)? as usize;
-        Some(Refusal::ALL.get(place).copied().unwrap_or(Refusal::Unknown(number)))
+        let named = Refusal::ALL.into_iter().find(|refusal| refusal.number() == number);
+        (number != 0).then(|| named.unwrap_or(Refusal::Unknown(number)))
     }
 
     /// What is wrong, and how to mend it.
@@ -94,7 +98,9 @@ impl Refusal {
             Refusal::NoSuchRow => "a row is not in use, or a send names one row twice: name rows from 1 to the rows used",
             Refusal::NotAnswering => "the coordinator, or an end of a send, is not among the rows that answered: add it",
             Refusal::OutOfRange => "the range is empty or ends beyond the file: name at least one byte, all inside the file",
-            Refusal::WrongBuffer => "the buffer is not as long as the range: lend one of exactly that length",
+            Refusal::WrongBuffer => {
+                "the buffer is not as long as the range: lend one of exactly that length (to a chart: at least 128 bytes)"
+            }
             Refusal::NoQuorum => "the rows that answered hold no quorum: try again when more of them answer",
             Refusal::NotCurrent => "no row that answered has the newest version: try again with a row that has it",
             Refusal::AtLimit => "a version or an epoch is at 1,000,000: found a new table and carry the file over",
@@ -111,6 +117,9 @@ impl Refusal {
             }
             Refusal::NameNotFree => "the name is 0 or in use: join with a name from 1 to 65,535 that no row has",
             Refusal::NoRoom => "every row of the table is in use: found a table of more rows and carry the file over",
+            Refusal::NoChart => {
+                "there is no such chart: name 1 to 9 members, and the grid mark 0, 2 or, of five, 1 (a list's is byte 24 of its row)"
+            }
             Refusal::Unknown(_) => {
                 "this wrapper has no name for the number: build archive and wrapper from one checkout"
             }
@@ -125,3 +134,23 @@ impl fmt::Display for Refusal {
 }
 
 impl Error for Refusal {}
+
+/// The value of a result, or its refusal.
+pub fn split(result: u64) -> Result<u32, Refusal> {
+    Refusal::from_number((result >> 32) as u32).map_or(Ok(result as u32), Err)
+}
+
+#[cfg(test)]
+mod tests {
+    use super::*;
+
+    #[test]
+    fn a_result_is_split_into_refusal_and_value() {
+        assert_eq!(split(7), Ok(7));
+        assert_eq!(split(6 << 32), Err(Refusal::NoQuorum));
+        assert_eq!(split(14 << 32), Err(Refusal::NoRoom));
+        assert_eq!(split(15 << 32 | 5), Err(Refusal::Unknown(15)));
+        assert_eq!(split(17 << 32), Err(Refusal::NoChart));
+        assert_eq!(split(u64::MAX), Err(Refusal::Unknown(u32::MAX)));
+    }
+}

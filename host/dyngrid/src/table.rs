@@ -1,3 +1,4 @@
+use crate::refusal::split;
 use crate::{raw, Refusal, Rows};
 use std::error::Error;
 use std::fmt;
@@ -318,23 +319,4 @@ impl From<NotATable> for Refusal {
 /// How many bytes a table takes; none if capacity or file length are beyond what a table can have.
 fn length(capacity: usize, file_len: usize) -> Option<usize> {
     (capacity <= 64 && file_len <= 4096).then(|| HEADER + capacity * (ROW_HEADER + file_len))
-}
-
-/// The value of a result, or its refusal.
-fn split(result: u64) -> Result<u32, Refusal> {
-    Refusal::from_number((result >> 32) as u32).map_or(Ok(result as u32), Err)
-}
-
-#[cfg(test)]
-mod tests {
-    use super::*;
-
-    #[test]
-    fn a_result_is_split_into_refusal_and_value() {
-        assert_eq!(split(7), Ok(7));
-        assert_eq!(split(6 << 32), Err(Refusal::NoQuorum));
-        assert_eq!(split(14 << 32), Err(Refusal::NoRoom));
-        assert_eq!(split(15 << 32 | 5), Err(Refusal::Unknown(15)));
-        assert_eq!(split(u64::MAX), Err(Refusal::Unknown(u32::MAX)));
-    }
 }

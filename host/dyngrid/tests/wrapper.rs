@@ -1,15 +1,15 @@
 //! The wrapper keeps its promises: nothing panics, refusals have the right number, tables keep their length.
 
-use dyngrid::{Refusal, Rows, Shape, Table};
+use dyngrid::{chart, Refusal, Rows, Shape, Table};
 
 fn four() -> Table {
     Table::found(4, 4, &[1, 2, 3, 4], Shape::Wide).expect("a plain founding")
 }
 
 #[test]
-fn refusals_are_numbered_1_to_14() {
+fn refusals_are_numbered_1_to_14_and_17() {
     let numbers: Vec<u32> = Refusal::ALL.iter().map(|refusal| refusal.number()).collect();
-    assert_eq!(numbers, (1..=14).collect::<Vec<_>>());
+    assert_eq!(numbers, (1..=14).chain([17]).collect::<Vec<_>>());
     for refusal in Refusal::ALL {
         assert_eq!(Refusal::from_number(refusal.number()), Some(refusal));
     }
@@ -18,7 +18,7 @@ fn refusals_are_numbered_1_to_14() {
 #[test]
 fn a_number_without_a_name_is_kept() {
     assert_eq!(Refusal::from_number(0), None);
-    for number in [15, u32::MAX] {
+    for number in [15, 16, 18, u32::MAX] {
         let refusal = Refusal::from_number(number).expect("a refusal");
         assert_eq!((refusal, refusal.number()), (Refusal::Unknown(number), number));
         assert!(refusal.to_string().starts_with(&format!("refused by {number}: ")));
@@ -110,6 +110,40 @@ fn a_tall_table_stays_tall() {
     assert_eq!(wide.write(1, Rows::first(4), 0, b"0-1"), Ok(1));
     assert_eq!(table.write(1, Rows::first(4), 0, b"0-1"), Err(Refusal::NoQuorum));
     assert_eq!(table.write(1, Rows::first(5), 0, b"0-1"), Ok(2));
+}
+
+#[test]
+fn charts_of_each_length_and_mark() {
+    assert_eq!(chart(4, 0), Ok(vec![7, 11, 13, 14]));
+    assert_eq!(chart(5, 0), Ok(vec![7, 14, 21, 28]));
+    assert_eq!(
+        [1, 2].map(|mark| chart(5, mark)),
+        [Ok(vec![11, 14, 23, 26, 29]), Ok(vec![11, 14, 23, 26, 29])]
+    );
+    let counts = |mark| [1, 2, 3, 4, 5, 6, 7, 8, 9].map(|length| chart(length, mark).map(|sets| sets.len()));
+    assert_eq!(counts(0), [1, 1, 2, 4, 4, 12, 16, 21, 27].map(Ok));
+    assert_eq!(counts(2), [1, 1, 2, 4, 5, 6, 16, 21, 27].map(Ok));
+    for (length, mark) in [(0, 0), (10, 0), (10, 2), (usize::MAX, 0), (4, 1), (6, 1), (5, 3), (9, 255)] {
+        assert_eq!(chart(length, mark), Err(Refusal::NoChart), "{length} members, mark {mark}");
+    }
+}
+
+/// Every set of machines of a founded table: a write by it is done if it has all of some set of the chart, and else refused by 6.
+#[test]
+fn a_chart_says_who_can_write() {
+    for (machines, shape) in (1..=9).flat_map(|machines| [(machines, Shape::Wide), (machines, Shape::Tall)]) {
+        let names: Vec<u16> = (1..=machines as u16).map(|rank| 7 * rank).collect();
+        let founded = Table::found(machines, 1, &names, shape).expect("a plain founding");
+        let mark = founded.row(1).expect("in use")[24];
+        let quorums = chart(machines, mark).expect("a chart of each length");
+        for bits in 1..1 << machines {
+            let answering = Rows::from_bits(bits);
+            let by = answering.iter().next().expect("not empty");
+            let enough = quorums.iter().any(|&quorum| u64::from(quorum) & !bits == 0);
+            let expected = if enough { Ok(1) } else { Err(Refusal::NoQuorum) };
+            assert_eq!(founded.clone().write(by, answering, 0, &[1]), expected, "{answering}, {shape:?}");
+        }
+    }
 }
 
 /// Its third machine is a column by itself, until two checks that it answers have laid the five anew.

@@ -1,7 +1,7 @@
 //! A line chart.
 
 use crate::measure::Sizes;
-use crate::svg::{line, open, text};
+use crate::svg::{line, open, text, Paper};
 
 const WIDTH: f64 = 760.0;
 const HEIGHT: f64 = 440.0;
@@ -27,7 +27,7 @@ const DARK: &str = ".grid { stroke: #30363d }
 .tall { stroke: #bc8cff }";
 
 pub fn svg(wide: &[Sizes], tall: &[Sizes]) -> String {
-    let mut svg = open(WIDTH, HEIGHT, "Machines called", LIGHT, DARK);
+    let mut svg = open(WIDTH, HEIGHT, "Machines called", Paper::Page, LIGHT, DARK);
     text(&mut svg, LEFT, 30.0, "title", "start", "Machines called by one coordinator, all answering");
     axes(&mut svg);
     series(&mut svg, "majority", wide, |sizes| sizes.machines / 2 + 1);

@@ -1,12 +1,15 @@
-//! Shows how many machines one coordinator calls for a read and for a write and which losses are borne, as the library
-//! itself tells it, and the crates with what they stand on. Writes QUORUMS.md, quorums.svg and rooms.svg into the folder
-//! docs of the repository that it is given.
+//! Shows how many machines one coordinator calls for a read and for a write and which losses are borne, and the smallest
+//! write quorums of short lists, as the library itself tells it, and the crates with what they stand on. Writes QUORUMS.md,
+//! quorums.svg, CHART.md, chart.svg and rooms.svg into the folder docs of the repository that it is given.
 
 mod chart;
 mod layers;
 mod measure;
 mod rooms;
+mod smallest;
 mod svg;
+mod wall;
+mod wall_page;
 
 use dyngrid::{Refusal, Shape};
 use measure::{PairsLost, Sizes};
@@ -35,8 +38,14 @@ fn draw(root: &Path) -> Result<(), Box<dyn std::error::Error>> {
     let (wide, tall) = (wide?, sizes_of(Shape::Tall)?);
     std::fs::write(folder.join("QUORUMS.md"), document(&wide, &tall)?)?;
     std::fs::write(folder.join("quorums.svg"), chart::svg(&wide, &tall))?;
+    let charts = smallest::all()?;
+    std::fs::write(folder.join("CHART.md"), wall_page::document(&charts)?)?;
+    std::fs::write(folder.join("chart.svg"), wall::svg(&charts))?;
     std::fs::write(folder.join("rooms.svg"), rooms::svg(root)?)?;
-    println!("pictures: wrote QUORUMS.md, quorums.svg and rooms.svg to {}", folder.display());
+    println!(
+        "pictures: wrote QUORUMS.md, quorums.svg, CHART.md, chart.svg and rooms.svg to {}",
+        folder.display()
+    );
     Ok(())
 }
 

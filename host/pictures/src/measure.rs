@@ -77,9 +77,24 @@ pub fn pairs_lost(machines: usize, shape: Shape) -> Result<PairsLost, Refusal> {
 
 /// Of five in the published grid, as a table of form 1 has them.
 pub fn published_five() -> Result<Sizes, Refusal> {
-    let mut bytes = founded(5, Shape::Wide)?.into_bytes();
-    (1..=5).for_each(|row| bytes[row_at(row) + GRID_MARK] = 0);
-    measured(&Table::from_bytes(bytes)?)
+    measured(&marked(5, 0)?)
+}
+
+/// The columns that a list of so many machines with this grid mark has: a read calls one machine of each.
+pub fn columns(machines: usize, mark: u8) -> Result<usize, Refusal> {
+    called(&marked(machines, mark)?, 1, read)
+}
+
+/// The grid mark of a list of so many machines that is laid now in this shape.
+pub fn mark(machines: usize, shape: Shape) -> Result<u8, Refusal> {
+    Ok(founded(machines, shape)?.as_bytes()[row_at(1) + GRID_MARK])
+}
+
+/// A founded table whose list has this grid mark.
+fn marked(machines: usize, mark: u8) -> Result<Table, Refusal> {
+    let mut bytes = founded(machines, Shape::Wide)?.into_bytes();
+    (1..=machines).for_each(|row| bytes[row_at(row) + GRID_MARK] = mark);
+    Ok(Table::from_bytes(bytes)?)
 }
 
 fn founded(machines: usize, shape: Shape) -> Result<Table, Refusal> {

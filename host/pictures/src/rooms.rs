@@ -1,7 +1,7 @@
 //! The crates and what each stands on, drawn from crates.txt: a crate stands above all that it needs.
 
 use crate::layers::{place, Place, Widths};
-use crate::svg::{line, open, text};
+use crate::svg::{line, open, text, Paper};
 use std::collections::{BTreeMap, BTreeSet};
 use std::path::Path;
 
@@ -36,7 +36,7 @@ pub fn svg(root: &Path) -> Result<String, Box<dyn std::error::Error>> {
     let top = places.iter().map(|place| place.level).max().unwrap_or(0);
     let widest = places.iter().fold(0.0, |most: f64, place| most.max(place.x)) + BOX_WIDTH / 2.0;
     let height = TOP + top as f64 * STEP_Y + BOX_HEIGHT + MARGIN;
-    let mut svg = open((widest + 2.0 * MARGIN).round(), height, "Crates", LIGHT, DARK);
+    let mut svg = open((widest + 2.0 * MARGIN).round(), height, "Crates", Paper::Page, LIGHT, DARK);
     text(&mut svg, MARGIN, 30.0, "title", "start", "The crates, each above what it stands on");
     let legend = [("meaning", "definitions and laws, no code"), ("code", "with code")];
     for (index, (class, words)) in legend.into_iter().enumerate() {

@@ -2,10 +2,20 @@
 
 use std::fmt::Write;
 
+/// What a picture is printed on: as wide as the page, or a sheet of its own.
+pub enum Paper {
+    Page,
+    A4,
+}
+
 /// The start of a picture: its size, what it shows, its styles on light pages and where they differ on dark ones.
-pub fn open(width: f64, height: f64, shows: &str, light: &str, dark: &str) -> String {
+pub fn open(width: f64, height: f64, shows: &str, paper: Paper, light: &str, dark: &str) -> String {
+    let size = match paper {
+        Paper::Page => "",
+        Paper::A4 => " width=\"210mm\" height=\"297mm\"",
+    };
     let mut svg = format!(
-        "<svg xmlns=\"http://www.w3.org/2000/svg\" viewBox=\"0 0 {width} {height}\" role=\"img\" aria-label=\"{shows}\">\n  <style>\n"
+        "<svg xmlns=\"http://www.w3.org/2000/svg\"{size} viewBox=\"0 0 {width} {height}\" role=\"img\" aria-label=\"{shows}\">\n  <style>\n"
     );
     for style in [
         "text { font: 14px system-ui, sans-serif; fill: #1f2328 }",

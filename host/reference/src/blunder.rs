@@ -43,10 +43,20 @@ pub enum Blunder {
     CoordinatorsShape,
     /// Lists of two epochs may have two shapes.
     ShapesOfTable,
+    /// A chart lists write quorums that hold a smaller one, too.
+    LargerQuorums,
+    /// A chart clears the places that it does not use.
+    PlacesCleared,
+    /// A chart looks at its list before it looks at length and mark.
+    ShortListFirst,
+    /// A list of any length can have mark 1.
+    FiveOfAnyLength,
+    /// A chart looks at the low byte of the mark only.
+    MarkOfAByte,
 }
 
 impl Blunder {
-    pub const ALL: [Blunder; 19] = [
+    pub const ALL: [Blunder; 24] = [
         Blunder::OutsidersCount,
         Blunder::ShortColumnWhole,
         Blunder::DesiredIgnored,
@@ -66,6 +76,11 @@ impl Blunder {
         Blunder::NeverTall,
         Blunder::CoordinatorsShape,
         Blunder::ShapesOfTable,
+        Blunder::LargerQuorums,
+        Blunder::PlacesCleared,
+        Blunder::ShortListFirst,
+        Blunder::FiveOfAnyLength,
+        Blunder::MarkOfAByte,
     ];
 
     /// Its name on a command line.
@@ -90,6 +105,11 @@ impl Blunder {
             Blunder::NeverTall => "never-tall",
             Blunder::CoordinatorsShape => "coordinators-shape",
             Blunder::ShapesOfTable => "shapes-of-table",
+            Blunder::LargerQuorums => "larger-quorums",
+            Blunder::PlacesCleared => "places-cleared",
+            Blunder::ShortListFirst => "short-list-first",
+            Blunder::FiveOfAnyLength => "five-of-any-length",
+            Blunder::MarkOfAByte => "mark-of-a-byte",
         }
     }
 

@@ -1,8 +1,9 @@
 //! The calls. Each puts its questions in order and is refused by the first no.
 
 use crate::blunder::{self, Blunder};
+use crate::chart::{Chart, CHART_PLACES, LONGEST_CHARTED};
 use crate::rows::{self, Order};
-use crate::{Laid, Layout, Quorum, Row, Rules, Shape, Table, LIMIT, MAX_FILE, MAX_ROWS, ROW_HEADER};
+use crate::{Grid, Laid, Layout, Quorum, Row, Rules, Shape, Table, LIMIT, MAX_FILE, MAX_ROWS, ROW_HEADER};
 use std::iter;
 
 /// Answers the calls on a table's bytes; with a blunder, wrongly.
@@ -80,6 +81,10 @@ impl Engine {
 
     pub fn join(&self, bytes: &mut [u8], name: u16) -> u64 {
         result(self.try_join(bytes, name))
+    }
+
+    pub fn chart(&self, length: u64, mark: u64, list: &mut [u8]) -> u64 {
+        result(self.try_chart(length, mark, list))
     }
 
     fn try_read(
@@ -201,6 +206,27 @@ impl Engine {
             place = (place + 1).min(table.used);
         }
         Ok(table.link_in(bytes, name, place) as u32)
+    }
+
+    fn try_chart(&self, length: u64, mark: u64, list: &mut [u8]) -> Answer {
+        if self.makes(Blunder::ShortListFirst) {
+            ask(5, list.len() >= 2 * CHART_PLACES)?;
+        }
+        let mark = if self.makes(Blunder::MarkOfAByte) { mark & 0xff } else { mark };
+        ask(17, (1..=LONGEST_CHARTED as u64).contains(&length))?;
+        let length = length as usize;
+        ask(17, self.rules.allow(length, mark) || mark == 1 && self.makes(Blunder::FiveOfAnyLength))?;
+        ask(5, list.len() >= 2 * CHART_PLACES)?;
+        let grid = Grid::marked(mark as u8, length);
+        let chart =
+            if self.makes(Blunder::LargerQuorums) { Chart::with_larger(&grid) } else { Chart::of(&grid) };
+        if self.makes(Blunder::PlacesCleared) {
+            list.fill(0);
+        }
+        for (place, set) in list.chunks_exact_mut(2).zip(chart.sets()) {
+            place.copy_from_slice(&set.to_le_bytes());
+        }
+        Ok(chart.sets().len() as u32)
     }
 
     /// Question 1.

@@ -88,7 +88,7 @@ impl Grid {
     }
 
     /// The grid that a list of so many members with this mark lies in.
-    fn marked(mark: u8, length: usize) -> Grid {
+    pub fn marked(mark: u8, length: usize) -> Grid {
         match mark {
             1 => Grid::NEW_FIVE,
             TALL => Grid::tall(length),
@@ -184,14 +184,14 @@ impl Layout {
 }
 
 #[cfg(test)]
-mod tests {
+pub mod tests {
     use super::*;
 
     fn list_of(length: usize) -> Layout {
         laid(length, 0)
     }
 
-    fn laid(length: usize, mark: u8) -> Layout {
+    pub fn laid(length: usize, mark: u8) -> Layout {
         Layout::of(Laid { members: rows::first(length), mark }, &Order::first(length))
     }
 
@@ -205,7 +205,7 @@ mod tests {
     }
 
     /// The quorums that stop being one when any member is taken out.
-    fn smallest(quorum: Quorum, list: &Layout) -> Vec<u64> {
+    pub fn smallest(quorum: Quorum, list: &Layout) -> Vec<u64> {
         let holds = |set: &u64| list.holds(quorum, *set);
         let smallest = |set: &u64| rows::members(*set).all(|row| !holds(&(set & !rows::only(row))));
         (0..=list.list.members).filter(holds).filter(smallest).collect()

@@ -6,6 +6,7 @@
 
 mod blunder;
 mod book;
+mod chart;
 mod engine;
 mod grid;
 pub mod rows;
@@ -13,6 +14,7 @@ mod table;
 
 pub use blunder::Blunder;
 pub use book::Book;
+pub use chart::{CHART_PLACES, LONGEST_CHARTED};
 pub use engine::Engine;
 pub use grid::{Grid, Laid, Layout, Quorum, Shape, TALL};
 pub use table::{Row, Rules, Table, FORM, HEADER, LIMIT, MAX_FILE, MAX_ROWS, ROW_HEADER};

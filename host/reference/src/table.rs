@@ -38,11 +38,11 @@ impl Rules {
         Laid { members, mark }
     }
 
-    /// May a list of these members, which is not empty, have this grid mark?
-    fn allow(self, members: u64, mark: u64) -> bool {
+    /// May a list of so many members, at least one, have this grid mark?
+    pub fn allow(self, length: usize, mark: u64) -> bool {
         match mark {
             0 => true,
-            1 => self == Rules::Newest && members.count_ones() == 5,
+            1 => self == Rules::Newest && length == 5,
             _ => self == Rules::Newest && mark == u64::from(TALL),
         }
     }
@@ -222,7 +222,7 @@ impl Table {
                     None => {
                         leaders.push(index);
                         let of_one_shape = *shape.get_or_insert(row.list.shape()) == row.list.shape();
-                        of_one_shape && rules.allow(members, mark)
+                        of_one_shape && rules.allow(members.count_ones() as usize, mark)
                     }
                 };
                 if !fits {

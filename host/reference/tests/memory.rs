@@ -44,7 +44,7 @@ fn every_call(choice: u64) {
     let names: Vec<u8> = (1..=63u16).map(|rank| 10 * rank).flat_map(u16::to_le_bytes).collect();
     let mut table = vec![0; Table::length(64, 100)];
     let (all, but_one) = (rows::first(64), rows::first(63));
-    let mut buffer = [0; 100];
+    let (mut buffer, mut list) = ([0; 100], [0; 128]);
     let before = TAKEN.get();
     let results = [
         engine.found(&mut table, 64, 100, &names, choice),
@@ -60,8 +60,10 @@ fn every_call(choice: u64) {
         engine.check(&mut table, 1, all),
         send(engine, &mut table),
         engine.read(&table, 1, 1, 0, 100, &mut buffer),
+        engine.chart(9, 2 * choice, &mut list),
+        engine.chart(10, 0, &mut list),
     ];
     assert_eq!(TAKEN.get(), before);
-    assert_eq!(results.map(|result| result >> 32), [0, 0, 13, 14, 0, 0, 0, 0, 0, 0, 0, 0, 6]);
+    assert_eq!(results.map(|result| result >> 32), [0, 0, 13, 14, 0, 0, 0, 0, 0, 0, 0, 0, 6, 0, 17]);
     assert!(TAKEN.get() > 0, "the count works");
 }
