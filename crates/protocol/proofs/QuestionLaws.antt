@@ -1,5 +1,5 @@
 -- The first no is the refusal: what a done call has passed, and what a refused one leaves.
-use mathlib.Core.Path.{_≡_, refl, sym, _∙_}
+use mathlib.Core.Path.{_≡_, refl, sym, _∙_, ap}
 use mathlib.Core.Bool.{Bool, true, false, not, cond, _&&_, _||_}
 use mathlib.Core.List.{List}
 use Prim.Native.Nat.{ℕ, zero, suc, _+_, _^_, _≤_, _<_}
@@ -145,6 +145,7 @@ join-yes t a h =
 pub record ReadYes (t : List ℕ) (a : Calls.Reading) : Type 0 where
   pub first : ByCoordinator t (a .c) (a .r)
   pub range : (1 ≤ a .count) × (a .offset + a .count ≤ fileLengthOf t)
+  pub byte : eqb (length (a .called)) 1 ≡ true
   pub quorum : quorumHeld Read (orderOf t) (Calls.answers t (a .r)) (Calls.workSet Read t (a .c) (a .r)) ≡ true
   pub current : current (Calls.answers t (a .r)) (Calls.workSet Read t (a .c) (a .r)) ≡ true
 
@@ -160,11 +161,18 @@ read-yes t a h =
     let e = yes-first 4 (eqb (length (a .buffer)) (a .count) && eqb (length (a .called)) 1) _ (d .1) in
     let q = yes-first 5 (quorumHeld Read (orderOf t) (Calls.answers t (a .r)) (Calls.workSet Read t (a .c) (a .r))) _ (e .1) in
     let m = yes-first 6 (current (Calls.answers t (a .r)) (Calls.workSet Read t (a .c) (a .r))) _ (q .1) in
-    record { first = x .0; range = range-is t (a .offset) (a .count) (d .0); quorum = q .0; current = m .0 }
+    record {
+      first = x .0;
+      range = range-is t (a .offset) (a .count) (d .0);
+      byte = and-r (eqb (length (a .buffer)) (a .count)) _ (e .0);
+      quorum = q .0;
+      current = m .0;
+    }
 
 pub record WriteYes (t : List ℕ) (a : Calls.Writing) : Type 0 where
   pub first : ByCoordinator t (a .c) (a .r)
   pub range : (1 ≤ length (a .patch)) × (a .offset + length (a .patch) ≤ fileLengthOf t)
+  pub byte : eqb (length (a .called)) 1 ≡ true
   pub quorum : quorumHeld Write (orderOf t) (Calls.answers t (a .r)) (Calls.workSet Write t (a .c) (a .r)) ≡ true
   pub current : current (Calls.answers t (a .r)) (Calls.workSet Write t (a .c) (a .r)) ≡ true
   pub room : goodVersion (Calls.answers t (a .r)) (Calls.workSet Write t (a .c) (a .r)) < limit
@@ -178,7 +186,14 @@ write-yes t a h =
     let q = yes-first 5 (quorumHeld Write (orderOf t) (Calls.answers t (a .r)) (Calls.workSet Write t (a .c) (a .r))) _ (e .1) in
     let m = yes-first 6 (current (Calls.answers t (a .r)) (Calls.workSet Write t (a .c) (a .r))) _ (q .1) in
     let l = yes-first 7 (ltb (goodVersion (Calls.answers t (a .r)) (Calls.workSet Write t (a .c) (a .r))) limit) _ (m .1) in
-    record { first = x .0; range = range-is t (a .offset) (length (a .patch)) (d .0); quorum = q .0; current = m .0; room = ltb-true _ _ (l .0) }
+    record {
+      first = x .0;
+      range = range-is t (a .offset) (length (a .patch)) (d .0);
+      byte = e .0;
+      quorum = q .0;
+      current = m .0;
+      room = ltb-true _ _ (l .0);
+    }
 
 pub record SendYes (t : List ℕ) (a : Calls.Sending) : Type 0 where
   pub formed : wellFormed t ≡ true

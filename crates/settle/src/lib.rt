@@ -88,5 +88,9 @@ pub fn settle(kind: Kind, t: &[u8], order: &[u8; 64], c: usize, answering: RowSe
     if passes(kind, order, count, part.list, tried, part.current, sure) {
         return settled_on(tried, 0, part, chosen.size() as u8);
     }
+    if tried.bits == answering.bits {
+        // P is all that answered: it is not looked at again
+        return on_all(kind, order, count, answering, part);
+    }
     on_all(kind, order, count, answering, scanned(t, answering))
 }

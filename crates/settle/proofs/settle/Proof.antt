@@ -1,5 +1,5 @@
 use mathlib.Core.Bool.{Bool, cond}
-use mathlib.Core.Path.{_≡_, refl, sym, _∙_, ap, ap₂}
+use mathlib.Core.Path.{_≡_, refl, sym, _∙_, ap, ap₂, subst}
 use mathlib.Core.List.{List}
 use Prim.Native.Nat.{ℕ, _^_, _<_}
 use native.Mathlib.Omega.{arith}
@@ -146,22 +146,38 @@ returns c =
     works-on-try (s .args .kind) (s .args .t .now) (s .args .c) (s .args .answering .bits) (p .cut .result .bits) (tried p) _ (order-is u) _ (part j) _ (y .passes .ensures)
     (c .before .before .if1 .taken) _ (p .cut .result) _ refl (c .before .size .ensures ∙ ap (count 64) (chosen-said (p .before))) (c .settled-on .ensures)
 
-scanned-requires-2 : tie.Need-scanned-requires-2
-scanned-requires-2 c κs = let s = c .before .before .before .before .before .before .before .before .before .before .before .before .before .before in (sized (s .pre .0), s .pre .2)
-
 on-all-requires : tie.Need-on-all-requires
-on-all-requires c κs = listed (c .before .before .before .before .before .before .before .before .before .before .before .before .before)
+on-all-requires c κs = listed (c .before .before .before .before .before .before .before .before .before .before .before .before .before .before .before)
 
 returns-2 : tie.Need-returns-2
 returns-2 c =
-    let e = c .before .before in
+    let e = c .before .before .before .before in
+    let y = e .before in
+    let j = y .before .before .before .before .before in
+    let p = j .before in
+    let u = p .before .before .before .before .before in
+    let s = u .before .before in
+    let a = s .args in
+    works-on-all (a .kind) (a .t .now) (a .c) (a .answering .bits) (p .cut .result .bits) (tried p) _ (order-is u) _ (part j) _ (y .passes .ensures)
+    (e .if1 .left) _ (a .answering) _ _ refl (u .used .ensures)
+    (subst (λ (x : ℕ). Judged (answers (a .t .now) (a .answering .bits)) (has x) (j .scanned .result)) (c .before .if2 .taken) (part j)) (c .on-all .ensures)
+
+scanned-requires-2 : tie.Need-scanned-requires-2
+scanned-requires-2 c κs = let s = c .before .before .before .before .before .before .before .before .before .before .before .before .before .before .before .before .before in (sized (s .pre .0), s .pre .2)
+
+on-all-requires-2 : tie.Need-on-all-requires-2
+on-all-requires-2 c κs = listed (c .before .before .before .before .before .before .before .before .before .before .before .before .before .before .before .before)
+
+returns-3 : tie.Need-returns-3
+returns-3 c =
+    let e = c .before .before .before .before .before in
     let y = e .before in
     let j = y .before .before .before .before .before in
     let p = j .before in
     let u = p .before .before .before .before .before in
     let s = u .before .before in
     works-on-all (s .args .kind) (s .args .t .now) (s .args .c) (s .args .answering .bits) (p .cut .result .bits) (tried p) _ (order-is u) _ (part j) _ (y .passes .ensures)
-    (e .if1 .left) _ (s .args .answering) _ _ refl (u .used .ensures) (c .before .scanned2 .ensures) (c .on-all .ensures)
+    (e .if1 .left) _ (s .args .answering) _ _ refl (u .used .ensures) (c .before .scanned2 .ensures) (c .on-all2 .ensures)
 
 pub settle-spec : {M : Type 1} → statement M
 settle-spec =
@@ -181,6 +197,8 @@ settle-spec =
     cast-settled-on
     settled-on-requires
     returns
-    scanned-requires-2
     on-all-requires
-    returns-2)
+    returns-2
+    scanned-requires-2
+    on-all-requires-2
+    returns-3)
