@@ -6,7 +6,6 @@ mod chart;
 mod layers;
 mod measure;
 mod rooms;
-mod svg;
 
 use dyngrid::{Refusal, Shape};
 use measure::{PairsLost, Sizes};
