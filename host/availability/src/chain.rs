@@ -15,12 +15,13 @@ pub enum State {
 /// Rates between states; state 0 is the founding's, and comes again from every state.
 pub struct Chain {
     pub states: Vec<State>,
-    /// For each state, the states it goes to, each once, with the rate.
+    /// For each state, the states it goes to, with the rate.
     rates: Vec<Vec<(usize, f64)>>,
 }
 
 impl Chain {
-    /// Each machine fails at rate 1 while it is up, and is repaired at `repair` while it is down. `classes` are those of the lengths from 1 on.
+    /// Each machine fails at rate 1 while it is up, and is repaired at `repair` while it is down. `classes` are those of the
+    /// lengths from 1 on.
     pub fn of(classes: &[Classes], machines: usize, repair: f64) -> Chain {
         let moves = |state| moves(classes, machines, repair, state);
         let mut states = vec![State::Live { length: machines }];
@@ -60,7 +61,7 @@ impl Chain {
         let count = self.states.len();
         let mut rate = vec![vec![0.0; count]; count];
         for (from, out) in self.rates.iter().enumerate() {
-            out.iter().for_each(|&(to, by)| rate[from][to] = by);
+            out.iter().for_each(|&(to, by)| rate[from][to] += by);
         }
         for last in (1..count).rev() {
             let out = rate[last].clone();
@@ -68,7 +69,7 @@ impl Chain {
             let ways: Vec<usize> = (0..last).filter(|&to| out[to] > 0.0).collect();
             for from in &mut rate[..last] {
                 if from[last] > 0.0 {
-                    // Kept for the way back: visits to the last state for each unit of time in this one.
+                    // Kept for the way back: the time in the last state for each unit of time in this one.
                     from[last] /= total;
                     ways.iter().for_each(|&to| from[to] += from[last] * out[to]);
                 }
@@ -76,8 +77,8 @@ impl Chain {
         }
         let mut parts = vec![1.0];
         for state in 1..count {
-            let visits = parts.iter().zip(&rate).map(|(part, from)| part * from[state]);
-            parts.push(visits.sum());
+            let ways = parts.iter().zip(&rate).map(|(part, from)| part * from[state]);
+            parts.push(ways.sum());
         }
         let whole: f64 = parts.iter().sum();
         parts.iter().map(|part| part / whole).collect()

@@ -52,8 +52,8 @@ const SERIES: [(&str, &str, Figure); 6] = [
 ];
 
 pub fn svg(columns: &[Columns]) -> String {
-    let mut svg = open(WIDTH, HEIGHT, "Part of the time in which the file can not be written", LIGHT, DARK);
-    text(&mut svg, LEFT, 30.0, "title", "start", "Part of the time in which the file can not be written");
+    let mut svg = open(WIDTH, HEIGHT, "Part of the time in which the file cannot be written", LIGHT, DARK);
+    text(&mut svg, LEFT, 30.0, "title", "start", "Part of the time in which the file cannot be written");
     let most = columns.len();
     axes(&mut svg, most);
     for (class, _, figure) in SERIES {
@@ -64,7 +64,7 @@ pub fn svg(columns: &[Columns]) -> String {
         points.iter().for_each(|&(x, y)| mark(&mut svg, class, x, y));
     }
     for said in PAPER {
-        if let Some((figure, _)) = said.dynamic {
+        if let Some(figure) = said.figure() {
             mark(&mut svg, "paper", x(said.machines, most), y(figure));
         }
     }

@@ -1,4 +1,4 @@
-//! How often the file can not be written and read.
+//! How often the file cannot be written and read.
 
 use crate::chain::{Chain, State};
 use crate::classes::Classes;
@@ -7,7 +7,7 @@ use crate::held::{library, Second};
 use crate::progress::Progress;
 use dyngrid::Shape;
 
-/// Parts of the time in which the file can not be written, and not read.
+/// Parts of the time in which the file cannot be written, and not read.
 #[derive(Clone, Copy, Debug)]
 pub struct Unavailable {
     pub write: f64,
@@ -17,7 +17,7 @@ pub struct Unavailable {
 /// A dynamic protocol in numbers.
 pub struct Dynamic {
     pub unavailable: Unavailable,
-    /// Of the time in which the file can not be written, the part with a list in force of 1 member, 2, and so on.
+    /// Of the time in which the file cannot be written, the part with a list in force of 1 member, 2, and so on.
     pub stuck: Vec<f64>,
     pub states: usize,
     pub residual: f64,
@@ -97,7 +97,8 @@ impl Protocol {
 
 /// All that are compared.
 pub struct Protocols {
-    /// Every list in the published grid, one of five too, which the library does not lay: as the reference answers by the scope's rules alone.
+    /// Every list in the published grid, one of five too, which the library does not lay: as the reference answers by the scope's
+    /// rules alone.
     pub published: Protocol,
     /// As the library answers.
     pub wide: Protocol,

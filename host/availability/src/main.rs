@@ -20,7 +20,7 @@ mod walk;
 use differ::Random;
 use dyngrid::Shape;
 use figures::{Columns, Protocols};
-use held::{library, Both};
+use held::{library, Both, Second};
 use page::Page;
 use progress::Progress;
 use std::path::Path;
@@ -39,7 +39,7 @@ const UP: f64 = 0.95;
 /// The page goes to so many machines: the paper's figures end before. Every set of positions of a list is asked, 65,536 of this many.
 const MOST_MACHINES: usize = 16;
 /// Every state of up to so many machines is asked.
-const MOST_EXPLORED: usize = 11;
+const MOST_EXPLORED: usize = 10;
 const SECONDS: u64 = 120;
 
 #[derive(Default)]
@@ -109,25 +109,26 @@ fn make(root: &Path, progress: &mut Progress) -> Result<String, String> {
          some ten seconds and twenty megabytes; stops after {} s",
         progress.seconds()
     );
+    let folder = root.join("docs");
+    if !folder.is_dir() {
+        return Err(format!("there is no folder {}", folder.display()));
+    }
     let protocols = Protocols::ask(MOST_MACHINES, progress)?;
-    let mut states = Vec::new();
+    let mut states = [0, 0];
     for machines in 1..=MOST_EXPLORED {
-        for shape in [Shape::Wide, Shape::Tall] {
+        let mut tell = |whose: &str, states| {
+            progress.at(|| format!("{machines} machines, {whose}: {states} states asked"))
+        };
+        for (whose, shape) in [("wide", Shape::Wide), ("tall", Shape::Tall)] {
             let coterie = &protocols.shaped(shape).coterie;
-            states.push(explore::explore(&library(machines, shape), machines, coterie, |states| {
-                progress.at(|| format!("{machines} machines, {shape:?}: {states} states asked"))
-            })?);
+            let founded = library(machines, shape);
+            states[0] += explore::explore(&founded, machines, coterie, |states| tell(whose, states))?;
         }
+        let (founded, coterie) = (Second::published(machines), &protocols.published.coterie);
+        states[1] += explore::explore(&founded, machines, coterie, |states| tell("published", states))?;
     }
     let columns: Vec<Columns> = (1..=MOST_MACHINES).map(|machines| protocols.columns(machines, UP)).collect();
-    let page = Page {
-        protocols: &protocols,
-        columns: &columns,
-        up: UP,
-        explored: MOST_EXPLORED,
-        states: states.iter().sum(),
-    };
-    let folder = root.join("docs");
+    let page = Page { protocols: &protocols, columns: &columns, up: UP, explored: MOST_EXPLORED, states };
     for (name, text) in [("AVAILABILITY.md", page.text()?), ("availability.svg", chart::svg(&columns))] {
         let file = folder.join(name);
         std::fs::write(&file, text)

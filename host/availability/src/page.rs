@@ -11,22 +11,29 @@ pub struct Said {
     /// Rows and columns of the static grid.
     pub best: (i32, i32),
     pub fixed: f64,
-    /// The figure of the dynamic grid, and how it is printed there.
-    pub dynamic: Option<(f64, &'static str)>,
+    /// As it is printed there.
+    pub dynamic: &'static str,
 }
 
-const fn said(machines: usize, best: (i32, i32), fixed: f64, dynamic: Option<(f64, &'static str)>) -> Said {
+impl Said {
+    /// The figure of the dynamic grid, where there is one.
+    pub fn figure(&self) -> Option<f64> {
+        self.dynamic.parse().ok()
+    }
+}
+
+const fn said(machines: usize, best: (i32, i32), fixed: f64, dynamic: &'static str) -> Said {
     Said { machines, best, fixed, dynamic }
 }
 
 pub const PAPER: [Said; 7] = [
-    said(9, (3, 3), 3268.59e-6, Some((0.18e-6, "0.18e-6"))),
-    said(12, (3, 4), 912.25e-6, Some((0.6e-10, "0.6e-10"))),
-    said(15, (3, 5), 683.60e-6, Some((1.564e-14, "1.564e-14"))),
-    said(16, (4, 4), 1208.75e-6, None),
-    said(20, (4, 5), 250.82e-6, None),
-    said(24, (4, 6), 78.23e-6, None),
-    said(30, (5, 6), 135.90e-6, None),
+    said(9, (3, 3), 3268.59e-6, "0.18e-6"),
+    said(12, (3, 4), 912.25e-6, "0.6e-10"),
+    said(15, (3, 5), 683.60e-6, "1.564e-14"),
+    said(16, (4, 4), 1208.75e-6, "negligible"),
+    said(20, (4, 5), 250.82e-6, ""),
+    said(24, (4, 6), 78.23e-6, ""),
+    said(30, (5, 6), 135.90e-6, ""),
 ];
 
 /// The number of machines that the text speaks of: the first in the paper's table.
@@ -38,9 +45,10 @@ pub struct Page<'a> {
     /// For 1 machine, 2, and so on.
     pub columns: &'a [Columns],
     pub up: f64,
-    /// Every state was asked of up to so many machines, and there were so many.
+    /// Every state of up to so many machines was asked.
     pub explored: usize,
-    pub states: usize,
+    /// So many of the library, and of the reference with published lists.
+    pub states: [usize; 2],
 }
 
 impl Page<'_> {
@@ -65,14 +73,14 @@ impl Page<'_> {
         let Columns { published, wide, tall, voting, .. } = self.spoken_of();
         let [published, wide, tall, voting] =
             [published, wide, tall, voting].map(|dynamic| dynamic.unavailable);
-        let (up, paper) = (self.up, PAPER[0].dynamic.map_or("", |(_, printed)| printed));
+        let (up, paper) = (self.up, PAPER[0].dynamic);
         let shapes = if alike(wide.write, tall.write) { "wide or tall" } else { "wide" };
         format!(
             "# How often the file can be written\n\n\
-             ![Part of the time in which the file can not be written, for 1 to {} machines](availability.svg)\n\n\
+             ![Part of the time in which the file cannot be written, for 1 to {} machines](availability.svg)\n\n\
              Machines fail and are repaired by chance, each by itself, and each is up {up} of the time; after each failure and repair those that\n\
              are up make a check. This is the model of section 6 of the paper (Rabinovich and Lazowska, SIGMOD 1992). What the machines that are\n\
-             up get done is asked of the library. Of the time with {SPOKEN_OF} machines, the file can not be written\n\n\
+             up get done is asked of the library. With {SPOKEN_OF} machines the part of the time in which the file cannot be written is\n\n\
              - {} in the library, {shapes}: {};\n\
              - {} if every list is laid as published: {}, {:.0} times as much. A published list of five dies with its third\n\
              \x20 machine, so the library lays five otherwise;\n\
@@ -113,8 +121,8 @@ impl Page<'_> {
              - library, wide and tall: the dynamic grid as the library lays it;\n\
              - majority: more than half of all machines must be up; dynamic voting: more than half of the last list;\n\
              - the paper's diagram: Figure 3 of the paper, solved; it starts at three machines.\n\n\
-             Parts of the time in which the file can not be **written**:\n\n{}\n\
-             Parts of the time in which it can not be **read**:\n\n{}\n\
+             Parts of the time in which the file cannot be **written**:\n\n{}\n\
+             Parts of the time in which it cannot be **read**:\n\n{}\n\
              Checks do not always pay: at {} machines a static grid can be written more often than one that is checked, and at {} read more often. For a\n\
              list that has shrunk to two needs both, until one of the others comes back.\n",
             self.table(|unavailable| unavailable.write),
@@ -154,11 +162,10 @@ impl Page<'_> {
             let ours = ours.map_or(["", "", ""].map(String::from), |ours| {
                 [&ours.paper, &ours.published, &ours.wide].map(|dynamic| shown(dynamic.unavailable.write))
             });
-            let printed = dynamic.map_or("", |(_, printed)| printed);
             add(
                 &mut text,
                 format!(
-                    "| {machines} | {rows} × {columns}: {:.2}e-6 | {:.2}e-6 | {printed} | {} |",
+                    "| {machines} | {rows} × {columns}: {:.2}e-6 | {:.2}e-6 | {dynamic} | {} |",
                     fixed * 1e6,
                     again * 1e6,
                     ours.join(" | ")
@@ -169,10 +176,10 @@ impl Page<'_> {
             &mut text,
             "\nThe diagram rests on two sentences about lists, and neither is so:\n\n\
              - \"Any grid constructed in our protocol that contains at least four nodes tolerates a single failure.\" Not five: in two rows and three\n\
-             \x20 columns the third machine is a column by itself. Without it nobody reads, writes or checks, so the list can not shrink either; all\n\
+             \x20 columns the third machine is a column by itself. Without it nobody reads, writes or checks, so the list cannot shrink either; all\n\
              \x20 wait for that one machine. This makes the true figure of published lists far worse than the printed one.\n\
              - \"All three nodes are needed to collect a quorum\" of three. Not so by the paper's own procedure: the second with the first, or with the\n\
-             \x20 third, is enough, and the list goes on with two. This makes it better, and the library's figure is below the printed one.\n"
+             \x20 third, is enough, and the list goes on with two. This makes it better, and the library's figure is below the printed one."
                 .into(),
         );
         let Protocols { published, paper, .. } = self.protocols;
@@ -182,7 +189,8 @@ impl Page<'_> {
             .ok_or("no run of events shows a difference")?;
         for machines in [fewest, SPOKEN_OF] {
             let run = run(machines).ok_or("a run that more machines do not show")?;
-            add(&mut text, events(machines, &run)?);
+            text.push('\n');
+            text.push_str(&events(machines, &run)?);
         }
         Ok(text)
     }
@@ -190,7 +198,7 @@ impl Page<'_> {
     fn lists(&self) -> String {
         let mut text = format!(
             "## Where the time goes\n\n\
-             Of the time in which {SPOKEN_OF} machines can not write, by the length of the list in force, which is the list that lost its quorum:\n\n\
+             Of the time in which {SPOKEN_OF} machines cannot write, by the length of the list in force, which is the list that lost its quorum:\n\n\
              | list in force | as published | library, wide | library, tall | dynamic voting |\n|---:|---:|---:|---:|---:|\n"
         );
         let Columns { published, wide, tall, voting, .. } = self.spoken_of();
@@ -206,7 +214,7 @@ impl Page<'_> {
             &mut text,
             "\nLists of four or more, as the library lays them, bear any one loss, and one loss is all that comes between two checks. So only lists\n\
              of three and of two are left to fail: three when the second machine in name order is lost, two when either is.\n\
-             No list of one is ever laid: where one of two is lost, the other does not hold a write quorum."
+             From two machines on no list of one is ever laid: where one of two is lost, the other does not hold a write quorum."
                 .into(),
         );
         text
@@ -215,7 +223,7 @@ impl Page<'_> {
     fn other_machines(&self) -> String {
         let mut text = format!(
             "## Better and worse machines\n\n\
-             {SPOKEN_OF} machines, parts of the time in which the file can not be written, by the part of the time that each machine is up:\n\n\
+             {SPOKEN_OF} machines, parts of the time in which the file cannot be written, by the part of the time that each machine is up:\n\n\
              | up | static grid | as published | library, wide | library, tall | majority | dynamic voting |\n|---:|---:|---:|---:|---:|---:|---:|\n"
         );
         for up in [0.8, 0.9, 0.95, 0.99, 0.999] {
@@ -254,16 +262,17 @@ impl Page<'_> {
         let dynamics = || self.columns.iter().flat_map(Columns::dynamics);
         let residual = dynamics().map(|dynamic| dynamic.residual).fold(0.0, f64::max);
         let states = dynamics().map(|dynamic| dynamic.states).max().unwrap_or(0);
-        let Page { explored, states: asked, .. } = self;
+        let Page { explored, states: [asked, published], .. } = self;
         let most = self.columns.len();
         format!(
             "## How it is reckoned\n\n\
              - **A state is the list in force and the machines that are up.** Each of the {} states that come up with 1 to {explored} machines,\n\
              \x20 wide and tall, was asked of the library on a real table, founded and led there by checks, writes and sends: check, write and read by each\n\
-             \x20 machine that is up. A refused call alters no byte, so one table serves each list in force.\n\
+             \x20 machine that is up. (So were {} states of the reference, for published lists.) A refused call alters no byte, so one table serves each\n\
+             \x20 list in force.\n\
              - **States are put together by the length of the list, the positions of its members that are up, and the number of other machines that are\n\
-             \x20 up.** The program compares: nothing else counted in any of these states. For up to {most} machines every set of positions of lists\n\
-             \x20 of 1 to {most}, laid by the library, was asked.\n\
+             \x20 up.** The program compares: nothing else counted in any of these states. Every set of positions of every list of up to {most} machines was\n\
+             \x20 asked of the library; that nothing else counts in tables of more than {explored} is taken from the definition of a quorum.\n\
              - **Sets of positions are put together** where they allow the same reads and have equally many ways to each class of sets, for\n\
              \x20 failures and for repairs. The program finds these classes by cutting until this is so, and then looks at every set again. Sums over such\n\
              \x20 classes are a Markov chain again; {states} states are left at most.\n\
@@ -274,7 +283,8 @@ impl Page<'_> {
              \x20 walks by chance on one table of the library, with margins of error.\n\n\
              `make availability` takes some ten seconds and twenty megabytes, and tells how it gets on; it stops itself after two minutes. The tests are run by\n\
              `make host` and by the gate.\n",
-            grouped(*asked)
+            grouped(*asked),
+            grouped(*published),
         )
     }
 }
@@ -284,7 +294,7 @@ fn events(machines: usize, run: &[usize]) -> Result<String, String> {
     let steps = made(machines, run)?;
     let events = if run.len() == 1 { "one event".into() } else { format!("{} events", run.len()) };
     let mut text = format!(
-        "The shortest run that shows it with {machines} machines, {events}; after each, the machines that are up make a check, and then write and read:\n\n\
+        "With {machines} machines the shortest run that shows it is {events}. After an event the machines that are up make a check, then write and read:\n\n\
          | event | machines up | lists as published | the library, wide |\n|---|---|---|---|\n"
     );
     let words = |done: Done| match (done.write, done.read) {

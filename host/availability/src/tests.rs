@@ -9,6 +9,8 @@ use crate::page::PAPER;
 use crate::progress::Progress;
 use crate::relay::ask;
 use crate::runs::{made, shortest};
+use crate::walk::walk;
+use differ::Random;
 use dyngrid::{Rows, Shape};
 use reference::Blunder;
 use std::collections::HashMap;
@@ -28,8 +30,8 @@ fn assert_near(one: Unavailable, two: Unavailable, what: &str) {
     assert!(near(one.write, two.write) && near(one.read, two.read), "{what}: {one:?}, and {two:?}");
 }
 
-/// Rates between named states, written by hand, and the part of the time in each, by Gauss: the balance equations, the last of them replaced by
-/// the sum, which is 1.
+/// Rates between named states, written by hand, and the part of the time in each, by Gauss: the balance equations, the last of
+/// them replaced by the sum, which is 1.
 struct ByHand {
     names: Vec<&'static str>,
     rates: Vec<(usize, usize, f64)>,
@@ -45,6 +47,22 @@ impl ByHand {
             self.names.iter().position(|known| *known == name).unwrap_or_else(|| panic!("no state {name}"))
         };
         self.rates.push((place(from), place(to), rate));
+    }
+
+    /// A list of two of three machines; once one of it is lost it is in force until both are up again.
+    fn list_of_two(&mut self, fail: f64, repair: f64) {
+        self.names.extend(["2: 1+0", "2: 1+1", "2: 0+0", "2: 0+1"]);
+        self.go("2", "2: 1+0", 2.0 * fail);
+        self.go("2: 1+0", "2", repair);
+        self.go("2: 1+0", "2: 1+1", repair);
+        self.go("2: 1+0", "2: 0+0", fail);
+        self.go("2: 1+1", "3", repair);
+        self.go("2: 1+1", "2: 1+0", fail);
+        self.go("2: 1+1", "2: 0+1", fail);
+        self.go("2: 0+0", "2: 1+0", 2.0 * repair);
+        self.go("2: 0+0", "2: 0+1", repair);
+        self.go("2: 0+1", "2: 1+1", 2.0 * repair);
+        self.go("2: 0+1", "2: 0+0", fail);
     }
 
     /// The sum of the parts of the states that pass.
@@ -73,17 +91,15 @@ impl ByHand {
     }
 }
 
-/// Three machines. Of a list of three the columns are {1, 3} and {2}; of a list of two a wide table has two columns, a tall one has one. "3: 13" is
-/// the list of three with 1 and 3 up; "2: 1+0" is a list of two with one of them up and the third machine down.
+/// Three machines. Of a list of three the columns are {1, 3} and {2}; of a list of two a wide table has two columns, a tall one has
+/// one. "3: 13" is the list of three with 1 and 3 up; "2: 1+0" is a list of two with one of them up and the third machine down.
 fn three_by_hand(up: f64) -> ByHand {
     let (fail, repair) = (1.0, repair_rate(up));
-    let mut chain =
-        ByHand::new(&["3", "2", "3: 13", "3: 1", "3: -", "3: 2", "2: 1+0", "2: 1+1", "2: 0+0", "2: 0+1"]);
+    let mut chain = ByHand::new(&["3", "2", "3: 13", "3: 1", "3: -", "3: 2"]);
     // 1 or 3 lost: the others are the list of two. 2 lost: stuck.
     chain.go("3", "2", 2.0 * fail);
     chain.go("3", "3: 13", fail);
     chain.go("2", "3", repair);
-    chain.go("2", "2: 1+0", 2.0 * fail);
     // Without 2; "3: 1" stands for 3 alone too. With 2 and one of the others there is a list of two again.
     chain.go("3: 13", "3", repair);
     chain.go("3: 13", "3: 1", 2.0 * fail);
@@ -94,17 +110,7 @@ fn three_by_hand(up: f64) -> ByHand {
     chain.go("3: -", "3: 2", repair);
     chain.go("3: 2", "2", 2.0 * repair);
     chain.go("3: 2", "3: -", fail);
-    // A list of two is in force until both are up again.
-    chain.go("2: 1+0", "2", repair);
-    chain.go("2: 1+0", "2: 1+1", repair);
-    chain.go("2: 1+0", "2: 0+0", fail);
-    chain.go("2: 1+1", "3", repair);
-    chain.go("2: 1+1", "2: 1+0", fail);
-    chain.go("2: 1+1", "2: 0+1", fail);
-    chain.go("2: 0+0", "2: 1+0", 2.0 * repair);
-    chain.go("2: 0+0", "2: 0+1", repair);
-    chain.go("2: 0+1", "2: 1+1", 2.0 * repair);
-    chain.go("2: 0+1", "2: 0+0", fail);
+    chain.list_of_two(fail, repair);
     chain
 }
 
@@ -175,7 +181,28 @@ fn three_and_four_machines_are_as_by_hand() {
     }
 }
 
-/// The chain of all states (list in force, machines up), none of them put together; what is done is asked on the tables of the library as it goes.
+/// Three machines that vote: three bear any one loss, two bear none.
+#[test]
+fn votes_of_three_are_as_by_hand() {
+    for up in [0.7, 0.95] {
+        let (fail, repair) = (1.0, repair_rate(up));
+        let mut chain = ByHand::new(&["3", "2"]);
+        chain.list_of_two(fail, repair);
+        chain.go("3", "2", 3.0 * fail);
+        chain.go("2", "3", repair);
+        let part = chain.part(|name| name.contains(':'));
+        let voting = PROTOCOLS.votes.dynamic(3, up).unavailable;
+        assert_near(voting, Unavailable { write: part, read: part }, "dynamic voting");
+        let two_lost = 1.0 - up.powi(3) - 3.0 * up.powi(2) * (1.0 - up);
+        let majority = PROTOCOLS.votes.fixed(3, up);
+        assert_near(majority, Unavailable { write: two_lost, read: two_lost }, "majority voting");
+    }
+    // Half is no majority.
+    assert_near(PROTOCOLS.votes.fixed(2, 0.95), full_grid(1, 2, 0.95), "two that vote");
+}
+
+/// The chain of all states (list in force, machines up), none of them put together; what is done is asked on the tables of the
+/// library as it goes.
 fn unavailable_one_by_one(machines: usize, shape: Shape, up: f64) -> Unavailable {
     let all = Rows::first(machines);
     let repair = repair_rate(up);
@@ -250,8 +277,10 @@ fn the_papers_diagram_gives_its_figures() {
             "{} machines",
             said.machines
         );
-        let Some((_, printed)) = said.dynamic else { continue };
-        let (digits, power) = printed.split_once('e').expect("a power of ten");
+        if said.figure().is_none() {
+            continue;
+        }
+        let (digits, power) = said.dynamic.split_once('e').expect("a power of ten");
         let places = digits.split_once('.').expect("a point").1.len();
         // The digits beyond those printed are cut off there.
         let figure = PROTOCOLS.paper.dynamic(said.machines, 0.95).unavailable.write
@@ -361,6 +390,22 @@ fn blunders_are_found_out_beside_the_library() {
         let found = std::panic::catch_unwind(|| explore(&both, machines, coterie, |_| Ok(())));
         assert!(found.is_err(), "{blunder:?} is not found out");
     }
+}
+
+/// A walk with published lists gives the published figure, and not the library's.
+#[test]
+fn a_walk_tells_one_protocol_from_another() {
+    let (machines, up, events) = (6, 0.7, 50_000);
+    let Protocols { published, wide, .. } = &*PROTOCOLS;
+    let mut random = Random::new(1992, 0);
+    let walked = walk(Second::published(machines), machines, &published.coterie, up, events, &mut random)
+        .expect("walked");
+    let [published, wide] = [published, wide].map(|protocol| protocol.dynamic(machines, up).unavailable);
+    assert!(walked[0].holds(published.write) && walked[1].holds(published.read), "{published:?}");
+    assert!(!walked[0].holds(wide.write) && !walked[1].holds(wide.read), "{wide:?}");
+    // Its answers are not those of the library's lists.
+    let found = walk(Second::published(machines), machines, &PROTOCOLS.wide.coterie, up, events, &mut random);
+    assert!(found.is_err());
 }
 
 /// Sets that go on otherwise are not put together.

@@ -32,8 +32,8 @@ impl Estimate {
     }
 }
 
-/// Parts of the time in which the file could not be written, and not read, in a walk of so many events; the answers at each step must be what the
-/// coterie says. Between events machines write by chance, and the stale rows are brought up to date.
+/// Parts of the time in which the file could not be written, and not read, in a walk of so many events; the answers at each step
+/// must be what the coterie says. Between events machines write by chance, and the stale rows are brought up to date.
 pub fn walk<T: Held>(
     mut table: T,
     machines: usize,
