@@ -175,3 +175,16 @@ impl Held for Both {
         self.library.bytes()
     }
 }
+
+#[cfg(test)]
+mod tests {
+    use super::*;
+
+    /// Wide and tall lists of four have one grid and two marks: the results are the same, and the bytes are not.
+    #[test]
+    #[should_panic(expected = "library Ok(0), reference Ok(0)")]
+    fn tables_that_differ_in_a_byte_are_found_out() {
+        let both = Both { library: library(4, Shape::Wide), second: Second::newest(4, Shape::Tall) };
+        let _ = both.read(1, Rows::first(4));
+    }
+}

@@ -249,8 +249,8 @@ impl Page<'_> {
              \x20 refused, the list stays until enough of its members are up again; machines outside the list can be up meanwhile, and are taken in then.\n\
              - After each check and each write the relay sends to the rows that were marked as stale, before the next event. So every row that the last\n\
              \x20 write had in its set is current, that set held a write quorum, and each quorum for a read, a write or a check has one of its rows:\n\
-             \x20 question 7 is always answered yes, and what is refused is refused by 6. (The paper puts total writes in place of this.) A relay\n\
-             \x20 that sends late has refusals by 7 besides.\n\
+             \x20 question 7 is always answered yes, and what is refused is refused by 6. (The paper puts total writes in place of this.) Where nobody\n\
+             \x20 sends, it is otherwise: each of five machines writes once, then one is lost, and the others can be refused by 7 (a test shows it).\n\
              - Machines that are not up have rows of lower epochs, which do not matter; when they come back, a check takes them in.\n\n\
              Machines whose line is cut while they run on, checks that come late and machines that fail together are not in the model. They make the\n\
              figures worse, the smallest ones most: what these say is that such things, and not the grid, will be what stops the file.\n",

@@ -11,7 +11,7 @@ use crate::relay::ask;
 use crate::runs::{made, shortest};
 use crate::walk::walk;
 use differ::Random;
-use dyngrid::{Rows, Shape};
+use dyngrid::{Refusal, Rows, Shape};
 use reference::Blunder;
 use std::collections::HashMap;
 use std::sync::LazyLock;
@@ -390,6 +390,72 @@ fn blunders_are_found_out_beside_the_library() {
         let found = std::panic::catch_unwind(|| explore(&both, machines, coterie, |_| Ok(())));
         assert!(found.is_err(), "{blunder:?} is not found out");
     }
+}
+
+/// A table of the library, and one call that goes wrong.
+#[derive(Clone)]
+struct Wrong {
+    table: dyngrid::Table,
+    fault: Fault,
+}
+
+#[derive(Clone, Copy, PartialEq)]
+enum Fault {
+    None,
+    /// Every check is refused by 6.
+    NoCheck,
+    /// A check is done and lays no list.
+    NothingLaid,
+    /// A send is done and brings nothing.
+    NothingSent,
+}
+
+impl Held for Wrong {
+    fn check(&mut self, by: usize, up: Rows) -> Result<u32, Refusal> {
+        match self.fault {
+            Fault::NoCheck => Err(Refusal::NoQuorum),
+            Fault::NothingLaid => Held::check(&mut self.table.clone(), by, up),
+            _ => Held::check(&mut self.table, by, up),
+        }
+    }
+
+    fn write(&mut self, by: usize, up: Rows) -> Result<u32, Refusal> {
+        Held::write(&mut self.table, by, up)
+    }
+
+    fn read(&self, by: usize, up: Rows) -> Result<u32, Refusal> {
+        Held::read(&self.table, by, up)
+    }
+
+    fn send(&mut self, from: usize, to: usize, up: Rows) -> Result<u32, Refusal> {
+        match self.fault {
+            Fault::NothingSent => Held::send(&mut self.table.clone(), from, to, up),
+            _ => Held::send(&mut self.table, from, to, up),
+        }
+    }
+
+    fn bytes(&self) -> &[u8] {
+        self.table.as_bytes()
+    }
+}
+
+/// Where a check is not what a write is, lays nothing, or nobody sends, the program stops. Without sends it is by 7, as the page says.
+#[test]
+fn faults_stop_the_program() {
+    let machines = 5;
+    for (fault, said) in [
+        (Fault::None, ""),
+        (Fault::NoCheck, "refused by 6"),
+        (Fault::NothingLaid, "does not lay their list"),
+        (Fault::NothingSent, "refused by 7"),
+    ] {
+        let founded = Wrong { table: library(machines, Shape::Wide), fault };
+        let problem =
+            explore(&founded, machines, &PROTOCOLS.wide.coterie, |_| Ok(())).err().unwrap_or_default();
+        assert!(problem.contains(said) && problem.is_empty() == said.is_empty(), "{problem:?}, not {said:?}");
+    }
+    let no_check = Wrong { table: library(machines, Shape::Wide), fault: Fault::NoCheck };
+    assert!(ask(&no_check, Rows::first(machines)).is_err(), "a check refused where a write is done");
 }
 
 /// A walk with published lists gives the published figure, and not the library's.
