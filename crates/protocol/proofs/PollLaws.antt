@@ -228,7 +228,7 @@ module _ (kind : Kind) (order : List ℕ) (p q : Poll) (c a : ℕ) (r : ℕ → 
 
   pub worked-same : workedOn kind order p c a r ≡ workedOn kind order q c a r
   unfolding workedOn
-  worked-same = rw (try-same, stays-same)
+  worked-same = ap₂ (λ (x : Bool) (y : ℕ → Bool). cond x y r) stays-same try-same
 
 -- the set worked on is within R
 pub worked-in : (kind : Kind) (order : List ℕ) (p : Poll) (c a : ℕ) (r : ℕ → Bool) (i : ℕ) → workedOn kind order p c a r i ≡ true → r i ≡ true

@@ -7,7 +7,6 @@ mod layers;
 mod measure;
 mod rooms;
 mod smallest;
-mod svg;
 mod wall;
 mod wall_page;
 
