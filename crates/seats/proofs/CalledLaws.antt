@@ -1,8 +1,8 @@
 -- The size of the set called, of done calls.
 use mathlib.Core.Path.{_≡_, sym, _∙_, ap}
-use mathlib.Core.Bool.{Bool, true, false, cond, _&&_}
+use mathlib.Core.Bool.{true, false}
 use mathlib.Core.List.{List, [], _∷_}
-use Prim.Native.Nat.{ℕ, _^_, _<_}
+use Prim.Native.Nat.{ℕ}
 use lib.Dec.{eqb}
 use lib.ListN.{length}
 use borrow.Author.Tests.{eq-eqb}
@@ -15,7 +15,7 @@ use Rattle.table.specs.Chain.{orderOf}
 use Rattle.table.proofs.FormLaws.{formed}
 use Rattle.quorums.specs.declared.Kind.{Kind}
 use Rattle.quorums.specs.declared.Kind.the-variants.{Read, Write}
-use Rattle.asking.specs.Asking.{Question, firstNo, before}
+use Rattle.asking.specs.Asking.{Question, firstNo}
 use Rattle.asking.proofs.AskingLaws.{before-yes}
 use Rattle.protocol.specs.Lists.{listChoice}
 use Rattle.protocol.specs.Polls.{polled, quorumHeld, ownTry, stays}
