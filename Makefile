@@ -1,5 +1,5 @@
 # make run: the main job. make test: the gate. The others are for daily work.
-.PHONY: run test check lib host bench pictures
+.PHONY: run test check lib host bench pictures availability
 
 # $(call needs,TOOL,HOW TO GET IT): stops with a sentence if the tool is not on the PATH.
 needs = $(if $(shell command -v $(1) 2>/dev/null),,$(error $(1) is not on the PATH: $(2), and run this again))
@@ -35,3 +35,7 @@ bench: lib
 # crates, to docs/rooms.svg.
 pictures: lib
 	$(needs-rust)cargo run --release --offline --quiet --manifest-path host/Cargo.toml -p pictures -- .
+
+# How often the file can be written and read in the paper's model, to docs/AVAILABILITY.md and docs/availability.svg.
+availability: lib
+	$(needs-rust)cargo run --release --offline --quiet --manifest-path host/Cargo.toml -p availability -- .

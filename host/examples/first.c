@@ -16,7 +16,7 @@ static const char *meaning(uint32_t refusal)
     case GRID_NO_SUCH_ROW: return "there is no such row: rows count from 1 to the rows used";
     case GRID_NOT_ANSWERING: return "the coordinator did not answer: it must be in the answering set";
     case GRID_OUT_OF_RANGE: return "the range is empty or ends beyond the file";
-    case GRID_WRONG_BUFFER: return "the buffer is not as long as the range, or too short for a chart";
+    case GRID_WRONG_BUFFER: return "the buffer is not as long as the range, or a lent list has another length than it must";
     case GRID_NO_QUORUM: return "too few machines answered: try again when more do";
     case GRID_NOT_CURRENT: return "no machine that answered has the newest version: wait for one that has";
     case GRID_AT_LIMIT: return "a million versions or epochs: found a new table";
@@ -58,7 +58,7 @@ static void print_chart(const uint8_t *sets, uint32_t count)
 int main(void)
 {
     static uint8_t table[TABLE_BYTES];
-    uint8_t sets[GRID_CHART_BYTES];
+    uint8_t sets[GRID_CHART_BYTES], called[1];
     const uint8_t names[2 * MACHINES] = {10, 0, 20, 0, 30, 0, 40, 0};
     const char score[] = "1-0";
     uint8_t got[sizeof score] = {0};
@@ -73,16 +73,21 @@ int main(void)
         return 1;
 
     /* Machine 10, row 1, imports a score while row 4 is away. */
-    if (!report("write by row 1", grid_write(table, sizeof table, 1, three, 0, (const uint8_t *)score, sizeof score)))
+    if (!report("write by row 1", grid_write(table, sizeof table, 1, three, 0, (const uint8_t *)score, sizeof score,
+                                             called, sizeof called)))
         return 1;
+    printf("machines called: %u\n", (unsigned)called[0]);
 
     /* Row 4 is back and reads with row 3: one machine of each column of the grid. */
-    if (!report("read by row 4", grid_read(table, sizeof table, 4, two, 0, sizeof got, got, sizeof got)))
+    if (!report("read by row 4", grid_read(table, sizeof table, 4, two, 0, sizeof got, got, sizeof got,
+                                           called, sizeof called)))
         return 1;
+    printf("machines called: %u\n", (unsigned)called[0]);
     printf("score: %s\n", (const char *)got);
 
     /* Alone it is refused: an old score would look like any other. */
-    report("read by row 4 alone", grid_read(table, sizeof table, 4, grid_row(4), 0, sizeof got, got, sizeof got));
+    report("read by row 4 alone", grid_read(table, sizeof table, 4, grid_row(4), 0, sizeof got, got, sizeof got,
+                                            called, sizeof called));
 
     /* The smallest sets of machines that are enough for a write. */
     uint64_t chart = grid_chart(MACHINES, table[GRID_MARK], sets, sizeof sets);

@@ -8,7 +8,8 @@
  *   A list is a pointer and then its length in bytes. Names, and sets in a chart, are two bytes each, low byte first.
  *   Rows have the numbers 1 upward. In an answering set, bit i - 1 stands for row i (see grid_row).
  *   A result is the refusal number (0: done) times 2^32, plus the value (see grid_refusal, grid_value).
- *   A refused call has value 0 and alters no byte of the table, of a buffer or of anything else.
+ *   A refused call has value 0 and alters no byte of the table, of a buffer or of anything else, but for the byte in which a
+ *   read and a write say how many machines were called (see grid_read).
  *   A done call, founding and joining aside, alters only rows that answered.
  *
  * Tables of form 1
@@ -24,7 +25,7 @@
  *   nothing of the table, and the library keeps no state of its own. Every other call has the table to itself.
  *
  * What a host must not do
- *   - pass slices of one call that overlap: a table and its buffer, patch or names;
+ *   - pass slices of one call that overlap: a table and its buffer, patch, names or list for the number called;
  *   - let two calls that are not both reads run on one table at once, or touch a slice of a call while it runs (other
  *     reads of its table aside);
  *   - pass a length above 0 with a null pointer, or above what the pointer leads to. Null with length 0 is an empty list.
@@ -42,7 +43,7 @@ extern "C" {
 
 /* Rises with every signature in this header that is new or changed, and with nothing else: a new form of the table does not
    raise it, for a table tells its form itself, and one of another form is refused by 1. */
-#define DYNGRID_INTERFACE 4
+#define DYNGRID_INTERFACE 5
 
 /* The number of the archive. */
 uint64_t grid_interface(void);
@@ -62,7 +63,8 @@ enum grid_refusals {
     GRID_NO_SUCH_ROW = 2,          /* a row is not in use, or a send names one row twice */
     GRID_NOT_ANSWERING = 3,        /* the coordinator, or an end of a send, is not in the answering set */
     GRID_OUT_OF_RANGE = 4,         /* the range is empty or ends beyond the file */
-    GRID_WRONG_BUFFER = 5,         /* the buffer is not exactly as long as the range; a chart's list is shorter than 128 bytes */
+    GRID_WRONG_BUFFER = 5,         /* the buffer is not exactly as long as the range, or the list for the number called not one
+                                      byte; a chart's list is shorter than 128 bytes */
     GRID_NO_QUORUM = 6,            /* the rows that answered hold no quorum: try again when more answer */
     GRID_NOT_CURRENT = 7,          /* no row that answered has the newest version: try again when one answers */
     GRID_AT_LIMIT = 8,             /* the version, or the epoch, is at 1,000,000: found a new table */
@@ -124,13 +126,24 @@ static inline uint64_t grid_row(unsigned row)
 uint64_t grid_found(uint8_t *table, size_t table_len, uint64_t capacity, uint64_t file_len,
                     const uint8_t *names, size_t names_len, uint64_t choice);
 
-/* Reads length bytes from offset on into the buffer. Value: the version read. Refusals: 1 to 7. */
-uint64_t grid_read(const uint8_t *table, size_t table_len, uint64_t coordinator, uint64_t answering,
-                   uint64_t offset, uint64_t length, uint8_t *buffer, size_t buffer_len);
+/* Reads length bytes from offset on into the buffer. Value: the version read. Refusals: 1 to 7.
 
-/* Lays the patch over the file from offset on. Value: the new version. Refusals: 1 to 4, 6 to 8. */
+   How many machines were called goes into `called`, a list of one byte (called_len is 1): as many as the coordinator's own
+   choice has, if those of it that answered were enough; otherwise all used rows. A refused call writes it too: 0 if it was
+   refused by 1 to 5, for then nobody was called. A list of another length is left alone, and refused by 5 unless another
+   refusal comes first. A done read that its own choice was enough for called one machine of each column of the grid that the
+   coordinator's list lies in. */
+uint64_t grid_read(const uint8_t *table, size_t table_len, uint64_t coordinator, uint64_t answering,
+                   uint64_t offset, uint64_t length, uint8_t *buffer, size_t buffer_len,
+                   uint8_t *called, size_t called_len);
+
+/* Lays the patch over the file from offset on. Value: the new version. Refusals: 1 to 8; 5 is for `called` alone.
+
+   How many machines were called goes into `called` as in a read. A done write that its own choice was enough for called at most
+   as many machines as that grid has rows and columns together, less one. */
 uint64_t grid_write(uint8_t *table, size_t table_len, uint64_t coordinator, uint64_t answering,
-                    uint64_t offset, const uint8_t *patch, size_t patch_len);
+                    uint64_t offset, const uint8_t *patch, size_t patch_len,
+                    uint8_t *called, size_t called_len);
 
 /* Brings the stale row `to` up to the state of the row `from`. Value: the version it then has. Refusals: 1 to 3, 9, 10. */
 uint64_t grid_send(uint8_t *table, size_t table_len, uint64_t from, uint64_t to, uint64_t answering);

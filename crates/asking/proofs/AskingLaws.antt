@@ -6,6 +6,7 @@ use Prim.Native.Nat.{ℕ, suc, _/_, _%_, _^_, _≤_, _<_}
 use native.Mathlib.Omega.{arith}
 use lib.Pow.{high, low}
 use borrow.Author.Tests.{eq-eqb, ne-eqb}
+use lib.Dec.{eqb}
 use Rattle.asking.specs.Asking.{Question, firstNo, before, result}
 
 -- where no answer is no, the first is yes
@@ -37,6 +38,17 @@ before-here n x qs = rw (eq-eqb n n refl)
 pub before-other : (n m : ℕ) (x : Bool) (qs : List Question) → (m ≡ n → ⊥) → before n (record { ask = m; yes = x } ∷ qs) ≡ record { ask = m; yes = x } ∷ before n qs
 unfolding before
 before-other n m x qs d = rw (ne-eqb m n d)
+
+-- where no answer is no, none before a number is
+pub before-yes : (n : ℕ) (qs : List Question) → firstNo qs ≡ 0 → firstNo (before n qs) ≡ 0
+unfolding firstNo before
+before-yes n [] h = refl
+before-yes n (q ∷ qs) h = go (before-yes n qs) (eqb (q .ask) n) (q .yes) refl
+  where
+    go : (firstNo qs ≡ 0 → firstNo (before n qs) ≡ 0) → (x y : Bool) → q .yes ≡ y → firstNo (cond x [] (q ∷ before n qs)) ≡ 0
+    go more true y e = refl
+    go more false true e = rw e (more (rw e at h))
+    go more false false e = rw e (rw e at h)
 
 -- refusal and value can be read off the result
 pub result-refusal : (refusal value : ℕ) → value < 2 ^ 32 → result refusal value / 2 ^ 32 ≡ refusal

@@ -7,9 +7,9 @@ ghost use Rattle.protocol.specs.Calls.{founding, join, read, write, send, check
 // The number of this interface: it rises with every change of a signature, so that header and archive can be compared.
 #[no_mangle]
 pub extern "C" fn grid_interface() -> u64
-    ensures { λ r. ⌜ r ≡ 4 ⌝ }
+    ensures { λ r. ⌜ r ≡ 5 ⌝ }
 {
-    4
+    5
 }
 
 #[no_mangle]
@@ -40,12 +40,14 @@ pub extern "C" fn grid_read(
     offset: u64,
     length: u64,
     buffer: &mut [u8],
+    called: &mut [u8],
 ) -> u64
-    ensures { λ r. ⌜ (let o = outcome (now (table .entry)) (read (record { c = coordinator; r = answering; offset = offset; count = length; buffer = now (buffer .entry) })) in (r ≡ resultOf o) × (now (table .entry) ≡ o .table) × (now (buffer .exit) ≡ o .buffer)) ⌝ }
+    ensures { λ r. ⌜ (let o = outcome (now (table .entry)) (read (record { c = coordinator; r = answering; offset = offset; count = length; buffer = now (buffer .entry); called = now (called .entry) })) in (r ≡ resultOf o) × (now (table .entry) ≡ o .table) × (now (buffer .exit) ≡ o .buffer) × (now (called .exit) ≡ o .called)) ⌝ }
 {
     let reader = coordinator as usize;
     let from = offset as usize;
-    reads::read(table, reader, answering, from, length as usize, buffer)
+    let count = length as usize;
+    reads::read(table, reader, answering, from, count, buffer, called)
 }
 
 #[no_mangle]
@@ -55,12 +57,13 @@ pub extern "C" fn grid_write(
     answering: u64,
     offset: u64,
     patch: &[u8],
+    called: &mut [u8],
 ) -> u64
-    ensures { λ r. ⌜ (let o = outcome (now (table .entry)) (write (record { c = coordinator; r = answering; offset = offset; patch = now (patch .entry) })) in (r ≡ resultOf o) × (now (table .exit) ≡ o .table)) ⌝ }
+    ensures { λ r. ⌜ (let o = outcome (now (table .entry)) (write (record { c = coordinator; r = answering; offset = offset; patch = now (patch .entry); called = now (called .entry) })) in (r ≡ resultOf o) × (now (table .exit) ≡ o .table) × (now (called .exit) ≡ o .called)) ⌝ }
 {
     let writer = coordinator as usize;
     let to = offset as usize;
-    writes::write(table, writer, answering, to, patch)
+    writes::write(table, writer, answering, to, patch, called)
 }
 
 #[no_mangle]

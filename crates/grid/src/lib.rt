@@ -7,10 +7,11 @@ ghost use lib.Dec.{leb};
 ghost use Prim.Native.Nat.{_≤_};
 ghost use Rattle.grid.specs.Sizes.{published, noGrid, exchanged, gridBy, markFits, newMark, height, Fits};
 
-// The sizes of a grid. (The table below has one for each length of a list.)
+// The sizes of a grid. (The table below has one for each length of a list. Columns first: then no entry lies across two of the stores by
+// which the compiler builds the table.)
 pub struct Grid {
-    pub rows: u8,
     pub cols: u8,
+    pub rows: u8,
 }
 
 // The published grid of each length from 1 to 64.

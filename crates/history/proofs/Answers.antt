@@ -1,6 +1,6 @@
 -- Reads and writes are answered as the book says.
 use mathlib.Core.Path.{_≡_, refl, sym, _∙_, ap}
-use mathlib.Core.Bool.{Bool, true, false, cond}
+use mathlib.Core.Bool.{Bool, true, false, cond, _&&_}
 use mathlib.Core.List.{List, [], _∷_}
 use Prim.Native.Nat.{ℕ, _≤_}
 use native.Mathlib.Omega.{arith}
@@ -79,8 +79,8 @@ module _ (t : List ℕ) (b : Book) (e : ℕ) (S : State t b e) where
   unfolding questions before firstNo
   read-refused a h =
       let x = early-passed t (a .c) (a .r) _ 6 (omega arith) h in
-      let d = yes-first 3 (inFile t (a .offset) (a .count)) (record { ask = 5; yes = eqb (length (a .buffer)) (a .count) } ∷ []) (x .1) in
-      let f = yes-first 4 (eqb (length (a .buffer)) (a .count)) [] (d .1) in
+      let d = yes-first 3 (inFile t (a .offset) (a .count)) (record { ask = 5; yes = eqb (length (a .buffer)) (a .count) && eqb (length (a .called)) 1 } ∷ []) (x .1) in
+      let f = yes-first 4 (eqb (length (a .buffer)) (a .count) && eqb (length (a .called)) 1) [] (d .1) in
       refusal-is t (read a) ∙ x .2 ∙ rw (d .0, f .0) (six-seven Read (a .c) (a .r) (x .0))
 
   -- ---- writes
@@ -88,9 +88,10 @@ module _ (t : List ℕ) (b : Book) (e : ℕ) (S : State t b e) where
   unfolding RefusedRight questions before firstNo limit
   write-refused a h l =
       let x = early-passed t (a .c) (a .r) _ 6 (omega arith) h in
-      let d = yes-first 3 (inFile t (a .offset) (length (a .patch))) [] (x .1) in
+      let d = yes-first 3 (inFile t (a .offset) (length (a .patch))) (record { ask = 5; yes = eqb (length (a .called)) 1 } ∷ []) (x .1) in
+      let f = yes-first 4 (eqb (length (a .called)) 1) [] (d .1) in
       refusal-is t (write a) ∙ x .2
-      ∙ rw (d .0) (go (x .0) (quorumHeld Write (orderOf t) (answers t (a .r)) (workSet Write t (a .c) (a .r))) refl (current (answers t (a .r)) (workSet Write t (a .c) (a .r))) refl ∙ six-seven Write (a .c) (a .r) (x .0))
+      ∙ rw (d .0, f .0) (go (x .0) (quorumHeld Write (orderOf t) (answers t (a .r)) (workSet Write t (a .c) (a .r))) refl (current (answers t (a .r)) (workSet Write t (a .c) (a .r))) refl ∙ six-seven Write (a .c) (a .r) (x .0))
     where
       go : ByCoordinator t (a .c) (a .r) → (x : Bool) → quorumHeld Write (orderOf t) (answers t (a .r)) (workSet Write t (a .c) (a .r)) ≡ x → (y : Bool) → current (answers t (a .r)) (workSet Write t (a .c) (a .r)) ≡ y
           → _≡_ {A = ℕ} (cond x (cond y (cond (ltb (goodVersion (answers t (a .r)) (workSet Write t (a .c) (a .r))) limit) 0 8) 7) 6) (cond x (cond y 0 7) 6)
@@ -106,9 +107,10 @@ module _ (t : List ℕ) (b : Book) (e : ℕ) (S : State t b e) where
   passed-seven a h =
       let x = early-passed t (a .c) (a .r) _ 8 (omega arith) h in
       let d = yes-first 3 (inFile t (a .offset) (length (a .patch))) _ (x .1) in
-      let q = yes-first 5 (quorumHeld Write (orderOf t) (answers t (a .r)) (workSet Write t (a .c) (a .r))) _ (d .1) in
+      let f = yes-first 4 (eqb (length (a .called)) 1) _ (d .1) in
+      let q = yes-first 5 (quorumHeld Write (orderOf t) (answers t (a .r)) (workSet Write t (a .c) (a .r))) _ (f .1) in
       let m = yes-first 6 (current (answers t (a .r)) (workSet Write t (a .c) (a .r))) [] (q .1) in
-      (x .0, q .0, m .0, x .2 ∙ no-first 4 _ _ (d .0) ∙ no-first 6 _ _ (q .0) ∙ no-first 7 _ _ (m .0))
+      (x .0, q .0, m .0, x .2 ∙ no-first 4 _ _ (d .0) ∙ no-first 5 _ _ (f .0) ∙ no-first 6 _ _ (q .0) ∙ no-first 7 _ _ (m .0))
 
   pub write-full : b .writes ≡ 1_000_000 → (a : Writing) → firstNo (before 8 (questions t (write a))) ≡ 0 → outcome t (write a) .refusal ≡ 8
   unfolding firstNo limit

@@ -17,7 +17,7 @@ use Rattle.quorums.specs.declared.Kind.the-variants.{Read, Write}
 use Rattle.fields.specs.declared.Laid.{Laid}
 use Rattle.fields.specs.Layout.{isEmpty}
 use Rattle.protocol.specs.Lists.{listQuorum, listChoice}
-use Rattle.protocol.specs.Polls.{Poll, listed, highestEpoch, inForce, goodVersion, good, current, quorumHeld, ownTry, workedOn}
+use Rattle.protocol.specs.Polls.{Poll, listed, highestEpoch, inForce, goodVersion, good, current, quorumHeld, ownTry, stays, workedOn}
 use Rattle.protocol.proofs.ListLaws.{inhabited, reads, grows, has-list}
 use Rattle.protocol.proofs.PollLaws.{Leads, listed-of, epoch-le, leads, version-le, version-under, good-at, good-of, current-good, current-desired, current-of, cut-in}
 use Rattle.history.specs.Book.{Book, order, nameIn, hasAll, holdsQuorum, someHasAll, writeSet}
@@ -203,7 +203,7 @@ module _ (n : ℕ) (p : Poll) (c : ℕ → List ℕ) (b : Book) (e : ℕ) (few :
     -- what questions 6 and 7 answer for the set worked on is what the book says of R
     pub answers-are : (quorumHeld kind (order b) p (workedOn kind (order b) p k a r) ≡ holdsQuorum b kind r)
         × (holdsQuorum b kind r ≡ true → current p (workedOn kind (order b) p k a r) ≡ someHasAll b r)
-    unfolding workedOn tried holdsQuorum
+    unfolding workedOn stays tried holdsQuorum
     answers-are = go (quorumHeld kind (order b) p tried && current p tried) refl
       where
         go : (x : Bool) → (quorumHeld kind (order b) p tried && current p tried) ≡ x
@@ -217,6 +217,6 @@ module _ (n : ℕ) (p : Poll) (c : ℕ → List ℕ) (b : Book) (e : ℕ) (few :
 
   -- the set of a write is the book's
   pub set-is : (k r : ℕ) → Within n k → ((i : ℕ) → has r i ≡ true → Within n i) → workedOn Write (order b) p k (nameIn b k) (has r) ≡ writeSet b k r
-  unfolding workedOn writeSet ownTry tried
+  unfolding workedOn stays writeSet ownTry tried
   set-is k r u ins =
       rw (I .epochs .owned k u, ← (both-is (ownTry Write (order b) p k (nameIn b k) (has r)) (tried-used Write k (nameIn b k) (has r) ins) Write))

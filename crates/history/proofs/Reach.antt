@@ -36,7 +36,7 @@ use Rattle.history.proofs.Theorems.{next, opens}
 
 -- the machine writes the only byte of its file
 unfoldable again : Writing
-again = record { c = 1; r = 1; offset = 0; patch = 7 ∷ [] }
+again = record { c = 1; r = 1; offset = 0; patch = 7 ∷ []; called = 0 ∷ [] }
 
 -- the book of a file of one byte on one machine
 record Lone (b : Book) : Type 0 where

@@ -8,15 +8,18 @@ use Rattle.sets.specs.Upto.{upward}
 use Rattle.bytes.specs.Bytes.{bytesOf, put, zeros}
 use Rattle.fields.specs.Layout.{Field, get, mark, version, desired, epoch, members, rowBytes, contentsOf}
 use Rattle.protocol.specs.Calls.{Call, outcome}
-use Rattle.protocol.proofs.Histories.{fo, jn, rd, wr, ck, Made, same, stepsHold}
+use Rattle.protocol.proofs.Histories.{fo, jn, rdc, wrc, rd, wr, ck, Made, Called, same, stepsHold}
 
 -- on these bytes a call has this refusal, value and buffer
 pub data Case : Type 0 where
   On : (table : List ℕ) (call : Call) (refusal value : ℕ) (buffer : List ℕ) → Case
+  -- or this refusal, and leaves this in the bytes lent for the size of the set called
+  Notes : (table : List ℕ) (call : Call) (refusal : ℕ) (called : List ℕ) → Case
 
 unfoldable pub allHold : List Case → Bool
 allHold [] = true
 allHold (On t k refusal value buffer ∷ cs) = stepsHold t (Made k refusal value buffer ∷ []) && allHold cs
+allHold (Notes t k refusal called ∷ cs) = stepsHold t (Called k refusal called ∷ []) && allHold cs
 
 -- ---- tables
 -- two used rows of three; row 1 alone is the list in force
@@ -50,6 +53,10 @@ single capacity fileLength =
 -- pair with a third row, at an epoch; its list is itself
 unfoldable pub third : ℕ → List ℕ
 third e = set 2 1 3 (set (row2 + 2) 1 3 (set row3 2 30 (set (row3 + 12) 4 e (set (row3 + 16) 8 4 pair))))
+
+-- pair with a third row; the list of rows 2 and 3 is all three
+unfoldable pub trio : List ℕ
+trio = set (row2 + 16) 8 7 (set (row3 + 16) 8 7 (third 0))
 
 -- pair with row 2's list empty, at an epoch
 unfoldable pub unlisted : ℕ → List ℕ
@@ -186,6 +193,31 @@ cases =
     ∷ On nobody (rd 1 3 0 1 (9 ∷ [])) 6 0 (9 ∷ [])
     ∷ On nobody (wr 1 3 0 (7 ∷ [])) 6 0 []
     ∷ On nobody (ck 1 3) 6 0 []
+    -- ---- how many machines were called: the coordinator's own choice where the call stayed with P, also a P that is R, or lacks a row of the choice
+    ∷ Notes (full 5) (rd 1 31 0 1 (9 ∷ [])) 0 (2 ∷ [])
+    ∷ Notes (full 5) (rd 4 12 0 1 (9 ∷ [])) 0 (2 ∷ [])
+    ∷ Notes (full 5) (wr 1 31 0 (7 ∷ [])) 0 (4 ∷ [])
+    ∷ Notes (full 5) (wr 2 31 0 (7 ∷ [])) 0 (3 ∷ [])
+    ∷ Notes trio (wr 2 3 0 (7 ∷ [])) 0 (3 ∷ [])
+    -- all used rows where it went on to R: done, refused by 6, by a coordinator without a list
+    ∷ Notes (full 5) (rd 1 25 0 1 (9 ∷ [])) 0 (5 ∷ [])
+    ∷ Notes (full 5) (rd 1 5 0 1 (9 ∷ [])) 6 (5 ∷ [])
+    ∷ Notes nobody (wr 1 3 0 (7 ∷ [])) 6 (2 ∷ [])
+    ∷ Notes (unlisted 1) (rd 2 3 0 1 (9 ∷ [])) 0 (2 ∷ [])
+    -- what P called where 8 is no; 0 before question 6
+    ∷ Notes (set (row1 + 4) 4 1_000_000 pair) (wr 1 1 0 (7 ∷ [])) 8 (1 ∷ [])
+    ∷ Notes (set 0 1 0 pair) (rdc 2 3 0 1 (9 ∷ []) (9 ∷ [])) 1 (0 ∷ [])
+    ∷ Notes pair (rdc 3 3 0 1 (9 ∷ []) (9 ∷ [])) 2 (0 ∷ [])
+    ∷ Notes pair (wrc 2 1 0 (7 ∷ []) (9 ∷ [])) 3 (0 ∷ [])
+    ∷ Notes pair (wrc 2 3 1 (7 ∷ []) (9 ∷ [])) 4 (0 ∷ [])
+    ∷ Notes pair (rdc 2 3 0 1 [] (9 ∷ [])) 5 (0 ∷ [])
+    -- a list of another length is left alone and refused by 5, after 4
+    ∷ Notes pair (rdc 2 3 0 1 (9 ∷ []) []) 5 []
+    ∷ Notes pair (rdc 2 3 0 1 (9 ∷ []) (9 ∷ 9 ∷ [])) 5 (9 ∷ 9 ∷ [])
+    ∷ Notes pair (wrc 2 3 0 (7 ∷ []) []) 5 []
+    ∷ Notes pair (wrc 2 3 0 (7 ∷ []) (9 ∷ 9 ∷ [])) 5 (9 ∷ 9 ∷ [])
+    ∷ Notes pair (rdc 2 3 1 1 (9 ∷ []) []) 4 []
+    ∷ Notes pair (wrc 2 3 1 (7 ∷ []) []) 4 []
     -- ---- a published five that was carried over keeps its grid, also through a check of all five; the new five does not need its third row
     ∷ On (full 5) (rd 1 27 0 1 (9 ∷ [])) 0 0 (0 ∷ [])
     ∷ On (remarked 5 0 (full 5)) (rd 1 27 0 1 (9 ∷ [])) 6 0 (9 ∷ [])

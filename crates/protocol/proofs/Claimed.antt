@@ -18,7 +18,7 @@ use Rattle.protocol.specs.Polls.{highestEpoch, inForce}
 use Rattle.protocol.specs.Calls
 use Rattle.asking.specs.Asking.{firstNo}
 use Rattle.asking.proofs.AskingLaws.{result-refusal, result-value}
-use Rattle.protocol.specs.Calls.{Call, founding, join, read, write, send, check, questions, done, outcome, answers, workSet}
+use Rattle.protocol.specs.Calls.{Call, founding, join, read, write, send, check, questions, calledAfter, done, outcome, answers, workSet}
 use Rattle.protocol.specs.Claims
 use Rattle.joining.proofs.FrameLaws.{joined-alters}
 use Rattle.joining.proofs.RowLaws.{more-formed}
@@ -126,7 +126,7 @@ stays-well-formed t k n w = go (outcome t k .refusal) refl
 
 -- ---- a founding takes nothing from the table but its length
 pub founds-on-anything : Claims.FoundsOnAnything
-unfolding Claims.FoundsOnAnything outcome questions done
+unfolding Claims.FoundsOnAnything outcome questions done calledAfter
 founds-on-anything t u a e h =
     let q : firstNo (questions t (founding a)) ≡ firstNo (questions u (founding a)) = rw e in
     let z : firstNo (questions t (founding a)) ≡ 0 = sym (refusal-is t (founding a)) ∙ h in

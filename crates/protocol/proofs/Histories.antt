@@ -15,11 +15,18 @@ fo capacity fileLength names choice = founding (record { capacity = capacity; fi
 unfoldable pub jn : (name : ℕ) → Call
 jn name = join (record { name = name })
 
+unfoldable pub rdc : (c r offset count : ℕ) (buffer called : List ℕ) → Call
+rdc c r offset count buffer called = read (record { c = c; r = r; offset = offset; count = count; buffer = buffer; called = called })
+
+unfoldable pub wrc : (c r offset : ℕ) (patch called : List ℕ) → Call
+wrc c r offset patch called = write (record { c = c; r = r; offset = offset; patch = patch; called = called })
+
+-- the same with one byte lent for the size of the set called
 unfoldable pub rd : (c r offset count : ℕ) (buffer : List ℕ) → Call
-rd c r offset count buffer = read (record { c = c; r = r; offset = offset; count = count; buffer = buffer })
+rd c r offset count buffer = rdc c r offset count buffer (0 ∷ [])
 
 unfoldable pub wr : (c r offset : ℕ) (patch : List ℕ) → Call
-wr c r offset patch = write (record { c = c; r = r; offset = offset; patch = patch })
+wr c r offset patch = wrc c r offset patch (0 ∷ [])
 
 unfoldable pub sn : (f t r : ℕ) → Call
 sn f t r = send (record { f = f; t = t; r = r })
@@ -30,6 +37,8 @@ ck c r = check (record { c = c; r = r })
 pub data Step : Type 0 where
   -- a call is made: its refusal, value and buffer
   Made : Call → (refusal value : ℕ) (buffer : List ℕ) → Step
+  -- a call is made: its refusal, and what it leaves in the bytes lent for the size of the set called
+  Called : Call → (refusal : ℕ) (called : List ℕ) → Step
   -- these are the first 32 bytes of row i
   Head : (i : ℕ) (bytes : List ℕ) → Step
   -- and these its contents
@@ -53,6 +62,9 @@ stepsHold t [] = true
 stepsHold t (Made k refusal value buffer ∷ ss) =
     let o = outcome t k in
     eqb (o .refusal) refusal && eqb (o .value) value && same (o .buffer) buffer && stepsHold (o .table) ss
+stepsHold t (Called k refusal called ∷ ss) =
+    let o = outcome t k in
+    eqb (o .refusal) refusal && same (o .called) called && stepsHold (o .table) ss
 stepsHold t (Head i bytes ∷ ss) = same (take 32 (rowBytes t i)) bytes && stepsHold t ss
 stepsHold t (Contents i bytes ∷ ss) = same (contentsOf t i) bytes && stepsHold t ss
 
@@ -100,6 +112,7 @@ histories =
           Head 4 (40 ∷ 0 ∷ 0 ∷ 1 ∷ 0 ∷ 0 ∷ 0 ∷ 0 ∷ 2 ∷ 0 ∷ 0 ∷ 0 ∷ 0 ∷ 0 ∷ 0 ∷ 0 ∷ 15 ∷ 0 ∷ 0 ∷ 0 ∷ 0 ∷ 0 ∷ 0 ∷ 0 ∷ 0 ∷ 0 ∷ 0 ∷ 0 ∷ 0 ∷ 0 ∷ 0 ∷ 0 ∷ []) ∷
           Contents 4 (0 ∷ 0 ∷ 0 ∷ []) ∷
           Made (rd 3 12 0 1 (5 ∷ [])) 7 0 (5 ∷ []) ∷
+          Called (rd 3 12 0 1 (5 ∷ [])) 7 (4 ∷ []) ∷
           Made (rd 2 15 0 3 (0 ∷ 0 ∷ 0 ∷ [])) 0 2 (9 ∷ 7 ∷ 8 ∷ []) ∷
           [];
     }

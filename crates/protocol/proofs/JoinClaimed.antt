@@ -32,7 +32,7 @@ use Rattle.joining.specs.Joining.{rowBefore}
 use Rattle.joining.proofs.OrderLaws.{Joined, joined-order}
 use Rattle.joining.proofs.RowLaws.{link-after, more-chain}
 use Rattle.protocol.specs.Lists.{seats, atSeat, levelChoice, listQuorum, listChoice}
-use Rattle.protocol.specs.Polls.{Poll, listed, highestEpoch, inForce, quorumHeld, ownTry, workedOn}
+use Rattle.protocol.specs.Polls.{Poll, listed, highestEpoch, inForce, quorumHeld, ownTry, stays, workedOn}
 use Rattle.protocol.specs.Calls.{Joining, join, questions, done, outcome}
 use Rattle.protocol.specs.Claims
 use Rattle.asking.specs.Asking.{firstNo}
@@ -80,7 +80,7 @@ only-empty-refused kind order p s f = ap (λ (b : Bool). b && listQuorum kind or
     out i false m = refl
 
 pub empty-works-on-r : Claims.EmptyWorksOnR
-unfolding Claims.EmptyWorksOnR Claims.OnlyEmptyRefused workedOn ownTry cutTo
+unfolding Claims.EmptyWorksOnR Claims.OnlyEmptyRefused workedOn stays ownTry cutTo
 empty-works-on-r kind order p c a r z =
     let none : (i : ℕ) → (listChoice kind order (p .list c) a i && r i) ≡ false = λ i. ap (λ (b : Bool). b && r i) (no-choice kind order (p .list c) a i z) in
     let six = only-empty-refused kind order p (λ i. listChoice kind order (p .list c) a i && r i) (λ i m. absurd (clash (sym (none i) ∙ m))) in

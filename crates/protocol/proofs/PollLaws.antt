@@ -14,7 +14,7 @@ use Rattle.quorums.specs.declared.Kind.{Kind}
 use Rattle.fields.specs.declared.Laid.{Laid}
 use Rattle.fields.specs.Layout.{isEmpty}
 use Rattle.protocol.specs.Lists.{listQuorum, listChoice}
-use Rattle.protocol.specs.Polls.{Poll, listed, highestEpoch, inForce, unmarked, marked, goodVersion, good, current, quorumHeld, ownTry, workedOn}
+use Rattle.protocol.specs.Polls.{Poll, listed, highestEpoch, inForce, unmarked, marked, goodVersion, good, current, quorumHeld, ownTry, stays, workedOn}
 
 -- the row whose list is in force
 pub record Leads (p : Poll) (s : ℕ → Bool) (i : ℕ) : Type 0 where
@@ -220,16 +220,20 @@ module _ (kind : Kind) (order : List ℕ) (p q : Poll) (c a : ℕ) (r : ℕ → 
   unfolding ownTry
   try-in i h = cut-in (listChoice kind order (q .list c) a) r i h
 
-  pub worked-same : workedOn kind order p c a r ≡ workedOn kind order q c a r
-  unfolding workedOn
-  worked-same =
+  pub stays-same : stays kind order p c a r ≡ stays kind order q c a r
+  unfolding stays
+  stays-same =
       let less = agree-less p q (ownTry kind order q c a r) r try-in g in
       rw (try-same, quorum-same p q (ownTry kind order q c a r) less kind order, current-same p q (ownTry kind order q c a r) less)
+
+  pub worked-same : workedOn kind order p c a r ≡ workedOn kind order q c a r
+  unfolding workedOn
+  worked-same = ap₂ (λ (x : Bool) (y : ℕ → Bool). cond x y r) stays-same try-same
 
 -- the set worked on is within R
 pub worked-in : (kind : Kind) (order : List ℕ) (p : Poll) (c a : ℕ) (r : ℕ → Bool) (i : ℕ) → workedOn kind order p c a r i ≡ true → r i ≡ true
 unfolding workedOn ownTry
-worked-in kind order p c a r i = go (quorumHeld kind order p tried && current p tried)
+worked-in kind order p c a r i = go (stays kind order p c a r)
   where
     tried : ℕ → Bool
     tried = cutTo (listChoice kind order (p .list c) a) r

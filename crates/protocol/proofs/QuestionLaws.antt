@@ -1,6 +1,6 @@
 -- The first no is the refusal: what a done call has passed, and what a refused one leaves.
 use mathlib.Core.Path.{_≡_, refl, sym, _∙_}
-use mathlib.Core.Bool.{true, false, not, cond, _&&_, _||_}
+use mathlib.Core.Bool.{Bool, true, false, not, cond, _&&_, _||_}
 use mathlib.Core.List.{List}
 use Prim.Native.Nat.{ℕ, zero, suc, _+_, _^_, _≤_, _<_}
 use native.Mathlib.Omega.{arith}
@@ -32,6 +32,15 @@ done-zero t (Calls.write a) = refl
 done-zero t (Calls.send a) = refl
 done-zero t (Calls.check a) = refl
 
+done-called : (t : List ℕ) (k : Calls.Call) → Calls.done t k .called ≡ Calls.calledAfter t k
+unfolding Calls.done
+done-called t (Calls.founding a) = refl
+done-called t (Calls.join a) = refl
+done-called t (Calls.read a) = refl
+done-called t (Calls.write a) = refl
+done-called t (Calls.send a) = refl
+done-called t (Calls.check a) = refl
+
 module _ (t : List ℕ) (k : Calls.Call) where
   -- the refusal is the first no
   pub refusal-is : Calls.outcome t k .refusal ≡ firstNo (Calls.questions t k)
@@ -45,6 +54,15 @@ module _ (t : List ℕ) (k : Calls.Call) where
   pub when-done : Calls.outcome t k .refusal ≡ 0 → Calls.outcome t k ≡ Calls.done t k
   unfolding Calls.outcome
   when-done h = let z : firstNo (Calls.questions t k) ≡ 0 = sym refusal-is ∙ h in rw (eq-eqb _ _ z)
+
+  -- the size of the set called is noted, done or refused
+  pub called-is : Calls.outcome t k .called ≡ Calls.calledAfter t k
+  unfolding Calls.outcome Calls.refused
+  called-is = go (eqb (firstNo (Calls.questions t k)) 0)
+    where
+      go : (b : Bool) → cond b (Calls.done t k) (Calls.refused t k (firstNo (Calls.questions t k))) .called ≡ Calls.calledAfter t k
+      go true = done-called t k
+      go false = refl
 
   -- a refusal has value 0 and alters no byte of table or buffer
   pub when-refused : (Calls.outcome t k .refusal ≡ 0 → ⊥) → (Calls.outcome t k .value ≡ 0) × (Calls.outcome t k .table ≡ t) × (Calls.outcome t k .buffer ≡ Calls.lent k)
@@ -91,7 +109,7 @@ module _ (t : List ℕ) (c r : ℕ) (qs : List Question) where
       )
 
   -- 1 to 3 come before any other
-  early-is : (n : ℕ) → 3 < n → before n (Calls.byCoordinator t c r qs) ≡ Calls.byCoordinator t c r (before n qs)
+  pub early-is : (n : ℕ) → 3 < n → before n (Calls.byCoordinator t c r qs) ≡ Calls.byCoordinator t c r (before n qs)
   unfolding Calls.byCoordinator
   early-is n h = rw (before-other n 1 (wellFormed t) _ (λ e. omega arith), before-other n 2 (Calls.isUsed t c && onlyRows (usedOf t) r) _ (λ e. omega arith), before-other n 3 (has r c) qs (λ e. omega arith))
 
@@ -127,6 +145,7 @@ join-yes t a h =
 pub record ReadYes (t : List ℕ) (a : Calls.Reading) : Type 0 where
   pub first : ByCoordinator t (a .c) (a .r)
   pub range : (1 ≤ a .count) × (a .offset + a .count ≤ fileLengthOf t)
+  pub byte : eqb (length (a .called)) 1 ≡ true
   pub quorum : quorumHeld Read (orderOf t) (Calls.answers t (a .r)) (Calls.workSet Read t (a .c) (a .r)) ≡ true
   pub current : current (Calls.answers t (a .r)) (Calls.workSet Read t (a .c) (a .r)) ≡ true
 
@@ -139,14 +158,21 @@ unfolding Calls.questions
 read-yes t a h =
     let x = passed-first t (a .c) (a .r) _ h in
     let d = yes-first 3 (Calls.inFile t (a .offset) (a .count)) _ (x .1) in
-    let e = yes-first 4 (eqb (length (a .buffer)) (a .count)) _ (d .1) in
+    let e = yes-first 4 (eqb (length (a .buffer)) (a .count) && eqb (length (a .called)) 1) _ (d .1) in
     let q = yes-first 5 (quorumHeld Read (orderOf t) (Calls.answers t (a .r)) (Calls.workSet Read t (a .c) (a .r))) _ (e .1) in
     let m = yes-first 6 (current (Calls.answers t (a .r)) (Calls.workSet Read t (a .c) (a .r))) _ (q .1) in
-    record { first = x .0; range = range-is t (a .offset) (a .count) (d .0); quorum = q .0; current = m .0 }
+    record {
+      first = x .0;
+      range = range-is t (a .offset) (a .count) (d .0);
+      byte = and-r (eqb (length (a .buffer)) (a .count)) _ (e .0);
+      quorum = q .0;
+      current = m .0;
+    }
 
 pub record WriteYes (t : List ℕ) (a : Calls.Writing) : Type 0 where
   pub first : ByCoordinator t (a .c) (a .r)
   pub range : (1 ≤ length (a .patch)) × (a .offset + length (a .patch) ≤ fileLengthOf t)
+  pub byte : eqb (length (a .called)) 1 ≡ true
   pub quorum : quorumHeld Write (orderOf t) (Calls.answers t (a .r)) (Calls.workSet Write t (a .c) (a .r)) ≡ true
   pub current : current (Calls.answers t (a .r)) (Calls.workSet Write t (a .c) (a .r)) ≡ true
   pub room : goodVersion (Calls.answers t (a .r)) (Calls.workSet Write t (a .c) (a .r)) < limit
@@ -156,10 +182,18 @@ unfolding Calls.questions
 write-yes t a h =
     let x = passed-first t (a .c) (a .r) _ h in
     let d = yes-first 3 (Calls.inFile t (a .offset) (length (a .patch))) _ (x .1) in
-    let q = yes-first 5 (quorumHeld Write (orderOf t) (Calls.answers t (a .r)) (Calls.workSet Write t (a .c) (a .r))) _ (d .1) in
+    let e = yes-first 4 (eqb (length (a .called)) 1) _ (d .1) in
+    let q = yes-first 5 (quorumHeld Write (orderOf t) (Calls.answers t (a .r)) (Calls.workSet Write t (a .c) (a .r))) _ (e .1) in
     let m = yes-first 6 (current (Calls.answers t (a .r)) (Calls.workSet Write t (a .c) (a .r))) _ (q .1) in
     let l = yes-first 7 (ltb (goodVersion (Calls.answers t (a .r)) (Calls.workSet Write t (a .c) (a .r))) limit) _ (m .1) in
-    record { first = x .0; range = range-is t (a .offset) (length (a .patch)) (d .0); quorum = q .0; current = m .0; room = ltb-true _ _ (l .0) }
+    record {
+      first = x .0;
+      range = range-is t (a .offset) (length (a .patch)) (d .0);
+      byte = e .0;
+      quorum = q .0;
+      current = m .0;
+      room = ltb-true _ _ (l .0);
+    }
 
 pub record SendYes (t : List ℕ) (a : Calls.Sending) : Type 0 where
   pub formed : wellFormed t ≡ true

@@ -5,10 +5,10 @@ use mathlib.Core.List.{List, [], _∷_}
 use Prim.Native.Nat.{ℕ, zero, suc, _+_, _≤_}
 use native.Mathlib.Nat.{zero-add}
 use native.Mathlib.Omega.{arith}
-use lib.Dec.{eqb, leb, ltb}
+use lib.Dec.{eqb, leb, ltb, eqb·suc-zero}
 use lib.ListN.{take}
 use borrow.Author.Tests.{ltb-true}
-use Rattle.sets.specs.Upto.{Within, lowest}
+use Rattle.sets.specs.Upto.{Within, count, lowest}
 use Rattle.sets.specs.Sets.{has}
 use Rattle.sets.proofs.SetLaws.{has-within}
 use Rattle.quorums.specs.declared.Kind.{Kind}
@@ -20,15 +20,15 @@ use Rattle.table.specs.Chain.{chain, orderOf}
 use Rattle.table.specs.WellFormed.{between, limit, onlyRows}
 use Rattle.bytes.proofs.ByteLaws.{part-part}
 use Rattle.table.proofs.FormLaws.{Formed, formed, header-facts}
-use Rattle.protocol.specs.Lists.{laidNow}
-use Rattle.protocol.specs.Polls.{Poll, polled, highestEpoch, inForce, goodVersion, good, current, workedOn}
+use Rattle.protocol.specs.Lists.{laidNow, listChoice}
+use Rattle.protocol.specs.Polls.{Poll, polled, highestEpoch, inForce, goodVersion, good, current, stays, workedOn}
 use Rattle.protocol.specs.Rows.{wroteRow, checkedRow, refreshedRow}
-use Rattle.asking.specs.Asking.{Question, firstNo}
-use Rattle.protocol.specs.Calls.{Sending, Call, read, write, send, check, byCoordinator, isUsed, inFile, questions, done, outcome, answers, workSet}
+use Rattle.asking.specs.Asking.{Question, firstNo, before}
+use Rattle.protocol.specs.Calls.{Sending, Call, read, write, send, check, byCoordinator, isUsed, inFile, questions, calledBy, noted, fromSix, calledAfter, done, outcome, answers, workSet}
 use Rattle.protocol.specs.Claims.{Answering, byRead, byWrite, bySend, byCheck, EqualIn, SameFor, UnansweredHaveNoPart}
 use Rattle.table.proofs.TableLaws.{Changed}
 use Rattle.protocol.proofs.PollLaws.{lowest-good, worked-in}
-use Rattle.protocol.proofs.QuestionLaws.{refusal-is, when-done, when-refused, answered-used, ReadYes, read-yes, WriteYes, write-yes, SendYes, send-yes, CheckYes, check-yes}
+use Rattle.protocol.proofs.QuestionLaws.{refusal-is, called-is, when-done, when-refused, early-is, early-passed, answered-used, ReadYes, read-yes, WriteYes, write-yes, SendYes, send-yes, CheckYes, check-yes}
 use Rattle.protocol.proofs.DoneLaws.{writeTable, write-rows, sendTable, send-changed, checkTable, check-rows}
 
 -- chains along links that agree on the used rows
@@ -121,6 +121,23 @@ module _ {r : ℕ} {t u : List ℕ} (E : EqualIn r t u) where
       go true false m = refl
       go false y m = refl
 
+  -- ---- and so is the size of the set called
+  called-by-same : (kind : Kind) (c : ℕ) → has r c ≡ true → calledBy kind u c r ≡ calledBy kind t c r
+  unfolding calledBy nameOf
+  called-by-same kind c m = rw (order-same, poll-same, used-same) (ap (λ (x : List ℕ). let a = get Layout.name x in
+      cond (stays kind (orderOf t) (answers t r) c a (has r)) (count 64 (listChoice kind (orderOf t) (answers t r .list c) a)) (usedOf t)) (sym (E .rows c m)))
+
+  from-six-same : (c : ℕ) (qs rs : List Question) (x y : ℕ) → (has r c ≡ true → firstNo (before 6 qs) ≡ firstNo (before 6 rs)) → (has r c ≡ true → x ≡ y)
+      → fromSix (byCoordinator u c r qs) x ≡ fromSix (byCoordinator t c r rs) y
+  unfolding fromSix
+  from-six-same c qs rs x y f g =
+      let e : firstNo (before 6 (byCoordinator u c r qs)) ≡ firstNo (before 6 (byCoordinator t c r rs)) = rw (early-is u c r qs 6 (omega arith), early-is t c r rs 6 (omega arith)) (first-same-by c (before 6 qs) (before 6 rs) f) in
+      ap (λ (n : ℕ). cond (eqb n 0) x 0) e ∙ go (firstNo (before 6 (byCoordinator t c r rs))) refl
+    where
+      go : (n : ℕ) → firstNo (before 6 (byCoordinator t c r rs)) ≡ n → cond (eqb n 0) x 0 ≡ cond (eqb n 0) y 0
+      go zero q = g (early-passed t c r rs 6 (omega arith) q .0 .answered)
+      go (suc n) q = rw (eqb·suc-zero n)
+
   row-of : (i : ℕ) → has r i ≡ true → (staleOf u i ≡ staleOf t i) × (versionOf u i ≡ versionOf t i) × (desiredOf u i ≡ desiredOf t i)
   unfolding staleOf versionOf desiredOf
   row-of i m =
@@ -131,14 +148,15 @@ module _ {r : ℕ} {t u : List ℕ} (E : EqualIn r t u) where
   work-in kind c i m = worked-in kind (orderOf t) (answers t r) c (nameOf t c) (has r) i m
 
   -- ---- refused: the tables are as they were
-  refused-same : (k : Call) → (outcome t k .refusal ≡ 0 → ⊥) → (outcome u k .refusal ≡ 0 → ⊥) → outcome u k .refusal ≡ outcome t k .refusal → SameFor r (outcome t k) (outcome u k)
-  refused-same k dt du e =
+  refused-same : (k : Call) → (outcome t k .refusal ≡ 0 → ⊥) → (outcome u k .refusal ≡ 0 → ⊥) → outcome u k .refusal ≡ outcome t k .refusal → calledAfter t k ≡ calledAfter u k → SameFor r (outcome t k) (outcome u k)
+  refused-same k dt du e n =
       let a = when-refused t k dt in
       let b = when-refused u k du in
       record {
         refusal = sym e;
         value = a .0 ∙ sym (b .0);
         buffer = a .2 ∙ sym (b .2);
+        called = called-is t k ∙ n ∙ sym (called-is u k);
         rows = λ i m. ap (λ (x : List ℕ). rowBytes x i) (a .1) ∙ E .rows i m ∙ sym (ap (λ (x : List ℕ). rowBytes x i) (b .1));
       }
 
@@ -172,6 +190,13 @@ asks-same t u (write a) r byWrite E = first-same-by E (a .c) _ _ (λ m. rw (work
 asks-same t u (send a) r bySend E = send-same t u a E
 asks-same t u (check a) r byCheck E = first-same-by E (a .c) _ _ (λ m. rw (poll-same E, order-same E))
 
+called-same : (t u : List ℕ) (k : Call) (r : ℕ) → Answering k r → EqualIn r t u → calledAfter t k ≡ calledAfter u k
+unfolding calledAfter questions before inFile
+called-same t u (read a) r byRead E = sym (ap (noted (a .called)) (from-six-same E (a .c) _ _ _ _ (λ m. rw (file-same E)) (called-by-same E Read (a .c))))
+called-same t u (write a) r byWrite E = sym (ap (noted (a .called)) (from-six-same E (a .c) _ _ _ _ (λ m. rw (file-same E)) (called-by-same E Write (a .c))))
+called-same t u (send a) r bySend E = refl
+called-same t u (check a) r byCheck E = refl
+
 -- ---- done
 done-same : (t u : List ℕ) (k : Call) (r : ℕ) → Answering k r → EqualIn r t u → firstNo (questions t k) ≡ 0 → firstNo (questions u k) ≡ 0 → SameFor r (done t k) (done u k)
 unfolding done writeTable sendTable checkTable contentsOf
@@ -179,6 +204,7 @@ done-same t u (read a) r byRead E ht hu = record {
   refusal = refl;
   value = rw (work-same E Read (a .c) (y .first .answered), poll-same E);
   buffer = rw (work-same E Read (a .c) (y .first .answered), poll-same E) (ap (λ (x : List ℕ). part (a .offset) (a .count) (Layout.contents x)) lowest-row);
+  called = called-same t u (read a) r byRead E;
   rows = λ i m. E .rows i m;
 }
   where
@@ -194,6 +220,7 @@ done-same t u (write a) r byWrite E ht hu = record {
   refusal = refl;
   value = rw (work-same E Write (a .c) (y .first .answered), poll-same E);
   buffer = refl;
+  called = called-same t u (write a) r byWrite E;
   rows = λ i m. changed-same E (write-rows t a y) alike i (answered-used t (a .c) (a .r) [] (y .first) i m) m;
 }
   where
@@ -207,6 +234,7 @@ done-same t u (send a) r bySend E ht hu = record {
   refusal = refl;
   value = sym (row-of E (a .f) (y .from-answered) .1);
   buffer = refl;
+  called = called-same t u (send a) r bySend E;
   rows = λ i m. changed-same E (send-changed t a y) alike i (has-within (usedOf t) (a .r) i (y .rows) m) m;
 }
   where
@@ -227,7 +255,7 @@ done-same t u (check a) r byCheck E ht hu = go (eqb (a .r) (inForce (answers t (
     same-u b q = ap (λ (p : Poll). eqb (a .r) (inForce p (has (a .r)) .members)) (poll-same E) ∙ q
 
     go : (b : Bool) → eqb (a .r) (inForce (answers t (a .r)) (has (a .r)) .members) ≡ b → SameFor (a .r) (done t (check a)) (done u (check a))
-    go true q = rw (q, same-u true q) (record { refusal = refl; value = ap (λ (p : Poll). highestEpoch p (has (a .r))) (sym (poll-same E)); buffer = refl; rows = λ i m. E .rows i m })
+    go true q = rw (q, same-u true q) (record { refusal = refl; value = ap (λ (p : Poll). highestEpoch p (has (a .r))) (sym (poll-same E)); buffer = refl; called = called-same t u (check a) r byCheck E; rows = λ i m. E .rows i m })
     go false q =
         let room : ltb (highestEpoch (answers t (a .r)) (has (a .r))) limit ≡ true = rw q at (y .room) in
         let room-u : ltb (highestEpoch (answers u (a .r)) (has (a .r))) limit ≡ true = rw (same-u false q) at (z .room) in
@@ -235,6 +263,7 @@ done-same t u (check a) r byCheck E ht hu = go (eqb (a .r) (inForce (answers t (
           refusal = refl;
           value = ap (λ (p : Poll). highestEpoch p (has (a .r)) + 1) (sym (poll-same E));
           buffer = refl;
+          called = called-same t u (check a) r byCheck E;
           rows = λ i m. changed-same E (check-rows t a y (ltb-true _ _ room))
               (changed-as E refl (ap (λ (p : Poll). checkedRow (good p (has (a .r))) (goodVersion p (has (a .r))) (highestEpoch p (has (a .r)) + 1) (laidNow (isTall (inForce p (has (a .r)))) (a .r))) (poll-same E)) (check-rows u a z (ltb-true _ _ room-u)))
               i (answered-used t (a .c) (a .r) [] (y .first) i m) m;
@@ -249,4 +278,4 @@ unanswered-have-no-part t u k r a E = go (outcome t k .refusal) refl
 
     go : (n : ℕ) → outcome t k .refusal ≡ n → SameFor r (outcome t k) (outcome u k)
     go zero q = rw (when-done t k q, when-done u k (same ∙ q)) (done-same t u k r a E (sym (refusal-is t k) ∙ q) (sym (refusal-is u k) ∙ same ∙ q))
-    go (suc n) q = refused-same E k (λ z. omega arith) (λ z. omega (arith, same)) same
+    go (suc n) q = refused-same E k (λ z. omega arith) (λ z. omega (arith, same)) same (called-same t u k r a E)

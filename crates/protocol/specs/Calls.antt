@@ -4,7 +4,7 @@ use mathlib.Core.List.{List, [], _∷_, _++_}
 use Prim.Native.Nat.{ℕ, suc, _+_, _-_, _*_, _%_, _^_}
 use lib.Dec.{eqb, leb, ltb}
 use lib.ListN.{length}
-use Rattle.sets.specs.Upto.{some, lowest}
+use Rattle.sets.specs.Upto.{some, count, lowest}
 use Rattle.sets.specs.Sets.{has}
 use Rattle.quorums.specs.declared.Kind.{Kind}
 use Rattle.quorums.specs.declared.Kind.the-variants.{Read, Write}
@@ -13,9 +13,9 @@ use Rattle.fields.specs.declared.Laid.{Laid}
 use Rattle.fields.specs.Layout.{isTall, formValue, bodyLength, stride, capacityOf, usedOf, fileLengthOf, nameOf, staleOf, versionOf, desiredOf, contentsOf, rowBytes, withRow, withRows}
 use Rattle.table.specs.Chain.{orderOf}
 use Rattle.table.specs.WellFormed.{between, limit, onlyRows, wellFormed}
-use Rattle.asking.specs.Asking.{Question, firstNo, result}
-use Rattle.protocol.specs.Lists.{laidNow}
-use Rattle.protocol.specs.Polls.{Poll, polled, highestEpoch, inForce, goodVersion, good, current, quorumHeld, workedOn}
+use Rattle.asking.specs.Asking.{Question, firstNo, before, result}
+use Rattle.protocol.specs.Lists.{laidNow, listChoice}
+use Rattle.protocol.specs.Polls.{Poll, polled, highestEpoch, inForce, goodVersion, good, current, quorumHeld, stays, workedOn}
 use Rattle.protocol.specs.Rows.{refreshedRow, wroteRow, checkedRow}
 use Rattle.joining.specs.Joining.{joined}
 
@@ -35,12 +35,15 @@ pub record Reading : Type 0 where
   pub count : ℕ
   -- lent, with whatever bytes it holds
   pub buffer : List ℕ
+  -- lent for the size of the set called
+  pub called : List ℕ
 
 pub record Writing : Type 0 where
   pub c : ℕ
   pub r : ℕ
   pub offset : ℕ
   pub patch : List ℕ
+  pub called : List ℕ
 
 pub record Sending : Type 0 where
   -- from row f to row t
@@ -63,12 +66,13 @@ pub data Call : Type 0 where
   send : Sending → Call
   check : Checking → Call
 
--- what a call leaves: refusal number (0: done), value, the table's bytes, the read buffer's bytes
+-- what a call leaves: refusal number (0: done), value, the table's bytes, the read buffer's bytes, and those lent for the size of the set called
 pub record Outcome : Type 0 where
   pub refusal : ℕ
   pub value : ℕ
   pub table : List ℕ
   pub buffer : List ℕ
+  pub called : List ℕ
 
 -- the read buffer that a call is lent
 unfoldable pub lent : Call → List ℕ
@@ -78,14 +82,6 @@ lent (read a) = a .buffer
 lent (write a) = []
 lent (send a) = []
 lent (check a) = []
-
--- what a call leaves that alters no more than the table: all else is as it was lent
-abbrev pub leaves : Call → ℕ → ℕ → List ℕ → Outcome
-leaves k refusal value table = record { refusal = refusal; value = value; table = table; buffer = lent k }
-
--- the same with these bytes in the read buffer
-abbrev pub buffered : List ℕ → Outcome → Outcome
-buffered bytes o = record { refusal = o .refusal; value = o .value; table = o .table; buffer = bytes }
 
 -- "A result is one 64-bit number: refusal number times 2^32, plus value."
 unfoldable pub resultOf : Outcome → ℕ
@@ -167,7 +163,7 @@ questions t (read a) =
     let s = workSet Read t (a .c) (a .r) in
     byCoordinator t (a .c) (a .r) (
     record { ask = 4; yes = inFile t (a .offset) (a .count) }
-    ∷ record { ask = 5; yes = eqb (length (a .buffer)) (a .count) }
+    ∷ record { ask = 5; yes = eqb (length (a .buffer)) (a .count) && eqb (length (a .called)) 1 }
     ∷ record { ask = 6; yes = quorumHeld Read (orderOf t) p s }
     ∷ record { ask = 7; yes = current p s }
     ∷ [])
@@ -176,6 +172,7 @@ questions t (write a) =
     let s = workSet Write t (a .c) (a .r) in
     byCoordinator t (a .c) (a .r) (
     record { ask = 4; yes = inFile t (a .offset) (length (a .patch)) }
+    ∷ record { ask = 5; yes = eqb (length (a .called)) 1 }
     ∷ record { ask = 6; yes = quorumHeld Write (orderOf t) p s }
     ∷ record { ask = 7; yes = current p s }
     ∷ record { ask = 8; yes = ltb (goodVersion p s) limit }
@@ -196,35 +193,66 @@ questions t (check a) =
     ∷ record { ask = 8; yes = same || ltb (highestEpoch p (has (a .r))) limit }
     ∷ [])
 
+-- ---- "the size of the set called": it goes into a lent byte, "by refused calls too"
+-- "the coordinator's own choice, or all used rows if it went on to R"
+unfoldable pub calledBy : Kind → List ℕ → ℕ → ℕ → ℕ
+calledBy kind t c r = let p = answers t r in
+    cond (stays kind (orderOf t) p c (nameOf t c) (has r)) (count 64 (listChoice kind (orderOf t) (p .list c) (nameOf t c))) (usedOf t)
+
+-- "In C it is a list of one byte; one of another length is left alone"
+unfoldable pub noted : List ℕ → ℕ → List ℕ
+noted bytes n = cond (eqb (length bytes) 1) (n ∷ []) bytes
+
+-- "as 0 before question 6"
+unfoldable pub fromSix : List Question → ℕ → ℕ
+fromSix qs n = cond (eqb (firstNo (before 6 qs)) 0) n 0
+
+-- the bytes lent for it, after the call; only a read and a write are lent some
+unfoldable pub calledAfter : List ℕ → Call → List ℕ
+calledAfter t (founding a) = []
+calledAfter t (join a) = []
+calledAfter t (read a) = noted (a .called) (fromSix (questions t (read a)) (calledBy Read t (a .c) (a .r)))
+calledAfter t (write a) = noted (a .called) (fromSix (questions t (write a)) (calledBy Write t (a .c) (a .r)))
+calledAfter t (send a) = []
+calledAfter t (check a) = []
+
 -- ---- what a done call leaves
+-- what a call on table t leaves that alters no more than the table, and notes the size of the set called: all else is as it was lent
+abbrev pub leaves : List ℕ → Call → ℕ → ℕ → List ℕ → Outcome
+leaves t k refusal value table = record { refusal = refusal; value = value; table = table; buffer = lent k; called = calledAfter t k }
+
+-- the same with these bytes in the read buffer
+abbrev pub buffered : List ℕ → Outcome → Outcome
+buffered bytes o = record { refusal = o .refusal; value = o .value; table = o .table; buffer = bytes; called = o .called }
+
 unfoldable pub done : List ℕ → Call → Outcome
-done t (founding a) = leaves (founding a) 0 (length (namesIn (a .names))) (founded (a .choice) (a .capacity) (a .fileLength) (namesIn (a .names)))
+done t (founding a) = leaves t (founding a) 0 (length (namesIn (a .names))) (founded (a .choice) (a .capacity) (a .fileLength) (namesIn (a .names)))
 -- "its value is the new index"
-done t (join a) = leaves (join a) 0 (suc (usedOf t)) (joined t (a .name))
+done t (join a) = leaves t (join a) 0 (suc (usedOf t)) (joined t (a .name))
 -- "copies the range from the good row of lowest index. Value: its version."
 done t (read a) =
     let p = answers t (a .r) in
     let s = workSet Read t (a .c) (a .r) in
-    buffered (part (a .offset) (a .count) (contentsOf t (lowest 64 (good p s)))) (leaves (read a) 0 (goodVersion p s) t)
+    buffered (part (a .offset) (a .count) (contentsOf t (lowest 64 (good p s)))) (leaves t (read a) 0 (goodVersion p s) t)
 -- "Value: the new version."
 done t (write a) =
     let p = answers t (a .r) in
     let s = workSet Write t (a .c) (a .r) in
     let v = goodVersion p s + 1 in
-    leaves (write a) 0 v (withRows t s (wroteRow (good p s) v (a .offset) (a .patch)) (usedOf t))
+    leaves t (write a) 0 v (withRows t s (wroteRow (good p s) v (a .offset) (a .patch)) (usedOf t))
 -- "Value: that version."
-done t (send a) = leaves (send a) 0 (versionOf t (a .f)) (withRow t (a .t) (refreshedRow (rowBytes t (a .f))))
+done t (send a) = leaves t (send a) 0 (versionOf t (a .f)) (withRow t (a .t) (refreshedRow (rowBytes t (a .f))))
 -- "if R equals V, nothing changes. .. Value: the epoch number in force."
 done t (check a) =
     let p = answers t (a .r) in
     let e = highestEpoch p (has (a .r)) in
     let same = eqb (a .r) (inForce p (has (a .r)) .members) in
-    leaves (check a) 0 (cond same e (e + 1))
+    leaves t (check a) 0 (cond same e (e + 1))
     (cond same t (withRows t (has (a .r)) (checkedRow (good p (has (a .r))) (goodVersion p (has (a .r))) (e + 1) (laidNow (isTall (inForce p (has (a .r)))) (a .r))) (usedOf t)))
 
--- "A refusal has value 0 and alters no byte of the table, of a read's buffer .."
+-- "A refusal has value 0 and alters no byte of the table, of a read's buffer .."; the size of the set called is noted by a refused call too
 unfoldable pub refused : List ℕ → Call → ℕ → Outcome
-refused t k n = leaves k n 0 t
+refused t k n = leaves t k n 0 t
 
 unfoldable pub outcome : List ℕ → Call → Outcome
 outcome t k = let n = firstNo (questions t k) in cond (eqb n 0) (done t k) (refused t k n)

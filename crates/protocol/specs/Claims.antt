@@ -23,7 +23,7 @@ unfoldable pub numbersPut : Call → List ℕ
 numbersPut (founding a) = 11 ∷ 12 ∷ []
 numbersPut (join a) = 1 ∷ 13 ∷ 14 ∷ []
 numbersPut (read a) = 1 ∷ 2 ∷ 3 ∷ 4 ∷ 5 ∷ 6 ∷ 7 ∷ []
-numbersPut (write a) = 1 ∷ 2 ∷ 3 ∷ 4 ∷ 6 ∷ 7 ∷ 8 ∷ []
+numbersPut (write a) = 1 ∷ 2 ∷ 3 ∷ 4 ∷ 5 ∷ 6 ∷ 7 ∷ 8 ∷ []
 numbersPut (send a) = 1 ∷ 2 ∷ 3 ∷ 9 ∷ 10 ∷ []
 numbersPut (check a) = 1 ∷ 2 ∷ 3 ∷ 6 ∷ 7 ∷ 8 ∷ []
 
@@ -39,7 +39,7 @@ pub record Told (o : Outcome) : Type 0 where
 unfoldable pub ResultTells : Type 0
 ResultTells = (t : List ℕ) (k : Call) → Told (outcome t k)
 
--- "A refusal leaves every byte of both unaltered"; "has value 0"
+-- "A refusal leaves every byte of both unaltered"; "has value 0". The byte lent for the size of the set called is written "by refused calls too"
 pub record Untouched (t : List ℕ) (k : Call) (o : Outcome) : Type 0 where
   pub value : o .value ≡ 0
   pub table : o .table ≡ t
@@ -80,6 +80,7 @@ pub record SameFor (r : ℕ) (o p : Outcome) : Type 0 where
   pub refusal : o .refusal ≡ p .refusal
   pub value : o .value ≡ p .value
   pub buffer : o .buffer ≡ p .buffer
+  pub called : o .called ≡ p .called
   pub rows : (i : ℕ) → has r i ≡ true → rowBytes (o .table) i ≡ rowBytes (p .table) i
 
 unfoldable pub UnansweredHaveNoPart : Type 0

@@ -71,6 +71,10 @@ module _ (kind : Kind) (order : List ℕ) (p : Poll) where
   unfoldable pub ownTry : ℕ → ℕ → (ℕ → Bool) → ℕ → Bool
   ownTry c a r = cutTo (listChoice kind order (p .list c) a) r
 
-  -- "If questions 6 and 7 are yes for P, the call works on P; otherwise on R."
+  -- "If questions 6 and 7 are yes for P": then the call stays with P
+  unfoldable pub stays : ℕ → ℕ → (ℕ → Bool) → Bool
+  stays c a r = let tried = ownTry c a r in quorumHeld tried && current p tried
+
+  -- ".. the call works on P; otherwise on R."
   unfoldable pub workedOn : ℕ → ℕ → (ℕ → Bool) → ℕ → Bool
-  workedOn c a r = let tried = ownTry c a r in cond (quorumHeld tried && current p tried) tried r
+  workedOn c a r = cond (stays c a r) (ownTry c a r) r

@@ -1,19 +1,19 @@
 -- The questions before the poll, as the code puts them.
 use mathlib.Core.Path.{_≡_, refl, sym, _∙_, ap, ap₂}
 use mathlib.Core.Bool.{Bool, true, false, cond, _&&_}
-use mathlib.Core.List.{List, [], _∷_, _++_}
+use mathlib.Core.List.{List, [], _∷_}
 use Prim.Native.Nat.{ℕ, _+_, _*_, _^_, _≤_}
 use native.Mathlib.Omega.{arith}
-use lib.Dec.{leb}
-use borrow.Author.Tests.{leb-true, le-leb}
+use lib.Dec.{eqb, leb}
+use borrow.Author.Tests.{leb-true, le-leb, ne-eqb}
 use Rattle.sets.specs.Sets.{has}
 use Rattle.bools.proofs.BoolLaws.{and-l, and-r, and-i, same-test}
 use Rattle.fields.specs.Layout.{usedOf}
 use Rattle.table.specs.WellFormed.{onlyRows, wellFormed}
-use Rattle.asking.specs.Asking.{Question, firstNo}
-use Rattle.protocol.specs.Calls.{Call, questions, byCoordinator, isUsed, inFile, lent, outcome, resultOf}
+use Rattle.asking.specs.Asking.{Question, firstNo, before}
+use Rattle.protocol.specs.Calls.{Call, questions, byCoordinator, isUsed, inFile, fromSix, lent, outcome, resultOf}
 use Rattle.asking.proofs.AskingLaws.{yes-first, no-first, asked-more}
-use Rattle.protocol.proofs.QuestionLaws.{ByCoordinator, passed-first, refusal-is, when-refused}
+use Rattle.protocol.proofs.QuestionLaws.{ByCoordinator, passed-first, early-is, refusal-is, when-refused}
 use Rattle.questions.specs.Stages.{toRange}
 
 pub range-test : (file offset count : ℕ) (b : Bool) → (b ≡ true → (1 ≤ count) × (offset + count ≤ file)) → (1 ≤ count → offset + count ≤ file → b ≡ true)
@@ -67,6 +67,31 @@ module _ (t : List ℕ) (c r : ℕ) where
         → firstNo (byCoordinator t c r (record { ask = 4; yes = inFile t offset count } ∷ qs)) ≡ n
     unfolding toRange byCoordinator
     before-range qs n e h = asked-more (byCoordinator t c r (record { ask = 4; yes = inFile t offset count } ∷ [])) qs (omega (arith, e)) ∙ sym e
+
+-- ---- how many machines were called, noted from question 6 on
+module _ (t : List ℕ) (c r offset count : ℕ) (five six : Bool) (qs : List Question) where
+  abbrev asks : List Question
+  asks = byCoordinator t c r (record { ask = 4; yes = inFile t offset count } ∷ record { ask = 5; yes = five } ∷ record { ask = 6; yes = six } ∷ qs)
+
+  before-six : before 6 asks ≡ byCoordinator t c r (record { ask = 4; yes = inFile t offset count } ∷ record { ask = 5; yes = five } ∷ [])
+  unfolding before
+  before-six = early-is t c r _ 6 (omega arith)
+
+  noted-if : (n m : ℕ) → firstNo (byCoordinator t c r (record { ask = 4; yes = inFile t offset count } ∷ record { ask = 5; yes = five } ∷ [])) ≡ n → fromSix asks m ≡ cond (eqb n 0) m 0
+  unfolding fromSix
+  noted-if n m e = ap (λ (k : ℕ). cond (eqb k 0) m 0) (ap firstNo before-six ∙ e)
+
+  -- 0 where 1 to 4, or 5, is no
+  pub none-noted : (n m : ℕ) → n ≡ firstNo (toRange t c r offset count) → 1 ≤ n → fromSix asks m ≡ 0
+  none-noted n m e h = noted-if n m (before-range t c r offset count _ n e h) ∙ ap (λ (b : Bool). cond b m 0) (ne-eqb n 0 (λ z. omega arith))
+
+  pub none-noted-five : (m : ℕ) → firstNo (toRange t c r offset count) ≡ 0 → five ≡ false → fromSix asks m ≡ 0
+  unfolding firstNo
+  none-noted-five m p e = noted-if 5 m (after-range t c r offset count _ p ∙ ap (λ (b : Bool). cond b 0 5) e)
+
+  pub six-noted : (m : ℕ) → firstNo (toRange t c r offset count) ≡ 0 → five ≡ true → fromSix asks m ≡ m
+  unfolding firstNo
+  six-noted m p e = noted-if 0 m (after-range t c r offset count _ p ∙ ap (λ (b : Bool). cond b 0 5) e)
 
 -- a refusal's result, and what it leaves
 pub record Refused (t : List ℕ) (k : Call) (n : ℕ) : Type 0 where

@@ -1,4 +1,5 @@
-// The questions that a call is asked before its poll, and the limit.
+// The questions that a call is asked before its poll, the limit, and the answer of a read or a write.
+use asking::result;
 use bools::both;
 use rows::RowSet;
 ghost use mathlib.Core.Path.{_≡_};
@@ -8,9 +9,33 @@ ghost use Prim.Native.Nat.{_+_};
 ghost use lib.Dec.{leb, ltb};
 ghost use Rattle.table.specs.WellFormed.{limit};
 ghost use Rattle.table.specs.Contracts.{Ordered};
-ghost use Rattle.asking.specs.Asking.{firstNo};
-ghost use Rattle.protocol.specs.Calls.{byCoordinator};
+ghost use Rattle.asking.specs.Asking.{firstNo, result};
+ghost use Rattle.protocol.specs.Calls.{byCoordinator, noted};
 ghost use Rattle.questions.specs.Stages.{toRange};
+
+// What a read or a write answers: its result, and how many machines were called.
+pub struct Answered {
+    pub result: u64,
+    pub called: u8,
+}
+
+pub fn answer_of(refusal: u32, value: u32, called: u8) -> Answered
+    ensures { λ r. ⌜ r ≡ record { result = result refusal value; called = called } ⌝ }
+{
+    Answered {
+        result: result(refusal, value),
+        called: called,
+    }
+}
+
+// How many machines were called, noted in a list of one byte; one of another length is left alone.
+pub fn note(bytes: &mut [u8], called: u8)
+    ensures { λ r. ⌜ now (bytes .exit) ≡ noted (now (bytes .entry)) called ⌝ }
+{
+    if bytes.len() == 1 {
+        bytes[0] = called;
+    }
+}
 
 // Question 8: may a version or an epoch number still grow?
 pub fn below_limit(number: u32) -> bool

@@ -1,12 +1,13 @@
 -- A read, as the code goes through it.
 use mathlib.Core.Path.{_≡_, sym, _∙_, ap, ap₂}
-use mathlib.Core.Bool.{Bool, cond}
+use mathlib.Core.Bool.{Bool, true, false, cond, _&&_}
 use mathlib.Core.List.{List}
 use Prim.Native.Nat.{ℕ, _+_, _*_, _^_, _≤_}
 use native.Mathlib.Omega.{arith}
 use lib.Dec.{eqb}
 use lib.ListN.{length}
-use borrow.Author.Tests.{eq-eqb, ne-eqb}
+use borrow.Author.Tests.{eqb-true}
+use Rattle.bools.proofs.BoolLaws.{and-l}
 use Rattle.sets.specs.Upto.{Within, lowest}
 use Rattle.sets.specs.Sets.{has}
 use Rattle.sets.proofs.SetLaws.{has-within}
@@ -18,13 +19,13 @@ use Rattle.table.specs.Chain.{orderOf}
 use Rattle.table.proofs.WellFormedLaws.{sized, length-row}
 use Rattle.protocol.specs.Polls.{good, current, quorumHeld}
 use Rattle.asking.specs.Asking.{firstNo}
-use Rattle.protocol.specs.Calls.{Reading, Outcome, read, questions, answers, workSet, done, outcome, resultOf}
+use Rattle.protocol.specs.Calls.{Reading, Outcome, read, questions, answers, workSet, calledBy, noted, fromSix, calledAfter, done, outcome, resultOf}
 use Rattle.protocol.proofs.PollLaws.{lowest-good, worked-in}
-use Rattle.protocol.proofs.QuestionLaws.{read-yes, refusal-is, when-done}
+use Rattle.protocol.proofs.QuestionLaws.{read-yes, refusal-is, called-is, when-done}
 use Rattle.settle.specs.declared.Settled.{Settled}
 use Rattle.settle.specs.Works.{Works}
 use Rattle.questions.specs.Stages.{toRange}
-use Rattle.questions.proofs.QuestionLaws.{after-range, before-range, Refused, refused-is}
+use Rattle.questions.proofs.QuestionLaws.{after-range, before-range, none-noted, none-noted-five, six-noted, Refused, refused-is}
 
 module _ (t : List ℕ) (a : Reading) where
   -- refused by 1 to 4
@@ -33,24 +34,48 @@ module _ (t : List ℕ) (a : Reading) where
   unfolding questions
   read-early n e h = refused-is t (read a) n (before-range t (a .c) (a .r) (a .offset) (a .count) _ n e h) h
 
+  -- how many machines were called, noted
+  noted-is : (n : ℕ) → fromSix (questions t (read a)) (calledBy Read t (a .c) (a .r)) ≡ n → noted (a .called) n ≡ outcome t (read a) .called
+  unfolding calledAfter
+  noted-is n e = sym (called-is t (read a) ∙ ap (noted (a .called)) e)
+
+  pub called-early : (n : ℕ) → n ≡ firstNo (toRange t (a .c) (a .r) (a .offset) (a .count)) → 1 ≤ n → noted (a .called) 0 ≡ outcome t (read a) .called
+  unfolding questions
+  called-early n e h = noted-is 0 (none-noted t (a .c) (a .r) (a .offset) (a .count) _ _ _ n _ e h)
+
+  -- question 5: both lent lists
+  abbrev five : Bool
+  five = eqb (length (a .buffer)) (a .count) && eqb (length (a .called)) 1
+
   module _ (p : firstNo (toRange t (a .c) (a .r) (a .offset) (a .count)) ≡ 0) where
-    after-four : firstNo (questions t (read a)) ≡ cond (eqb (length (a .buffer)) (a .count)) (cond (quorumHeld Read (orderOf t) (answers t (a .r)) (workSet Read t (a .c) (a .r))) (cond (current (answers t (a .r)) (workSet Read t (a .c) (a .r))) 0 7) 6) 5
+    after-four : firstNo (questions t (read a)) ≡ cond five (cond (quorumHeld Read (orderOf t) (answers t (a .r)) (workSet Read t (a .c) (a .r))) (cond (current (answers t (a .r)) (workSet Read t (a .c) (a .r))) 0 7) 6) 5
     unfolding questions firstNo
     after-four = after-range t (a .c) (a .r) (a .offset) (a .count) _ p
 
     -- refused by 5
-    pub read-long : (length (a .buffer) ≡ a .count → ⊥)
-        → Refused t (read a) 5
+    pub read-long : five ≡ false → Refused t (read a) 5
     read-long d =
         refused-is t (read a) 5
-        (after-four ∙ ap (λ (b : Bool). cond b (cond (quorumHeld Read (orderOf t) (answers t (a .r)) (workSet Read t (a .c) (a .r))) (cond (current (answers t (a .r)) (workSet Read t (a .c) (a .r))) 0 7) 6) 5) (ne-eqb (length (a .buffer)) (a .count) d))
+        (after-four ∙ ap (λ (b : Bool). cond b (cond (quorumHeld Read (orderOf t) (answers t (a .r)) (workSet Read t (a .c) (a .r))) (cond (current (answers t (a .r)) (workSet Read t (a .c) (a .r))) 0 7) 6) 5) d)
         (omega arith)
 
-    module _ (l : length (a .buffer) ≡ a .count) (v : Settled) (j : Works Read t (a .c) (a .r) v) where
+    pub called-long : five ≡ false → noted (a .called) 0 ≡ outcome t (read a) .called
+    unfolding questions
+    called-long d = noted-is 0 (none-noted-five t (a .c) (a .r) (a .offset) (a .count) five _ _ _ p d)
+
+    module _ (l : five ≡ true) (v : Settled) (j : Works Read t (a .c) (a .r) v) where
+      -- from question 6 on
+      pub called-by : noted (a .called) (v .called) ≡ outcome t (read a) .called
+      unfolding questions
+      called-by = noted-is (v .called) (six-noted t (a .c) (a .r) (a .offset) (a .count) five _ _ _ p l ∙ sym (j .called))
+
+      whole : length (a .buffer) ≡ a .count
+      whole = eqb-true _ _ (and-l _ _ l)
+
       after-poll : firstNo (questions t (read a)) ≡ v .refusal
       after-poll =
           after-four
-          ∙ ap (λ (b : Bool). cond b (cond (quorumHeld Read (orderOf t) (answers t (a .r)) (workSet Read t (a .c) (a .r))) (cond (current (answers t (a .r)) (workSet Read t (a .c) (a .r))) 0 7) 6) 5) (eq-eqb (length (a .buffer)) (a .count) l)
+          ∙ ap (λ (b : Bool). cond b (cond (quorumHeld Read (orderOf t) (answers t (a .r)) (workSet Read t (a .c) (a .r))) (cond (current (answers t (a .r)) (workSet Read t (a .c) (a .r))) 0 7) 6) 5) l
           ∙ sym (j .refusal)
 
       -- refused by 6 or 7
@@ -72,7 +97,7 @@ module _ (t : List ℕ) (a : Reading) where
         pub range-in : 32 + a .offset + length (a .buffer) ≤ length (rowBytes t (lowest 64 (has (v .good .bits))))
         range-in =
             let y = read-yes t a (after-poll ∙ z) in
-            omega (arith, length-row (sized (y .first .formed)) (lowest 64 (has (v .good .bits))) source-used, contents-room t, y .range, l)
+            omega (arith, length-row (sized (y .first .formed)) (lowest 64 (has (v .good .bits))) source-used, contents-room t, y .range, whole)
 
         pub read-done : (0 * 2 ^ 32 + v .version ≡ resultOf (outcome t (read a))) × (t ≡ outcome t (read a) .table)
             × (part (a .offset) (length (a .buffer)) (contents (rowBytes t (lowest 64 (has (v .good .bits))))) ≡ outcome t (read a) .buffer)
@@ -81,5 +106,5 @@ module _ (t : List ℕ) (a : Reading) where
             let o = when-done t (read a) (refusal-is t (read a) ∙ after-poll ∙ z) in (
               ap (λ (x : ℕ). 0 * 2 ^ 32 + x) (j .version) ∙ sym (ap resultOf o),
               sym (ap (λ (x : Outcome). x .table) o),
-              ap₂ (λ (n i : ℕ). part (a .offset) n (contents (rowBytes t i))) l good-is ∙ sym (ap (λ (x : Outcome). x .buffer) o),
+              ap₂ (λ (n i : ℕ). part (a .offset) n (contents (rowBytes t i))) whole good-is ∙ sym (ap (λ (x : Outcome). x .buffer) o),
             )

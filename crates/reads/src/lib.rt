@@ -1,29 +1,61 @@
 // A read: its questions in order, then what is done.
-use asking::result;
+use bools::both;
+use questions::Answered;
+use questions::answer_of;
 use questions::range_asked;
 use quorums::Kind;
 use rows::RowSet;
 ghost use mathlib.Core.Path.{_≡_};
-ghost use Rattle.protocol.specs.Calls.{resultOf, outcome, read};
+ghost use mathlib.Core.List.{List};
+ghost use Prim.Native.Nat.{ℕ};
+ghost use lib.Dec.{eqb};
+ghost use lib.ListN.{length};
+ghost use Rattle.protocol.specs.Calls.{resultOf, outcome, read, noted};
 
-// A read: the range is copied to the buffer. Value: the version.
-pub fn read(t: &[u8], c: usize, r: u64, offset: usize, count: usize, buffer: &mut [u8]) -> u64
-    ensures { λ x. ⌜ (let o = outcome (now (t .entry)) (read (record { c = c; r = r; offset = offset; count = count; buffer = now (buffer .entry) })) in (x ≡ resultOf o) × (now (t .entry) ≡ o .table) × (now (buffer .exit) ≡ o .buffer)) ⌝ }
+// A read, all but its note of how many machines were called: `fits` says whether one byte is lent for it.
+fn answer(
+    t: &[u8],
+    c: usize,
+    r: u64,
+    offset: usize,
+    count: usize,
+    buffer: &mut [u8],
+    fits: bool,
+) -> Answered
+    ensures { λ x. ⌜ ((called : List ℕ) → fits ≡ eqb (length called) 1 → (let o = outcome (now (t .entry)) (read (record { c = c; r = r; offset = offset; count = count; buffer = now (buffer .entry); called = called })) in (x .result ≡ resultOf o) × (now (t .entry) ≡ o .table) × (now (buffer .exit) ≡ o .buffer) × (noted called (x .called) ≡ o .called))) ⌝ }
 {
     let answering = RowSet { bits: r };
     let mut order = [0u8; 64];
     let no = range_asked(t, c, answering, offset, count, &mut order);
     if no != 0 {
-        return result(no, 0);
+        return answer_of(no, 0, 0);
     }
-    if buffer.len() != count {
-        return result(5, 0);
+    if !both(buffer.len() == count, fits) {
+        return answer_of(5, 0, 0);
     }
     let s = settle::settle(Kind::Read, t, &order, c, answering);
     if s.refusal != 0 {
-        return result(s.refusal, 0);
+        return answer_of(s.refusal, 0, s.called);
     }
     let source = s.good.lowest();
     fields::copy_out(table::row_of(t, source), offset, buffer);
-    result(0, s.version)
+    answer_of(0, s.version, s.called)
+}
+
+// A read: the range is copied to the buffer, and how many machines were called is noted. Value: the version.
+pub fn read(
+    t: &[u8],
+    c: usize,
+    r: u64,
+    offset: usize,
+    count: usize,
+    buffer: &mut [u8],
+    called: &mut [u8],
+) -> u64
+    ensures { λ x. ⌜ (let o = outcome (now (t .entry)) (read (record { c = c; r = r; offset = offset; count = count; buffer = now (buffer .entry); called = now (called .entry) })) in (x ≡ resultOf o) × (now (t .entry) ≡ o .table) × (now (buffer .exit) ≡ o .buffer) × (now (called .exit) ≡ o .called)) ⌝ }
+{
+    let fits = called.len() == 1;
+    let a = answer(t, c, r, offset, count, buffer, fits);
+    questions::note(called, a.called);
+    a.result
 }

@@ -40,19 +40,20 @@ unfolding atSeat
 at-seat rows q k w h = rw (le-leb 1 k (w .0), le-leb k (length rows) (w .1)) h
 
 -- where there is a seat for each position of the grid, the row at a chosen one is chosen
+pub chosen-at : (kind : Kind) (mark : ℕ) (order : List ℕ) (p : ℕ → Bool) (a : ℕ) → length (seats order p) ≡ count 64 p → (k : ℕ) → Within (count 64 p) k
+    → choice kind (gridBy mark (count 64 p)) (count 64 p) a k ≡ true → levelChoice kind mark order p a (getD (seats order p) (k - 1) 0) ≡ true
+unfolding levelChoice
+chosen-at kind mark order p a many k w h =
+    let row = getD (seats order p) (k - 1) 0 in some-of (count 64 p) _ k w (and-i _ _ h (at-seat (seats order p) (eqb row) k (rw many w) (eq-eqb row row refl)))
+
 choice-holds : (kind : Kind) (mark : ℕ) (order : List ℕ) (p : ℕ → Bool) (a : ℕ) → length (seats order p) ≡ count 64 p → 1 ≤ count 64 p → level kind mark order p (levelChoice kind mark order p a) ≡ true
-unfolding level levelChoice
+unfolding level
 choice-holds kind mark order p a many one =
-    Q.grows (gridBy mark N) N (choice kind (gridBy mark N) N a) (atSeat (seats order p) (levelChoice kind mark order p a)) at kind (Q.choice-holds (gridBy mark N) N (laid-fits mark N one) kind a)
+    Q.grows (gridBy mark N) N (choice kind (gridBy mark N) N a) (atSeat (seats order p) (levelChoice kind mark order p a))
+    (λ k w h. at-seat (seats order p) _ k (rw many w) (chosen-at kind mark order p a many k w h)) kind (Q.choice-holds (gridBy mark N) N (laid-fits mark N one) kind a)
   where
     N : ℕ
     N = count 64 p
-
-    at : (k : ℕ) → Within N k → choice kind (gridBy mark N) N a k ≡ true → atSeat (seats order p) (levelChoice kind mark order p a) k ≡ true
-    at k w h =
-        let row = getD (seats order p) (k - 1) 0 in
-        let there : Within (length (seats order p)) k = rw many w in
-        at-seat (seats order p) _ k there (some-of N _ k w (and-i _ _ h (at-seat (seats order p) (eqb row) k there (eq-eqb row row refl))))
 
 pub every-choice-holds : EveryChoiceHolds
 unfolding EveryChoiceHolds EveryListIsSeated

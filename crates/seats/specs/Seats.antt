@@ -1,19 +1,21 @@
 -- What is claimed of the seats of a list in chain order, on a well-formed table.
 use mathlib.Core.Path.{_≡_}
-use mathlib.Core.Bool.{Bool, true}
+use mathlib.Core.Bool.{Bool, true, false}
 use mathlib.Core.List.{List}
 use Prim.Native.Nat.{ℕ, _-_, _^_, _≤_, _<_}
 use lib.ListN.{length, getD}
 use Rattle.sets.specs.Upto.{Within, count}
 use Rattle.sets.specs.Sets.{has}
 use Rattle.fields.specs.declared.Laid.{Laid}
-use Rattle.fields.specs.Layout.{usedOf}
+use Rattle.fields.specs.Layout.{isEmpty, usedOf}
 use Rattle.table.specs.Chain.{orderOf}
 use Rattle.table.specs.WellFormed.{wellFormed}
+use Rattle.grid.specs.Sizes.{gridBy}
 use Rattle.quorums.specs.declared.Kind.{Kind}
 use Rattle.quorums.specs.declared.Kind.the-variants.{Write}
 use Rattle.quorums.specs.Losses.{AllButOne}
-use Rattle.protocol.specs.Lists.{laidNow, seats, level, levelChoice, listQuorum}
+use Rattle.quorums.specs.ChoiceSizes.{Sized}
+use Rattle.protocol.specs.Lists.{laidNow, seats, level, levelChoice, listQuorum, listChoice}
 
 -- the row at position k of those that pass p, counted from 1
 unfoldable pub rowAt : List ℕ → (ℕ → Bool) → ℕ → ℕ
@@ -39,3 +41,8 @@ EveryChoiceHolds = (t : List ℕ) → wellFormed t ≡ true → (p : ℕ → Boo
 unfoldable pub ListBearsLoss : Type 0
 ListBearsLoss = (t : List ℕ) → wellFormed t ≡ true → (tall : Bool) (l : Laid) → l ≡ laidNow tall (l .members) → l .members < 2 ^ usedOf t → 4 ≤ count 64 (has (l .members))
     → (s : ℕ → Bool) → AllButOne (has (l .members)) s → listQuorum Write (orderOf t) l s ≡ true
+
+-- "called at most m + n − 1, a done read n, by the grid of the coordinator's own list": the sizes of the choices over a list of used rows
+unfoldable pub ChoiceSizes : Type 0
+ChoiceSizes = (t : List ℕ) → wellFormed t ≡ true → (l : Laid) → l .members < 2 ^ usedOf t → isEmpty l ≡ false
+    → Sized (gridBy (l .mark) (count 64 (has (l .members)))) (λ kind a. count 64 (listChoice kind (orderOf t) l a))

@@ -18,16 +18,17 @@ ghost use Rattle.table.specs.Contracts.{Listed, Ordered};
 ghost use Rattle.protocol.specs.Lists.{listQuorum};
 ghost use Rattle.settle.specs.Works.{Works};
 
-// The set that a call works on: the first no among questions 6 and 7 (0: none), its good rows and their version.
+// The set that a call works on: the first no among questions 6 and 7 (0: none), its good rows and their version, and how many machines were called.
 pub struct Settled {
     pub rows: RowSet,
     pub refusal: u32,
     pub good: RowSet,
     pub version: u32,
+    pub called: u8,
 }
 
-fn settled_on(rows: RowSet, refusal: u32, found: Verdict) -> Settled
-    ensures { λ r. ⌜ r ≡ record { rows = rows; refusal = refusal; good = found .good; version = found .version } ⌝ }
+fn settled_on(rows: RowSet, refusal: u32, found: Verdict, called: u8) -> Settled
+    ensures { λ r. ⌜ r ≡ record { rows = rows; refusal = refusal; good = found .good; version = found .version; called = called } ⌝ }
 {
     let good = found.good;
     Settled {
@@ -35,6 +36,7 @@ fn settled_on(rows: RowSet, refusal: u32, found: Verdict) -> Settled
         refusal: refusal,
         good: good,
         version: found.version,
+        called: called,
     }
 }
 
@@ -60,13 +62,13 @@ fn passes(
     quorum_held(kind, order, count, list, s)
 }
 
-// All rows that answered are worked on, with what questions 6 and 7 say of them.
+// All rows that answered are worked on, with what questions 6 and 7 say of them: every used row was called.
 fn on_all(kind: Kind, order: &[u8; 64], count: usize, answering: RowSet, whole: Verdict) -> Settled
     requires { ⌜ Listed count (now order) count ⌝ }
-    ensures { λ r. ⌜ r ≡ record { rows = answering; refusal = cond (not (isEmpty (whole .list)) && listQuorum kind (take count (now (order .entry))) (whole .list) (has (answering .bits))) (cond (whole .current) 0 7) 6; good = whole .good; version = whole .version } ⌝ }
+    ensures { λ r. ⌜ r ≡ record { rows = answering; refusal = cond (not (isEmpty (whole .list)) && listQuorum kind (take count (now (order .entry))) (whole .list) (has (answering .bits))) (cond (whole .current) 0 7) 6; good = whole .good; version = whole .version; called = count } ⌝ }
 {
     let no = asked(kind, order, count, whole.list, answering, whole.current);
-    settled_on(answering, no, whole)
+    settled_on(answering, no, whole, count as u8)
 }
 
 // The set that a read or a write works on: P, the coordinator's own choice cut down to the rows that answered, if questions 6 and 7
@@ -84,7 +86,11 @@ pub fn settle(kind: Kind, t: &[u8], order: &[u8; 64], c: usize, answering: RowSe
     // a choice that answered whole holds a quorum of the list that it was made over
     let sure = both(tried.bits == chosen.bits, part.list.same(own));
     if passes(kind, order, count, part.list, tried, part.current, sure) {
-        return settled_on(tried, 0, part);
+        return settled_on(tried, 0, part, chosen.size() as u8);
+    }
+    if tried.bits == answering.bits {
+        // P is all that answered: it is not looked at again
+        return on_all(kind, order, count, answering, part);
     }
     on_all(kind, order, count, answering, scanned(t, answering))
 }

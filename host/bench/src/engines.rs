@@ -3,12 +3,20 @@
 use dyngrid::raw;
 use reference::Engine;
 
+/// Who coordinates a read or write, who answers, and from which byte of the file on.
+#[derive(Clone, Copy)]
+pub struct Asked {
+    pub coordinator: u64,
+    pub answering: u64,
+    pub offset: u64,
+}
+
 /// Calls on a table's bytes, all with the same arguments for both engines.
 pub trait Calls {
     /// Founds a wide table.
     fn found(&self, table: &mut [u8], capacity: u64, file_len: u64, names: &[u8]) -> u64;
-    fn read(&self, table: &[u8], coordinator: u64, answering: u64, offset: u64, buffer: &mut [u8]) -> u64;
-    fn write(&self, table: &mut [u8], coordinator: u64, answering: u64, offset: u64, patch: &[u8]) -> u64;
+    fn read(&self, table: &[u8], asked: Asked, buffer: &mut [u8], called: &mut [u8]) -> u64;
+    fn write(&self, table: &mut [u8], asked: Asked, patch: &[u8], called: &mut [u8]) -> u64;
     fn send(&self, table: &mut [u8], from: u64, to: u64, answering: u64) -> u64;
     fn check(&self, table: &mut [u8], coordinator: u64, answering: u64) -> u64;
     fn join(&self, table: &mut [u8], name: u16) -> u64;
@@ -26,7 +34,8 @@ impl Calls for Library {
         }
     }
 
-    fn read(&self, table: &[u8], coordinator: u64, answering: u64, offset: u64, buffer: &mut [u8]) -> u64 {
+    fn read(&self, table: &[u8], asked: Asked, buffer: &mut [u8], called: &mut [u8]) -> u64 {
+        let Asked { coordinator, answering, offset } = asked;
         let length = buffer.len();
         let lent = buffer.as_mut_ptr();
         unsafe {
@@ -39,14 +48,26 @@ impl Calls for Library {
                 length as u64,
                 lent,
                 length,
+                called.as_mut_ptr(),
+                called.len(),
             )
         }
     }
 
-    fn write(&self, table: &mut [u8], coordinator: u64, answering: u64, offset: u64, patch: &[u8]) -> u64 {
-        let (lent, length) = (patch.as_ptr(), patch.len());
+    fn write(&self, table: &mut [u8], asked: Asked, patch: &[u8], called: &mut [u8]) -> u64 {
+        let Asked { coordinator, answering, offset } = asked;
         unsafe {
-            raw::grid_write(table.as_mut_ptr(), table.len(), coordinator, answering, offset, lent, length)
+            raw::grid_write(
+                table.as_mut_ptr(),
+                table.len(),
+                coordinator,
+                answering,
+                offset,
+                patch.as_ptr(),
+                patch.len(),
+                called.as_mut_ptr(),
+                called.len(),
+            )
         }
     }
 
@@ -72,12 +93,14 @@ impl Calls for Engine {
         Engine::found(self, table, capacity, file_len, names, raw::WIDE)
     }
 
-    fn read(&self, table: &[u8], coordinator: u64, answering: u64, offset: u64, buffer: &mut [u8]) -> u64 {
-        Engine::read(self, table, coordinator, answering, offset, buffer.len() as u64, buffer)
+    fn read(&self, table: &[u8], asked: Asked, buffer: &mut [u8], called: &mut [u8]) -> u64 {
+        let Asked { coordinator, answering, offset } = asked;
+        Engine::read(self, table, coordinator, answering, offset, buffer.len() as u64, buffer, called)
     }
 
-    fn write(&self, table: &mut [u8], coordinator: u64, answering: u64, offset: u64, patch: &[u8]) -> u64 {
-        Engine::write(self, table, coordinator, answering, offset, patch)
+    fn write(&self, table: &mut [u8], asked: Asked, patch: &[u8], called: &mut [u8]) -> u64 {
+        let Asked { coordinator, answering, offset } = asked;
+        Engine::write(self, table, coordinator, answering, offset, patch, called)
     }
 
     fn send(&self, table: &mut [u8], from: u64, to: u64, answering: u64) -> u64 {

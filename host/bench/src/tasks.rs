@@ -1,6 +1,6 @@
 //! The calls that are timed.
 
-use crate::engines::Calls;
+use crate::engines::{Asked, Calls};
 use crate::states::{self, State};
 use reference::{rows, CHART_PLACES};
 use std::fmt;
@@ -83,6 +83,8 @@ impl Task {
             // Row 1 has version 1; row 2 is behind it.
             table[one + 4] = 1;
         }
+        let asked = Asked { coordinator, answering, offset: 0 };
+        let mut called = [0];
         let mut result = 0;
         let started = Instant::now();
         for call in 0..calls {
@@ -93,8 +95,12 @@ impl Task {
                     size.file_len as u64,
                     black_box(&names),
                 ),
-                Task::Read(_) => engine.read(black_box(&table), coordinator, all, 0, black_box(&mut bytes)),
-                Task::Write(_) => engine.write(black_box(&mut table), coordinator, all, 0, black_box(&bytes)),
+                Task::Read(_) => {
+                    engine.read(black_box(&table), asked, black_box(&mut bytes), black_box(&mut called))
+                }
+                Task::Write(_) => {
+                    engine.write(black_box(&mut table), asked, black_box(&bytes), black_box(&mut called))
+                }
                 Task::Send => {
                     make_stale(&mut table, two);
                     engine.send(black_box(&mut table), 1, 2, 3)
@@ -114,15 +120,17 @@ impl Task {
             assert!(black_box(result) >> 32 == self.refusal(), "{}: {self} has another refusal", state.title);
         }
         let time = started.elapsed();
-        (time, Left { table, bytes, result })
+        (time, Left { table, bytes, called, result })
     }
 }
 
-/// What the calls of a task leave: the table, the other bytes that were lent, and the last result.
+/// What the calls of a task leave: the table, the other bytes that were lent, how many machines the last read or write
+/// called, and the last result.
 #[derive(PartialEq, Eq)]
 pub struct Left {
     table: Vec<u8>,
     bytes: Vec<u8>,
+    called: [u8; 1],
     result: u64,
 }
 

@@ -9,18 +9,22 @@ use std::sync::atomic::{AtomicPtr, AtomicU64, Ordering};
 /// A little above the longest table and the longest list that a case can have.
 const LONGEST_TABLE: usize = 300_000;
 const LONGEST_LIST: usize = 12_000;
+const LONGEST_CALLED: usize = 16;
 
 pub struct Archive {
     table: Guard,
     /// The other slice of a call: its names, buffer, patch or the list of a chart.
     list: Guard,
+    /// The list for the number of machines called.
+    called: Guard,
     pub edge: Edge,
 }
 
 impl Archive {
     pub fn new() -> Archive {
         raw::assert_interface();
-        Archive { table: Guard::new(LONGEST_TABLE), list: Guard::new(LONGEST_LIST), edge: Edge::End }
+        let [table, list, called] = [LONGEST_TABLE, LONGEST_LIST, LONGEST_CALLED].map(Guard::new);
+        Archive { table, list, called, edge: Edge::End }
     }
 
     /// Makes the call; an error says which lent memory it harmed.
@@ -34,14 +38,16 @@ impl Archive {
         };
         self.table.place(table, self.edge);
         self.list.place(lent, self.edge);
+        let called = call.called().unwrap_or_default();
+        self.called.place(called, self.edge);
         CALL.store(std::ptr::from_ref(call).cast_mut(), Ordering::Relaxed);
-        let result = self.enter(table.len(), lent.len(), call);
+        let result = self.enter(table.len(), lent.len(), called.len(), call);
         CALL.store(std::ptr::null_mut(), Ordering::Relaxed);
 
         if !self.table.intact() {
             return Err("the archive wrote beside the table".into());
         }
-        if !self.list.intact() {
+        if !self.list.intact() || !self.called.intact() {
             return Err("the archive wrote beside a list".into());
         }
         let written = call.lent().is_some();
@@ -49,24 +55,43 @@ impl Archive {
             return Err("the archive altered names or patch".into());
         }
         table.copy_from_slice(self.table.slice());
-        Ok(Answer { result, buffer: if written { self.list.slice().to_vec() } else { Vec::new() } })
+        let buffer = if written { self.list.slice().to_vec() } else { Vec::new() };
+        Ok(Answer { result, buffer, called: self.called.slice().to_vec() })
     }
 
-    fn enter(&mut self, table_len: usize, list_len: usize, call: &Call) -> u64 {
+    fn enter(&mut self, table_len: usize, list_len: usize, called_len: usize, call: &Call) -> u64 {
         let table = lend(&mut self.table, table_len, self.edge);
         let list = lend(&mut self.list, list_len, self.edge);
-        // SAFETY: table and list are two slices of these lengths in two mappings.
+        let called = lend(&mut self.called, called_len, self.edge);
+        // SAFETY: table, list and called are three slices of these lengths in three mappings.
         unsafe {
             match *call {
                 Call::Found { capacity, file_len, choice, .. } => {
                     raw::grid_found(table, table_len, capacity, file_len, list, list_len, choice)
                 }
-                Call::Read { coordinator, answering, offset, length, .. } => {
-                    raw::grid_read(table, table_len, coordinator, answering, offset, length, list, list_len)
-                }
-                Call::Write { coordinator, answering, offset, .. } => {
-                    raw::grid_write(table, table_len, coordinator, answering, offset, list, list_len)
-                }
+                Call::Read { coordinator, answering, offset, length, .. } => raw::grid_read(
+                    table,
+                    table_len,
+                    coordinator,
+                    answering,
+                    offset,
+                    length,
+                    list,
+                    list_len,
+                    called,
+                    called_len,
+                ),
+                Call::Write { coordinator, answering, offset, .. } => raw::grid_write(
+                    table,
+                    table_len,
+                    coordinator,
+                    answering,
+                    offset,
+                    list,
+                    list_len,
+                    called,
+                    called_len,
+                ),
                 Call::Send { from, to, answering } => raw::grid_send(table, table_len, from, to, answering),
                 Call::Check { coordinator, answering } => {
                     raw::grid_check(table, table_len, coordinator, answering)

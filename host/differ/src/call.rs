@@ -6,19 +6,21 @@ use std::fmt;
 #[derive(Clone, Debug, PartialEq, Eq)]
 pub enum Call {
     Found { capacity: u64, file_len: u64, names: Vec<u8>, choice: u64 },
-    Read { coordinator: u64, answering: u64, offset: u64, length: u64, buffer: Vec<u8> },
-    Write { coordinator: u64, answering: u64, offset: u64, patch: Vec<u8> },
+    Read { coordinator: u64, answering: u64, offset: u64, length: u64, buffer: Vec<u8>, called: Vec<u8> },
+    Write { coordinator: u64, answering: u64, offset: u64, patch: Vec<u8>, called: Vec<u8> },
     Send { from: u64, to: u64, answering: u64 },
     Check { coordinator: u64, answering: u64 },
     Join { name: u16 },
     Chart { length: u64, mark: u64, list: Vec<u8> },
 }
 
-/// What a call gave: its result, and the bytes that its buffer, or the list of a chart, then holds (empty but for these).
+/// What a call gave: its result, the bytes that its buffer, or the list of a chart, then holds (empty but for these), and
+/// those that the list for the number called holds (empty but for a read and a write).
 #[derive(Clone, Debug, PartialEq, Eq)]
 pub struct Answer {
     pub result: u64,
     pub buffer: Vec<u8>,
+    pub called: Vec<u8>,
 }
 
 impl Call {
@@ -37,7 +39,15 @@ impl Call {
         }
     }
 
-    /// What the call may write besides the table.
+    /// The list for the number of machines called.
+    pub fn called(&self) -> Option<&[u8]> {
+        match self {
+            Call::Read { called, .. } | Call::Write { called, .. } => Some(called),
+            _ => None,
+        }
+    }
+
+    /// What a done call may write besides the table and the number called.
     pub fn lent(&self) -> Option<&[u8]> {
         match self {
             Call::Read { buffer, .. } => Some(buffer),
@@ -71,22 +81,23 @@ impl Call {
     /// Puts the call to the reference.
     pub fn refer(&self, engine: Engine, table: &mut [u8]) -> Answer {
         let mut lent = self.lent().unwrap_or_default().to_vec();
+        let mut number = self.called().unwrap_or_default().to_vec();
         let result = match self {
             Call::Found { capacity, file_len, names, choice } => {
                 engine.found(table, *capacity, *file_len, names, *choice)
             }
             Call::Read { coordinator, answering, offset, length, .. } => {
-                engine.read(table, *coordinator, *answering, *offset, *length, &mut lent)
+                engine.read(table, *coordinator, *answering, *offset, *length, &mut lent, &mut number)
             }
-            Call::Write { coordinator, answering, offset, patch } => {
-                engine.write(table, *coordinator, *answering, *offset, patch)
+            Call::Write { coordinator, answering, offset, patch, .. } => {
+                engine.write(table, *coordinator, *answering, *offset, patch, &mut number)
             }
             Call::Send { from, to, answering } => engine.send(table, *from, *to, *answering),
             Call::Check { coordinator, answering } => engine.check(table, *coordinator, *answering),
             Call::Join { name } => engine.join(table, *name),
             Call::Chart { length, mark, .. } => engine.chart(*length, *mark, &mut lent),
         };
-        Answer { result, buffer: lent }
+        Answer { result, buffer: lent, called: number }
     }
 }
 
@@ -97,13 +108,14 @@ impl fmt::Display for Call {
                 write!(f, "grid_found(capacity {capacity}, file {file_len}, names {}", names_shown(names))?;
                 write!(f, ", choice {choice})")
             }
-            Call::Read { coordinator, answering, offset, length, buffer } => {
+            Call::Read { coordinator, answering, offset, length, buffer, called } => {
                 write!(f, "grid_read(coordinator {coordinator}, answering {}", set_shown(*answering))?;
-                write!(f, ", offset {offset}, length {length}, buffer of {} bytes)", buffer.len())
+                write!(f, ", offset {offset}, length {length}, buffer of {} bytes", buffer.len())?;
+                write!(f, ", called {})", bytes_shown(called))
             }
-            Call::Write { coordinator, answering, offset, patch } => {
+            Call::Write { coordinator, answering, offset, patch, called } => {
                 write!(f, "grid_write(coordinator {coordinator}, answering {}", set_shown(*answering))?;
-                write!(f, ", offset {offset}, patch {})", bytes_shown(patch))
+                write!(f, ", offset {offset}, patch {}, called {})", bytes_shown(patch), bytes_shown(called))
             }
             Call::Send { from, to, answering } => {
                 write!(f, "grid_send(from {from}, to {to}, answering {})", set_shown(*answering))

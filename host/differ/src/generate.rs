@@ -273,13 +273,15 @@ fn fitting(random: &mut Random, table: &Picture, up: u64) -> Call {
         0..=29 => {
             let answering = answering(random, table, up, coordinator, Quorum::Read);
             let (offset, length) = range(random, table);
-            let buffer = random.bytes(length);
-            Call::Read { coordinator: coordinator as u64, answering, offset, length: length as u64, buffer }
+            let (buffer, called) = (random.bytes(length), called(random));
+            let (coordinator, length) = (coordinator as u64, length as u64);
+            Call::Read { coordinator, answering, offset, length, buffer, called }
         }
         30..=61 => {
             let answering = answering(random, table, up, coordinator, Quorum::Write);
             let (offset, length) = range(random, table);
-            Call::Write { coordinator: coordinator as u64, answering, offset, patch: random.bytes(length) }
+            let (patch, called) = (random.bytes(length), called(random));
+            Call::Write { coordinator: coordinator as u64, answering, offset, patch, called }
         }
         62..=78 => send(random, table, up),
         79..=92 => {
@@ -328,6 +330,12 @@ fn range(random: &mut Random, table: &Picture) -> (u64, usize) {
     let rest = table.file_len - offset;
     let length = if random.chance(3, 4) { random.between(1, rest.min(8)) } else { random.between(1, rest) };
     (offset as u64, length)
+}
+
+/// The list for the number of machines called: mostly of one byte, of none or two now and then.
+fn called(random: &mut Random) -> Vec<u8> {
+    let length = if random.chance(1, 12) { random.pick(&[0, 2]) } else { 1 };
+    random.bytes(length)
 }
 
 /// A send, mostly from a good row to a stale one.
@@ -388,7 +396,7 @@ fn spoil(random: &mut Random, call: &mut Call, table: &Picture) {
             2 => *choice = any_choice(random),
             _ => names.push(random.byte()),
         },
-        Call::Read { coordinator, answering, offset, length, buffer } => match random.between(0, 5) {
+        Call::Read { coordinator, answering, offset, length, buffer, .. } => match random.between(0, 5) {
             0 => *coordinator = edge(random, used, *coordinator),
             1 => *answering = bad_set(random, table),
             2 => *offset = edge(random, longest, *offset),
@@ -399,7 +407,7 @@ fn spoil(random: &mut Random, call: &mut Call, table: &Picture) {
             }
             _ => resize(random, buffer, table.file_len),
         },
-        Call::Write { coordinator, answering, offset, patch } => match random.between(0, 3) {
+        Call::Write { coordinator, answering, offset, patch, .. } => match random.between(0, 3) {
             0 => *coordinator = edge(random, used, *coordinator),
             1 => *answering = bad_set(random, table),
             2 => *offset = edge(random, longest, *offset),

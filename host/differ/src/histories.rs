@@ -24,11 +24,12 @@ fn found(capacity: usize, names: &[u16], file_len: usize, choice: u64) -> Call {
 }
 
 fn read(coordinator: u64, answering: &[usize]) -> Call {
-    Call::Read { coordinator, answering: set(answering), offset: 0, length: 1, buffer: vec![0] }
+    let answering = set(answering);
+    Call::Read { coordinator, answering, offset: 0, length: 1, buffer: vec![0], called: vec![0xee] }
 }
 
 fn write(coordinator: u64, answering: &[usize]) -> Call {
-    Call::Write { coordinator, answering: set(answering), offset: 0, patch: vec![b'a'] }
+    Call::Write { coordinator, answering: set(answering), offset: 0, patch: vec![b'a'], called: vec![0xee] }
 }
 
 fn send(from: u64, to: u64, answering: &[usize]) -> Call {
@@ -116,6 +117,63 @@ fn the_walk() {
             (write(3, &[3]), 6, 0),
         ],
     );
+}
+
+/// Founds the names and makes the calls; each must give its refusal number, and the number of machines called.
+fn expect_called(capacity: usize, names: &[u16], choice: u64, calls: &[(Call, u64, u8)]) {
+    let mut archive = Archive::new();
+    let mut trial = Trial::new(&mut archive, Engine::default(), &blank(capacity, 4));
+    trial.step(&found(capacity, names, 4, choice)).expect("no difference");
+    for (call, refusal, called) in calls {
+        let step = trial.step(call).unwrap_or_else(|what| panic!("{call}: {what}"));
+        assert_eq!((step.result >> 32, step.called), (*refusal, Some(*called)), "{call}");
+    }
+}
+
+#[test]
+fn machines_called_in_the_walk() {
+    // Too few of each own choice answer, so that all four are called.
+    let calls = [
+        (write(1, &[1, 2, 3]), 0, 4),
+        (read(4, &[3, 4]), 0, 4),
+        (write(2, &[1, 2, 4]), 0, 4),
+        (read(4, &[3, 4]), 7, 4),
+        (write(3, &[3]), 6, 4),
+        (write(5, &[3]), 2, 0),
+        (read(1, &[2]), 3, 0),
+    ];
+    expect_called(4, &[1, 2, 3, 4], WIDE_TABLE, &calls);
+}
+
+/// In columns {1, 3, 5} and {2, 4, 6} a write by 15 has the second and row 1, a read rows 1 and 2; in a wide table, columns
+/// {1, 4}, {2, 5} and {3, 6}, a write has the first and rows 5 and 6, a read rows 4, 5 and 6.
+#[test]
+fn machines_called_wide_and_tall() {
+    let (names, all) = ([15, 20, 30, 40, 50, 60], [1, 2, 3, 4, 5, 6]);
+    let tall = [
+        (write(1, &all), 0, 4),
+        (write(1, &[1, 2, 4, 6]), 0, 4),
+        (write(1, &[1, 2, 3, 5]), 0, 6),
+        (read(1, &all), 0, 2),
+        (read(1, &[1, 4]), 0, 6),
+        // Rows 3 and 4 are the choice of 40, and behind.
+        (read(4, &[3, 4]), 7, 6),
+    ];
+    expect_called(6, &names, TALL_TABLE, &tall);
+    let wide = [(write(1, &all), 0, 4), (read(1, &all), 0, 3), (read(1, &[1, 2, 3]), 0, 6)];
+    expect_called(6, &names, WIDE_TABLE, &wide);
+}
+
+/// Row 4 missed the check by the others. Of its choice of four, {1, 2, 3}, rows 1 and 2 answer, and they are a quorum of three.
+#[test]
+fn a_choice_counts_as_called_though_some_of_it_did_not_answer() {
+    let names = [10, 20, 30, 40];
+    expect_called(4, &names, WIDE_TABLE, &[(write(4, &[1, 2, 4]), 0, 4)]);
+    let mut archive = Archive::new();
+    let mut trial = Trial::new(&mut archive, Engine::default(), &blank(4, 4));
+    let opening = [found(4, &names, 4, WIDE_TABLE), check(1, &[1, 2, 3])];
+    opening.iter().for_each(|call| assert_eq!(trial.step(call).map(|step| step.result >> 32), Ok(0)));
+    assert_eq!(trial.step(&write(4, &[1, 2, 4])).map(|step| step.called), Ok(Some(3)));
 }
 
 #[test]
@@ -420,7 +478,7 @@ fn a_write_on_all_that_answered_marks_a_joined_row() {
 }
 
 #[test]
-fn every_length_of_range_buffer_and_patch() {
+fn every_length_of_range_buffer_patch_and_number_called() {
     let names = [7, 70, 700, 7000];
     let file_len = 5;
     let mut archive = Archive::new();
@@ -430,13 +488,15 @@ fn every_length_of_range_buffer_and_patch() {
         trial.step(&found(names.len(), &names, file_len, WIDE_TABLE)).expect("no difference");
         let (coordinator, answering) = (1, set(&[1, 2, 3]));
         for (offset, length) in (0..8).flat_map(|offset| (0..8).map(move |length| (offset, length))) {
-            let patch = vec![0x5a; length as usize];
-            trial.step(&Call::Write { coordinator, answering, offset, patch }).expect("no difference");
-            for buffer_len in 0..8 {
-                let buffer = vec![0xa5; buffer_len];
-                trial
-                    .step(&Call::Read { coordinator, answering, offset, length, buffer })
-                    .expect("no difference");
+            for called in [0, 1, 2, 3].map(|length| vec![0xc5; length]) {
+                let patch = vec![0x5a; length as usize];
+                let write = Call::Write { coordinator, answering, offset, patch, called: called.clone() };
+                trial.step(&write).expect("no difference");
+                for buffer_len in 0..8 {
+                    let (buffer, called) = (vec![0xa5; buffer_len], called.clone());
+                    let read = Call::Read { coordinator, answering, offset, length, buffer, called };
+                    trial.step(&read).expect("no difference");
+                }
             }
         }
     }
@@ -527,8 +587,12 @@ fn every_call(table: &[u8], mark: u8) -> Vec<Call> {
         calls.push(Call::Check { coordinator: first, answering });
         for row in rows::members(answering) {
             let coordinator = row as u64;
-            calls.push(Call::Read { coordinator, answering, offset: 0, length: 1, buffer: vec![0] });
-            calls.push(Call::Write { coordinator, answering, offset: 0, patch: vec![mark] });
+            let called = vec![0xee];
+            let buffer = vec![0];
+            let read =
+                Call::Read { coordinator, answering, offset: 0, length: 1, buffer, called: called.clone() };
+            calls
+                .extend([read, Call::Write { coordinator, answering, offset: 0, patch: vec![mark], called }]);
         }
     }
     for from in 1..=table.used {

@@ -41,11 +41,15 @@ impl Ledger {
         }
         let Some(book) = &mut self.book else { return Ok(()) };
         match call {
-            Call::Read { coordinator, answering, offset, length, buffer } => {
-                if *length == buffer.len() as u64 && passes(book, *coordinator, *answering, *offset, *length)
-                {
+            Call::Read { coordinator, answering, offset, length, buffer, called } => {
+                let lent_fit = *length == buffer.len() as u64 && called.len() == 1;
+                let called = if lent_fit && passes(book, *coordinator, *answering, *offset, *length) {
                     agree(book.refusal(Quorum::Read, *answering), answer.result)?;
-                }
+                    book.called(Quorum::Read, *coordinator as usize, *answering)
+                } else {
+                    0
+                };
+                number_called(called, answer)?;
                 if done && answer.result != book.writes() as u64 {
                     return Err(format!(
                         "{}, but the book counts {} writes",
@@ -57,10 +61,15 @@ impl Ledger {
                     return Err("the book has other bytes in the range read".into());
                 }
             }
-            Call::Write { coordinator, answering, offset, patch } => {
-                if passes(book, *coordinator, *answering, *offset, patch.len() as u64) {
+            Call::Write { coordinator, answering, offset, patch, called } => {
+                let passes = passes(book, *coordinator, *answering, *offset, patch.len() as u64);
+                let called = if called.len() == 1 && passes {
                     agree(book.refusal(Quorum::Write, *answering), answer.result)?;
-                }
+                    book.called(Quorum::Write, *coordinator as usize, *answering)
+                } else {
+                    0
+                };
+                number_called(called, answer)?;
                 if done {
                     book.write(*coordinator as usize, *answering, *offset as usize, patch);
                 }
@@ -89,6 +98,16 @@ fn passes(book: &Book, coordinator: u64, answering: u64, offset: u64, length: u6
     let coordinator_answers = coordinator <= 64 && rows::has(answering, coordinator as usize);
     let fits = offset.checked_add(length).is_some_and(|end| end <= book.file_len() as u64);
     coordinator_answers && answering & !used == 0 && length >= 1 && fits
+}
+
+/// A list of one byte holds the number called.
+fn number_called(by_the_book: usize, answer: &Answer) -> Result<(), String> {
+    match answer.called[..] {
+        [called] if usize::from(called) != by_the_book => {
+            Err(format!("{called} machines called, but by the book {by_the_book}"))
+        }
+        _ => Ok(()),
+    }
 }
 
 fn agree(refusal: u32, result: u64) -> Result<(), String> {
@@ -137,9 +156,11 @@ mod tests {
     }
 
     /// Good rows of a founded history hold the same bytes, so the book cannot tell which of them was read; no history
-    /// leads to two marks in one epoch, or to two shapes in one table; and the book keeps no charts.
+    /// leads to two marks in one epoch, or to two shapes in one table; the book keeps no charts, and does not look at a list
+    /// for the number called that has another length than one byte, nor in which order a write's range and that list are
+    /// asked for.
     #[test]
-    fn the_book_alone_finds_all_blunders_but_eight() {
+    fn the_book_alone_finds_all_blunders_but_ten() {
         let hidden = [
             Blunder::HighestGood,
             Blunder::MarksOfEpoch,
@@ -149,6 +170,8 @@ mod tests {
             Blunder::ShortListFirst,
             Blunder::FiveOfAnyLength,
             Blunder::MarkOfAByte,
+            Blunder::CalledAtAnyLength,
+            Blunder::CalledLengthFirst,
         ];
         for blunder in Blunder::ALL {
             assert_eq!(book_finds(Some(blunder), 50_000), !hidden.contains(&blunder), "{}", blunder.name());

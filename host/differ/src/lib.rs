@@ -17,13 +17,13 @@ mod trial;
 
 pub use archive::report_faults;
 pub use call::{bytes_shown, Call};
+pub use random::Random;
 pub use report::Counts;
 pub use trial::{Case, Failure};
 
 use archive::Archive;
 use generate::Plan;
 use guard::Edge;
-use random::Random;
 use reference::{Blunder, Engine};
 use shrink::Shrinker;
 use trial::Trial;

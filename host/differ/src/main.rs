@@ -105,9 +105,10 @@ fn compare(seed: u64, options: &Options) -> bool {
         println!("differ: no answer of that call: {}", impossible.join(", "));
         return false;
     }
+    let [own, all] = run.counts.stayed();
     println!(
-        "differ: {calls} calls ({} by the scope's rules alone too, {} decided by a grid mark) and {} twins in {:.1} s, \
-         no difference (seed {seed})",
+        "differ: {calls} calls ({} by the scope's rules alone too, {} decided by a grid mark, {own} by an own choice, {all} not) \
+         and {} twins in {:.1} s, no difference (seed {seed})",
         run.counts.published(),
         run.counts.decided(),
         run.counts.twins(),

@@ -10,6 +10,8 @@ impl Random {
         Random(start ^ case.wrapping_mul(0xd134_2543_de82_ef95))
     }
 
+    /// The next number; as there is always one, this is no iterator.
+    #[allow(clippy::should_implement_trait)]
     pub fn next(&mut self) -> u64 {
         self.0 = self.0.wrapping_add(0x9e37_79b9_7f4a_7c15);
         let mut word = self.0;

@@ -23,13 +23,17 @@ pub struct Counts {
     /// For each kind of call and grid mark, how often a list of that mark judged it that its other grid would have judged
     /// otherwise.
     decided: [[u64; MARKS.len()]; KINDS],
+    /// For each kind of call, answer and length of the list for the number called, how often they came together.
+    lents: [BTreeMap<(u32, usize), u64>; KINDS],
+    /// For each kind of call and answer, how often it surely stayed with the own choice, and how often it surely did not.
+    stayed: [BTreeMap<(u32, bool), u64>; KINDS],
 }
 
 /// The answers that each kind of call can give, 0 for done, in the order of `Call::KINDS`.
 const POSSIBLE: [&[u32]; KINDS] = [
     &[0, 11, 12],
     &[0, 1, 2, 3, 4, 5, 6, 7],
-    &[0, 1, 2, 3, 4, 6, 7, 8],
+    &[0, 1, 2, 3, 4, 5, 6, 7, 8],
     &[0, 1, 2, 3, 9, 10],
     &[0, 1, 2, 3, 6, 7, 8],
     &[0, 1, 13, 14],
@@ -44,6 +48,14 @@ const PUBLISHED: RangeInclusive<usize> = 1..=4;
 
 /// The kinds of calls that ask for a quorum: read, write, check.
 const QUORUM: [usize; 3] = [1, 2, 4];
+
+/// The kinds of calls that say how many machines were called: read and write. Each answer that they give before anyone is
+/// called must come with each of these lengths of the list for the number; 5 comes with one byte from a read only.
+const CALLING: [usize; 2] = [1, 2];
+const BEFORE_CALLING: RangeInclusive<u32> = 1..=5;
+const LENT: [usize; 3] = [0, 1, 2];
+/// The answers that both a call that stayed with its own choice and one that did not can give.
+const EITHER: [u32; 2] = [0, 8];
 
 /// The lists that can lie in two grids, by grid mark.
 const MARKS: [&str; 3] = ["a five in the published grid", "a five in the new grid", "a tall list"];
@@ -114,6 +126,12 @@ pub struct Step {
     pub published: bool,
     /// The mark of the list that judged the call, if its other grid would have judged otherwise.
     pub decided: Option<u8>,
+    /// The length of the list for the number called, if one was lent.
+    pub lent: Option<usize>,
+    /// The number of machines called, if there was a byte for it.
+    pub called: Option<u8>,
+    /// Did the call stay with the own choice? None if that cannot be told.
+    pub stayed: Option<bool>,
 }
 
 impl Default for Counts {
@@ -124,13 +142,22 @@ impl Default for Counts {
             grounds: Default::default(),
             published: Default::default(),
             decided: Default::default(),
+            lents: Default::default(),
+            stayed: Default::default(),
         }
     }
 }
 
 impl Counts {
     pub fn add(&mut self, call: &Call, step: Step) {
-        *self.answers[call.kind()].entry((step.result >> 32) as u32).or_default() += 1;
+        let answer = (step.result >> 32) as u32;
+        *self.answers[call.kind()].entry(answer).or_default() += 1;
+        if let Some(lent) = step.lent {
+            *self.lents[call.kind()].entry((answer, lent)).or_default() += 1;
+        }
+        if let Some(stayed) = step.stayed {
+            *self.stayed[call.kind()].entry((answer, stayed)).or_default() += 1;
+        }
         self.grounds[call.kind()][step.ground as usize] += 1;
         self.published[call.kind()] += u64::from(step.published && step.ground == Ground::Published);
         if let Some(mark) = step.decided {
@@ -182,7 +209,30 @@ impl Counts {
             let never = MARKS.into_iter().zip(self.decided[kind]).filter(|&(_, count)| count == 0);
             missing.extend(never.map(|(list, _)| format!("{} decided by {list}", Call::KINDS[kind])));
         }
+        for kind in CALLING {
+            let (name, possible) = (Call::KINDS[kind], POSSIBLE[kind]);
+            for (answer, lent) in BEFORE_CALLING.flat_map(|answer| LENT.map(|lent| (answer, lent))) {
+                let of_the_buffer = answer == 5 && lent == 1;
+                if !self.lents[kind].contains_key(&(answer, lent)) && !(of_the_buffer && name == "write") {
+                    missing.push(format!("{name} {answer} with {lent} bytes for the number called"));
+                }
+            }
+            for answer in EITHER.into_iter().filter(|answer| possible.contains(answer)) {
+                let never =
+                    [true, false].into_iter().filter(|&own| !self.stayed[kind].contains_key(&(answer, own)));
+                let by = |own| if own { "by its own choice" } else { "by all" };
+                missing.extend(never.map(|own| format!("{name} {answer} {}", by(own))));
+            }
+        }
         missing
+    }
+
+    /// How often a read or write stayed with its own choice, and how often it did not, where that can be told.
+    pub fn stayed(&self) -> [u64; 2] {
+        [true, false].map(|own| {
+            let counts = self.stayed.iter().flatten();
+            counts.filter(|((_, stayed), _)| *stayed == own).map(|(_, count)| count).sum()
+        })
     }
 
     /// Answers that came, and that the call cannot give.
@@ -221,8 +271,15 @@ mod tests {
     fn calls() -> [Call; KINDS] {
         [
             Call::Found { capacity: 1, file_len: 1, names: vec![1, 0], choice: 0 },
-            Call::Read { coordinator: 1, answering: 1, offset: 0, length: 1, buffer: vec![0] },
-            Call::Write { coordinator: 1, answering: 1, offset: 0, patch: vec![0] },
+            Call::Read {
+                coordinator: 1,
+                answering: 1,
+                offset: 0,
+                length: 1,
+                buffer: vec![0],
+                called: vec![0],
+            },
+            Call::Write { coordinator: 1, answering: 1, offset: 0, patch: vec![0], called: vec![0] },
             Call::Send { from: 1, to: 2, answering: 3 },
             Call::Check { coordinator: 1, answering: 1 },
             Call::Join { name: 1 },
@@ -233,14 +290,28 @@ mod tests {
     /// A call that gave this answer, on a table whose rows all have a list in the published grid.
     fn step(answer: u32) -> Step {
         let result = u64::from(answer) << 32;
-        Step { result, ground: Ground::Published, twin_of: None, published: false, decided: None }
+        let ground = Ground::Published;
+        let (twin_of, decided, lent, called, stayed) = (None, None, None, None, None);
+        Step { result, ground, twin_of, published: false, decided, lent, called, stayed }
     }
 
     #[test]
     fn every_answer_table_and_size_must_come() {
         let mut counts = Counts::default();
         let answers: usize = POSSIBLE.iter().map(|answers| answers.len()).sum();
-        assert_eq!(counts.missing().len(), answers + 5 * (64 + Ground::ALL.len()) + 4 + 9);
+        let called = (5 * 3 + 2) + (5 * 3 - 1 + 4);
+        assert_eq!(counts.missing().len(), answers + 5 * (64 + Ground::ALL.len()) + 4 + 9 + called);
+        for kind in CALLING {
+            for (answer, lent) in BEFORE_CALLING.flat_map(|answer| LENT.map(|lent| (answer, lent))) {
+                counts.add(&calls()[kind], Step { lent: Some(lent), ..step(answer) });
+            }
+            for (answer, own) in EITHER.into_iter().flat_map(|answer| [(answer, true), (answer, false)]) {
+                if POSSIBLE[kind].contains(&answer) {
+                    counts.add(&calls()[kind], Step { stayed: Some(own), ..step(answer) });
+                }
+            }
+        }
+        assert_eq!(counts.stayed(), [3, 3]);
         for (call, possible) in calls().iter().zip(POSSIBLE) {
             for &answer in possible {
                 counts.add(call, step(answer));

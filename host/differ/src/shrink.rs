@@ -120,13 +120,14 @@ fn plainer(call: &Call) -> Vec<Call> {
         Call::Found { capacity, file_len, names, .. } => {
             vec![Call::Found { capacity: *capacity, file_len: *file_len, names: names.clone(), choice: 0 }]
         }
-        Call::Read { coordinator, answering, offset, length, buffer } => {
+        Call::Read { coordinator, answering, offset, length, buffer, called } => {
             let with = |answering, offset, length, buffer: &[u8]| Call::Read {
                 coordinator: *coordinator,
                 answering,
                 offset,
                 length,
                 buffer: buffer.to_vec(),
+                called: called.clone(),
             };
             let mut calls: Vec<Call> =
                 fewer(*answering).map(|set| with(set, *offset, *length, buffer)).collect();
@@ -138,12 +139,13 @@ fn plainer(call: &Call) -> Vec<Call> {
             }
             calls
         }
-        Call::Write { coordinator, answering, offset, patch } => {
+        Call::Write { coordinator, answering, offset, patch, called } => {
             let with = |answering, offset, patch: &[u8]| Call::Write {
                 coordinator: *coordinator,
                 answering,
                 offset,
                 patch: patch.to_vec(),
+                called: called.clone(),
             };
             let mut calls: Vec<Call> = fewer(*answering).map(|set| with(set, *offset, patch)).collect();
             if patch.len() > 1 {

@@ -7,7 +7,7 @@ use crate::ledger::Ledger;
 use crate::random::Random;
 use crate::report::{Ground, Step};
 use crate::tables::{self, Picture};
-use reference::{rows, Engine, Laid, Layout, Quorum, Rules, Shape, Table, HEADER, TALL};
+use reference::{rows, Engine, Grid, Laid, Layout, Quorum, Rules, Shape, Table, HEADER, TALL};
 
 /// A table and the calls made on it.
 #[derive(Clone, Debug)]
@@ -72,6 +72,7 @@ impl<'a> Trial<'a> {
         self.refer(self.reference, call, &answer, &before)?;
         let published = self.ask_published(call, &answer, &before, ground)?;
         frame(call, &answer, &before, &self.table)?;
+        called_frame(call, &answer, judged.as_ref())?;
         let (decided, twin_of) = match &judged {
             Some(table) => {
                 (deciding_mark(call, &answer, table), self.ask_twin(call, &answer, &before, table)?)
@@ -82,7 +83,10 @@ impl<'a> Trial<'a> {
         if self.ledger.is_open() && Table::decode(&self.table).is_none() {
             return Err("a founded history leaves a malformed table".into());
         }
-        Ok(Step { result: answer.result, ground, twin_of, published, decided })
+        let called = (answer.called.len() == 1).then(|| answer.called[0]);
+        let lent = call.called().map(<[u8]>::len);
+        let stayed = judged.as_ref().and_then(|table| stayed(call, called?, table));
+        Ok(Step { result: answer.result, ground, twin_of, published, decided, lent, called, stayed })
     }
 
     /// Compares what the archive gave and left with what the engine gives and leaves.
@@ -176,7 +180,8 @@ fn compare(answer: &Answer, table: &[u8], expected: &Answer, expected_table: &[u
         return Err(format!("result: archive {archive}, reference {reference}"));
     }
     same_bytes("table", table, expected_table)?;
-    same_bytes("buffer", &answer.buffer, &expected.buffer)
+    same_bytes("buffer", &answer.buffer, &expected.buffer)?;
+    same_bytes("number called,", &answer.called, &expected.called)
 }
 
 fn same_bytes(of: &str, archive: &[u8], reference: &[u8]) -> Result<(), String> {
@@ -191,7 +196,7 @@ fn same_bytes(of: &str, archive: &[u8], reference: &[u8]) -> Result<(), String> 
     }
 }
 
-/// A refused call has value 0 and alters nothing; a done one, founding and joining aside, alters only rows that answered.
+/// A refused call has value 0 and alters nothing but the number called; a done one, founding and joining aside, alters only rows that answered.
 fn frame(call: &Call, answer: &Answer, before: &[u8], after: &[u8]) -> Result<(), String> {
     if answer.result >> 32 != 0 {
         let lent_kept = call.lent().is_none_or(|lent| lent == answer.buffer);
@@ -215,6 +220,59 @@ fn frame(call: &Call, answer: &Answer, before: &[u8], after: &[u8]) -> Result<()
         }
     }
     Ok(())
+}
+
+/// The own choice of the coordinator of a read or write, which answers, and the grid of its own list.
+fn own_choice(call: &Call, table: &Picture) -> Option<(Quorum, u64, Grid)> {
+    let (coordinator, quorum) = match *call {
+        Call::Read { coordinator, .. } => (coordinator, Quorum::Read),
+        Call::Write { coordinator, .. } => (coordinator, Quorum::Write),
+        _ => return None,
+    };
+    let own = table.rows.get((coordinator as usize).checked_sub(1)?)?;
+    let layout = Layout::of(own.list, &table.chain);
+    Some((quorum, layout.choice(quorum, own.name), layout.grid))
+}
+
+/// Did the call that says this number stay with the own choice? None if the number does not tell, or nobody was called.
+fn stayed(call: &Call, called: u8, table: &Picture) -> Option<bool> {
+    let (_, choice, _) = own_choice(call, table)?;
+    let (chosen, all) = (choice.count_ones(), table.used as u32);
+    (chosen != all && called != 0).then_some(u32::from(called) == chosen)
+}
+
+/// A list for the number called that has not one byte stays as it was. In one of one byte there is 0 if the call was refused
+/// by 1 to 5; all used rows if it was refused by 6 or 7; and otherwise these, or at most as many as the grid of the own list
+/// has rows and columns, less one, for a write, and as many as it has columns for a read.
+fn called_frame(call: &Call, answer: &Answer, table: Option<&Picture>) -> Result<(), String> {
+    let Some(lent) = call.called() else { return Ok(()) };
+    let [called] = answer.called[..] else {
+        let kept = answer.called == lent && answer.result >> 32 != 0;
+        return if kept {
+            Ok(())
+        } else {
+            Err("a list that has not one byte was not refused and left alone".into())
+        };
+    };
+    let called = usize::from(called);
+    let told = match (answer.result >> 32, table) {
+        (1..=5, _) => called == 0,
+        (6 | 7, Some(table)) => called == table.used,
+        (_, Some(table)) => {
+            let own = own_choice(call, table);
+            let few = |(quorum, _, grid): (Quorum, u64, Grid)| match quorum {
+                Quorum::Read => called == grid.columns,
+                Quorum::Write => (1..=grid.rows + grid.columns - 1).contains(&called),
+            };
+            called == table.used || own.is_some_and(|own| own.1 != 0 && few(own))
+        }
+        (_, None) => false,
+    };
+    if told {
+        Ok(())
+    } else {
+        Err(format!("{called} machines called by a call with {}", result_shown(answer.result)))
+    }
 }
 
 /// A done chart lists rising sets of its members from the first place on; every other byte of the list stays.
@@ -300,7 +358,7 @@ mod tests {
     #[test]
     fn a_chart_that_strays_is_found_out() {
         let frame = |result, buffer: &[u8]| {
-            let answer = Answer { result, buffer: buffer.to_vec() };
+            let answer = Answer { result, buffer: buffer.to_vec(), called: Vec::new() };
             frame(&Call::Chart { length: 4, mark: 0, list: vec![9; 7] }, &answer, &[1], &[1])
         };
         assert_eq!(frame(2, &[3, 0, 6, 0, 9, 9, 9]), Ok(()));
@@ -313,6 +371,42 @@ mod tests {
         assert!(frame(0, &[9; 7]).is_err() && frame(4, &[9; 7]).is_err());
         assert_eq!(frame(17 << 32, &[9; 7]), Ok(()));
         assert!(frame(17 << 32 | 1, &[9; 7]).is_err() && frame(5 << 32, &[0; 7]).is_err());
+    }
+
+    /// Four machines, columns {1, 3} and {2, 4}: a write's choice has three of them, a read's two.
+    #[test]
+    fn a_wrong_number_called_is_found_out() {
+        let mut bytes = vec![0; Table::length(4, 1)];
+        Engine::default().found(&mut bytes, 4, 1, &tables::names_in_bytes(&[10, 20, 30, 40]), 0);
+        let table = Picture::of(&bytes);
+        let (coordinator, answering, offset, length) = (1, 15, 0, 1);
+        let told = |refusal: u64, lent: &[u8], after: &[u8]| {
+            let answer = Answer { result: refusal << 32, buffer: Vec::new(), called: after.to_vec() };
+            let (buffer, patch, called) = (vec![0], vec![0], lent.to_vec());
+            let calls = [
+                Call::Read { coordinator, answering, offset, length, buffer, called: called.clone() },
+                Call::Write { coordinator, answering, offset, patch, called },
+            ];
+            calls.map(|call| called_frame(&call, &answer, table.as_ref()).is_ok())
+        };
+        assert_eq!([0, 1, 2, 3, 4, 5].map(|called| told(0, &[9], &[called])), {
+            [[false, false], [false, true], [true, true], [false, true], [true, true], [false, false]]
+        });
+        for refusal in 1..=5 {
+            assert_eq!(
+                [0, 2, 4].map(|called| told(refusal, &[9], &[called])),
+                [[true; 2], [false; 2], [false; 2]]
+            );
+            assert_eq!((told(refusal, &[], &[]), told(refusal, &[9, 9], &[9, 9])), ([true; 2], [true; 2]));
+            assert_eq!(told(refusal, &[9, 9], &[0, 9]), [false; 2]);
+        }
+        for refusal in [6, 7] {
+            assert_eq!(
+                [0, 3, 4].map(|called| told(refusal, &[9], &[called])),
+                [[false; 2], [false; 2], [true; 2]]
+            );
+        }
+        assert_eq!((told(0, &[], &[]), told(0, &[9, 9], &[9, 9])), ([false; 2], [false; 2]));
     }
 
     /// A row in the wrong place of the chain has one link before it too, but the names no longer rise.

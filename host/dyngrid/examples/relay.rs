@@ -1,7 +1,7 @@
 //! Machines that each hold their own row: a relay gathers the rows that answer, makes a call on them, and ships the
 //! rows that changed. Four are founded, and a fifth joins. Run with `cargo run --example relay`.
 
-use dyngrid::{Refusal, Rows, Shape, Table};
+use dyngrid::{Done, Refusal, Rows, Shape, Table};
 
 const FILE_LEN: usize = 16;
 /// Bytes of a row, and of the header before the rows.
@@ -62,13 +62,14 @@ impl Relay {
         Ok(value)
     }
 
-    fn write(&mut self, by: usize, answering: Rows, score: &[u8]) -> Result<u32, Refusal> {
-        self.call(&format!("write by row {by}"), answering, |table| table.write(by, answering, 0, score))
+    fn write(&mut self, by: usize, answering: Rows, score: &[u8]) -> Result<Done, Refusal> {
+        self.call(&format!("write by row {by}"), answering, |table| Ok(table.write(by, answering, 0, score)?))
     }
 
     fn read(&mut self, by: usize, answering: Rows) -> Result<[u8; 3], Refusal> {
         let mut score = [0; 3];
-        self.call(&format!("read by row {by}"), answering, |table| table.read(by, answering, 0, &mut score))?;
+        let read = |table: &mut Table| Ok(table.read(by, answering, 0, &mut score)?);
+        self.call(&format!("read by row {by}"), answering, read)?;
         Ok(score)
     }
 
@@ -90,13 +91,14 @@ impl Relay {
 fn main() -> Result<(), Refusal> {
     let mut relay = Relay::found(5, &[10, 20, 30, 40])?;
 
-    // The own choice of row 4, by its name, is {1, 2, 3}. All of them answer, so the write is theirs alone.
-    relay.write(4, Rows::first(4), b"1-0")?;
+    // The own choice of row 4, by its name, is {1, 2, 3}. All of them answer, so the write is theirs alone: three were called.
+    assert_eq!(relay.write(4, Rows::first(4), b"1-0")?.called, 3);
     // Row 4 missed the write, unmarked. With row 3 it still reads the new score.
     assert_eq!(relay.read(4, Rows::of(&[3, 4])?)?, *b"1-0");
 
-    // Machine 30 is away. Too few of the own choice are left, so the set is all that answer, and row 4 is marked.
-    relay.write(4, Rows::of(&[1, 2, 4])?, b"0-1")?;
+    // Machine 30 is away. Too few of the own choice are left, so all four are called. The set is all that answer, and row 4 is
+    // marked.
+    assert_eq!(relay.write(4, Rows::of(&[1, 2, 4])?, b"0-1")?.called, 4);
     assert!(relay.is_stale(4));
     relay.send(1, 4)?;
 

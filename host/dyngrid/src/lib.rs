@@ -8,21 +8,23 @@
 //! use dyngrid::{Rows, Shape, Table};
 //!
 //! let mut table = Table::found(4, 16, &[10, 20, 30, 40], Shape::Wide)?;
-//! let version = table.write(1, Rows::of(&[1, 2, 3])?, 0, b"1-0")?;
+//! let written = table.write(1, Rows::of(&[1, 2, 3])?, 0, b"1-0")?;
 //! let mut score = [0; 3];
-//! assert_eq!(table.read(4, Rows::of(&[3, 4])?, 0, &mut score)?, version);
+//! assert_eq!(table.read(4, Rows::of(&[3, 4])?, 0, &mut score)?.version, written.version);
 //! assert_eq!(&score, b"1-0");
 //! # Ok::<(), dyngrid::Refusal>(())
 //! ```
 
 #![deny(missing_docs)]
 
+mod called;
 mod chart;
 pub mod raw;
 mod refusal;
 mod rows;
 mod table;
 
+pub use called::{Done, Refused};
 pub use chart::chart;
 pub use refusal::Refusal;
 pub use rows::{Rows, RowsIter};

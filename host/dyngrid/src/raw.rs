@@ -11,7 +11,7 @@ use std::sync::OnceLock;
 
 /// Rises with every signature below that is new or changed, as in the archive, and with nothing else: a table tells its form
 /// itself.
-pub const INTERFACE: u64 = 4;
+pub const INTERFACE: u64 = 5;
 
 /// The choices of a founding: a wide table, or a tall one.
 pub const WIDE: u64 = 0;
@@ -48,7 +48,7 @@ extern "C" {
         choice: u64,
     ) -> u64;
 
-    /// Reads a range into the buffer. Value: the version read.
+    /// Reads a range into the buffer; says in one byte how many machines were called. Value: the version read.
     pub fn grid_read(
         table: *const u8,
         table_len: usize,
@@ -58,9 +58,11 @@ extern "C" {
         length: u64,
         buffer: *mut u8,
         buffer_len: usize,
+        called: *mut u8,
+        called_len: usize,
     ) -> u64;
 
-    /// Lays the patch over the file. Value: the new version.
+    /// Lays the patch over the file; says in one byte how many machines were called. Value: the new version.
     pub fn grid_write(
         table: *mut u8,
         table_len: usize,
@@ -69,6 +71,8 @@ extern "C" {
         offset: u64,
         patch: *const u8,
         patch_len: usize,
+        called: *mut u8,
+        called_len: usize,
     ) -> u64;
 
     /// Brings the stale row `to` up to the state of the row `from`. Value: the version it then has.
@@ -95,7 +99,7 @@ mod tests {
 
     #[test]
     #[should_panic(
-        expected = "has interface 7, and this wrapper needs 4: build archive and wrapper from one checkout"
+        expected = "has interface 7, and this wrapper needs 5: build archive and wrapper from one checkout"
     )]
     fn another_archive_is_refused() {
         agree(7);

@@ -1,7 +1,7 @@
 use std::error::Error;
 use std::fmt;
 
-/// Why a call was refused. A refused call alters nothing.
+/// Why a call was refused. A refused call alters nothing of its table or its buffer.
 ///
 /// Later versions of the library refuse for more reasons, so a `match` needs an arm for all others.
 #[derive(Clone, Copy, Debug, PartialEq, Eq, Hash)]
@@ -15,7 +15,8 @@ pub enum Refusal {
     NotAnswering,
     /// 4: the range is empty or ends beyond the file.
     OutOfRange,
-    /// 5: the buffer is not exactly as long as the range, or a chart's list is shorter than 128 bytes.
+    /// 5: the buffer is not exactly as long as the range, the list for the number called not one byte, or a chart's list
+    /// shorter than 128 bytes. From this wrapper it never comes.
     WrongBuffer,
     /// 6: the rows that answered hold no quorum.
     NoQuorum,
@@ -99,7 +100,8 @@ impl Refusal {
             Refusal::NotAnswering => "the coordinator, or an end of a send, is not among the rows that answered: add it",
             Refusal::OutOfRange => "the range is empty or ends beyond the file: name at least one byte, all inside the file",
             Refusal::WrongBuffer => {
-                "the buffer is not as long as the range: lend one of exactly that length (to a chart: at least 128 bytes)"
+                "the buffer is not as long as the range: lend one of exactly that length (for the number called: one byte; \
+                 to a chart: at least 128)"
             }
             Refusal::NoQuorum => "the rows that answered hold no quorum: try again when more of them answer",
             Refusal::NotCurrent => "no row that answered has the newest version: try again with a row that has it",

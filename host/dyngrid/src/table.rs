@@ -1,5 +1,6 @@
+use crate::called::answer;
 use crate::refusal::split;
-use crate::{raw, Refusal, Rows};
+use crate::{raw, Done, Refusal, Refused, Rows};
 use std::error::Error;
 use std::fmt;
 
@@ -134,16 +135,17 @@ impl Table {
         self.bytes
     }
 
-    /// Reads as many bytes from `offset` on as the buffer holds; gives the version read.
+    /// Reads as many bytes from `offset` on as the buffer holds; gives the version read, and how many machines were called.
     pub fn read(
         &self,
         coordinator: usize,
         answering: Rows,
         offset: usize,
         buffer: &mut [u8],
-    ) -> Result<u32, Refusal> {
-        // SAFETY: `&self` and `&mut buffer` are live for the call and cannot overlap.
-        split(unsafe {
+    ) -> Result<Done, Refused> {
+        let mut called = 0;
+        // SAFETY: `&self`, `&mut buffer` and `called` are live for the call and cannot overlap.
+        let result = unsafe {
             raw::grid_read(
                 self.bytes.as_ptr(),
                 self.bytes.len(),
@@ -153,20 +155,37 @@ impl Table {
                 buffer.len() as u64,
                 buffer.as_mut_ptr(),
                 buffer.len(),
+                &mut called,
+                1,
             )
-        })
+        };
+        answer(result, called)
     }
 
-    /// Lays the patch over the file from `offset` on; gives the new version.
+    /// Lays the patch over the file from `offset` on; gives the new version, and how many machines were called.
+    ///
+    /// ```
+    /// use dyngrid::{Refusal, Rows, Shape, Table};
+    ///
+    /// let mut table = Table::found(4, 16, &[10, 20, 30, 40], Shape::Wide)?;
+    /// // The own choice of row 1 is {1, 2, 3}: it was enough. With row 3 away all four had to be called.
+    /// assert_eq!(table.write(1, Rows::first(4), 0, b"1-0")?.called, 3);
+    /// assert_eq!(table.write(1, Rows::of(&[1, 2, 4])?, 0, b"0-1")?.called, 4);
+    /// // All were called, and too few answered.
+    /// let refused = table.write(1, Rows::of(&[1, 4])?, 0, b"0-0").unwrap_err();
+    /// assert_eq!((refused.refusal, refused.called), (Refusal::NoQuorum, 4));
+    /// # Ok::<(), Refusal>(())
+    /// ```
     pub fn write(
         &mut self,
         coordinator: usize,
         answering: Rows,
         offset: usize,
         patch: &[u8],
-    ) -> Result<u32, Refusal> {
-        // SAFETY: `&mut self` and `&patch` are live for the call and cannot overlap.
-        split(unsafe {
+    ) -> Result<Done, Refused> {
+        let mut called = 0;
+        // SAFETY: `&mut self`, `&patch` and `called` are live for the call and cannot overlap.
+        let result = unsafe {
             raw::grid_write(
                 self.bytes.as_mut_ptr(),
                 self.bytes.len(),
@@ -175,8 +194,11 @@ impl Table {
                 offset as u64,
                 patch.as_ptr(),
                 patch.len(),
+                &mut called,
+                1,
             )
-        })
+        };
+        answer(result, called)
     }
 
     /// Brings the stale row `to` up to the state of the row `from`; gives the version it then has.

@@ -1,6 +1,11 @@
 //! The wrapper keeps its promises: nothing panics, refusals have the right number, tables keep their length.
 
-use dyngrid::{chart, Refusal, Rows, Shape, Table};
+use dyngrid::{chart, Done, Refusal, Refused, Rows, Shape, Table};
+
+/// The version, or the refusal, of a read or write.
+fn version_of(answer: Result<Done, Refused>) -> Result<u32, Refusal> {
+    Ok(answer?.version)
+}
 
 fn four() -> Table {
     Table::found(4, 4, &[1, 2, 3, 4], Shape::Wide).expect("a plain founding")
@@ -76,8 +81,8 @@ fn five_bear_the_loss_of_any_one() {
         let left = five.rows() - Rows::of(&[lost]).expect("a row");
         let by = left.iter().next().expect("four rows");
         let mut table = five.clone();
-        assert_eq!(table.read(by, left, 0, &mut [0; 3]), Ok(0));
-        assert_eq!(table.write(by, left, 0, b"1-0"), Ok(1));
+        assert_eq!(version_of(table.read(by, left, 0, &mut [0; 3])), Ok(0));
+        assert_eq!(version_of(table.write(by, left, 0, b"1-0")), Ok(1));
         assert_eq!(table.check(by, left), Ok(1));
         assert!(left.iter().all(|row| table.row(row).is_some_and(|row| row[24] == 0)));
     }
@@ -92,24 +97,27 @@ fn a_tall_table_stays_tall() {
     };
     let mut table = Table::found(6, 4, &[10, 20], Shape::Tall).expect("a plain founding");
     let mut got = [0; 3];
-    assert_eq!([1, 2].map(|row| table.read(row, Rows::from_bits(row as u64), 0, &mut got)), [Ok(0); 2]);
-    assert_eq!(table.write(1, Rows::first(1), 0, b"1-0"), Err(Refusal::NoQuorum));
-    assert_eq!(table.write(1, Rows::first(2), 0, b"1-0"), Ok(1));
     assert_eq!(
-        table.read(2, Rows::from_bits(2), 0, &mut got).map(|version| (version, &got)),
+        [1, 2].map(|row| version_of(table.read(row, Rows::from_bits(row as u64), 0, &mut got))),
+        [Ok(0); 2]
+    );
+    assert_eq!(version_of(table.write(1, Rows::first(1), 0, b"1-0")), Err(Refusal::NoQuorum));
+    assert_eq!(version_of(table.write(1, Rows::first(2), 0, b"1-0")), Ok(1));
+    assert_eq!(
+        version_of(table.read(2, Rows::from_bits(2), 0, &mut got)).map(|version| (version, &got)),
         Ok((1, b"1-0"))
     );
     assert_eq!([30, 40, 50, 60].map(|name| table.join(name)), [3, 4, 5, 6].map(Ok));
     assert_eq!(marks(&table), [2, 2, 0, 0, 0, 0]);
     assert_eq!(table.check(6, table.rows()), Ok(1));
     assert_eq!(marks(&table), [2; 6]);
-    assert_eq!(table.read(1, Rows::first(2), 0, &mut got), Ok(1));
+    assert_eq!(version_of(table.read(1, Rows::first(2), 0, &mut got)), Ok(1));
     let mut wide = Table::found(6, 4, &[10, 20, 30, 40, 50, 60], Shape::Wide).expect("a plain founding");
-    assert_eq!(wide.read(1, Rows::first(2), 0, &mut got), Err(Refusal::NoQuorum));
+    assert_eq!(version_of(wide.read(1, Rows::first(2), 0, &mut got)), Err(Refusal::NoQuorum));
     // Columns {1, 4}, {2, 5} and {3, 6} against {1, 3, 5} and {2, 4, 6}.
-    assert_eq!(wide.write(1, Rows::first(4), 0, b"0-1"), Ok(1));
-    assert_eq!(table.write(1, Rows::first(4), 0, b"0-1"), Err(Refusal::NoQuorum));
-    assert_eq!(table.write(1, Rows::first(5), 0, b"0-1"), Ok(2));
+    assert_eq!(version_of(wide.write(1, Rows::first(4), 0, b"0-1")), Ok(1));
+    assert_eq!(version_of(table.write(1, Rows::first(4), 0, b"0-1")), Err(Refusal::NoQuorum));
+    assert_eq!(version_of(table.write(1, Rows::first(5), 0, b"0-1")), Ok(2));
 }
 
 #[test]
@@ -141,7 +149,11 @@ fn a_chart_says_who_can_write() {
             let by = answering.iter().next().expect("not empty");
             let enough = quorums.iter().any(|&quorum| u64::from(quorum) & !bits == 0);
             let expected = if enough { Ok(1) } else { Err(Refusal::NoQuorum) };
-            assert_eq!(founded.clone().write(by, answering, 0, &[1]), expected, "{answering}, {shape:?}");
+            assert_eq!(
+                version_of(founded.clone().write(by, answering, 0, &[1])),
+                expected,
+                "{answering}, {shape:?}"
+            );
         }
     }
 }
@@ -156,11 +168,11 @@ fn five_taken_over_keep_their_grid_until_they_are_laid_anew() {
     let but_the_third = Rows::of(&[1, 2, 4, 5]).expect("rows");
     let mut got = [0; 3];
     assert_eq!(table.check(1, all), Ok(0));
-    assert_eq!(table.read(1, but_the_third, 0, &mut got), Err(Refusal::NoQuorum));
+    assert_eq!(version_of(table.read(1, but_the_third, 0, &mut got)), Err(Refusal::NoQuorum));
     assert_eq!(table.check(1, but_the_third), Err(Refusal::NoQuorum));
-    assert_eq!(table.read(1, Rows::first(3), 0, &mut got), Ok(0));
+    assert_eq!(version_of(table.read(1, Rows::first(3), 0, &mut got)), Ok(0));
     assert_eq!((table.check(1, four), table.check(1, all)), (Ok(1), Ok(2)));
-    assert_eq!(table.read(1, but_the_third, 0, &mut got), Ok(0));
+    assert_eq!(version_of(table.read(1, but_the_third, 0, &mut got)), Ok(0));
 }
 
 #[test]
@@ -182,7 +194,7 @@ fn several_threads_read_one_table() {
     let mut table =
         Table::found(9, 100, &[1, 2, 3, 4, 5, 6, 7, 8, 9], Shape::Wide).expect("a plain founding");
     let file: Vec<u8> = (0..100).collect();
-    assert_eq!(table.write(5, table.rows(), 0, &file), Ok(1));
+    assert_eq!(version_of(table.write(5, table.rows(), 0, &file)), Ok(1));
     let (table, before) = (shared(table.clone()), table);
     std::thread::scope(|scope| {
         for coordinator in table.rows() {
@@ -190,7 +202,7 @@ fn several_threads_read_one_table() {
             scope.spawn(move || {
                 for offset in (0..file.len()).cycle().take(20_000) {
                     let mut got = vec![0; file.len() - offset];
-                    assert_eq!(table.read(coordinator, table.rows(), offset, &mut got), Ok(1));
+                    assert_eq!(version_of(table.read(coordinator, table.rows(), offset, &mut got)), Ok(1));
                     assert_eq!(got, file[offset..]);
                 }
             });
@@ -220,11 +232,11 @@ fn refused_calls_alter_nothing() {
     let mut table = four();
     let all = Rows::first(4);
     let mut buffer = [7; 2];
-    assert_eq!(table.read(0, all, 0, &mut buffer), Err(Refusal::NoSuchRow));
-    assert_eq!(table.read(1, Rows::EMPTY, 0, &mut buffer), Err(Refusal::NotAnswering));
-    assert_eq!(table.read(1, all, usize::MAX, &mut buffer), Err(Refusal::OutOfRange));
-    assert_eq!(table.read(1, Rows::first(1), 0, &mut buffer), Err(Refusal::NoQuorum));
-    assert_eq!(table.write(1, all, 0, &[]), Err(Refusal::OutOfRange));
+    assert_eq!(version_of(table.read(0, all, 0, &mut buffer)), Err(Refusal::NoSuchRow));
+    assert_eq!(version_of(table.read(1, Rows::EMPTY, 0, &mut buffer)), Err(Refusal::NotAnswering));
+    assert_eq!(version_of(table.read(1, all, usize::MAX, &mut buffer)), Err(Refusal::OutOfRange));
+    assert_eq!(version_of(table.read(1, Rows::first(1), 0, &mut buffer)), Err(Refusal::NoQuorum));
+    assert_eq!(version_of(table.write(1, all, 0, &[])), Err(Refusal::OutOfRange));
     assert_eq!(table.send(1, 2, all), Err(Refusal::ReceiverNotBehind));
     assert_eq!(buffer, [7; 2]);
     assert_eq!(table, four());
@@ -264,20 +276,39 @@ fn a_joined_row_counts_once_a_check_takes_it_in() {
     let mut table = Table::found(3, 4, &[10, 20], Shape::Wide).expect("a plain founding");
     let (both, all) = (Rows::first(2), Rows::first(3));
     let mut got = [0; 3];
-    assert_eq!(table.write(1, both, 0, b"1-0"), Ok(1));
+    assert_eq!(version_of(table.write(1, both, 0, b"1-0")), Ok(1));
     assert_eq!(table.join(30), Ok(3));
-    assert_eq!(table.read(3, Rows::from_bits(4), 0, &mut got), Err(Refusal::NoQuorum));
-    assert_eq!(table.read(3, all, 0, &mut got).map(|version| (version, &got)), Ok((1, b"1-0")));
-    assert_eq!(table.write(3, Rows::from_bits(6), 0, b"0-1"), Err(Refusal::NoQuorum));
+    assert_eq!(version_of(table.read(3, Rows::from_bits(4), 0, &mut got)), Err(Refusal::NoQuorum));
+    assert_eq!(version_of(table.read(3, all, 0, &mut got)).map(|version| (version, &got)), Ok((1, b"1-0")));
+    assert_eq!(version_of(table.write(3, Rows::from_bits(6), 0, b"0-1")), Err(Refusal::NoQuorum));
     assert_eq!(table.send(1, 3, all), Err(Refusal::ReceiverNotBehind));
     assert_eq!(table.check(3, all), Ok(1));
     assert_eq!(table.send(1, 3, all), Ok(1));
     // Of three, the first and the second in name order hold a write quorum, and the second and the third a read quorum.
-    assert_eq!(table.write(1, both, 0, b"0-1"), Ok(2));
+    assert_eq!(version_of(table.write(1, both, 0, b"0-1")), Ok(2));
     assert_eq!(
-        table.read(3, Rows::from_bits(6), 0, &mut got).map(|version| (version, &got)),
+        version_of(table.read(3, Rows::from_bits(6), 0, &mut got)).map(|version| (version, &got)),
         Ok((2, b"0-1"))
     );
+}
+
+/// By the choice of 10, {1, 2, 3} for a write and {1, 2} for a read, or by all.
+#[test]
+fn reads_and_writes_say_how_many_were_called() {
+    let mut table = Table::found(6, 4, &[10, 20, 30, 40], Shape::Wide).expect("a plain founding");
+    let (all, three) = (Rows::first(4), Rows::of(&[1, 2, 4]).expect("rows"));
+    assert_eq!(table.write(1, all, 0, b"1-0"), Ok(Done { version: 1, called: 3 }));
+    assert_eq!(table.read(1, all, 0, &mut [0; 3]), Ok(Done { version: 1, called: 2 }));
+    assert_eq!(table.write(1, three, 0, b"0-1"), Ok(Done { version: 2, called: 4 }));
+    let refused = |refusal, called| Err(Refused { refusal, called });
+    assert_eq!(table.read(3, Rows::from_bits(0b1100), 0, &mut [0; 3]), refused(Refusal::NotCurrent, 4));
+    assert_eq!(table.write(1, Rows::first(2), 0, b"1-0"), refused(Refusal::NoQuorum, 4));
+    assert_eq!(table.write(1, all, 4, b"1"), refused(Refusal::OutOfRange, 0));
+    assert_eq!(table.read(5, all, 0, &mut [0; 3]), refused(Refusal::NoSuchRow, 0));
+    // A row that joined is in use at once, and has no choice of its own.
+    assert_eq!(table.join(15), Ok(5));
+    assert_eq!(table.read(5, Rows::first(5), 0, &mut [0; 3]), Ok(Done { version: 2, called: 5 }));
+    assert_eq!(Refused { refusal: Refusal::NoQuorum, called: 4 }.to_string(), Refusal::NoQuorum.to_string());
 }
 
 #[test]
@@ -309,11 +340,11 @@ fn a_million_writes_and_no_more() {
     let mut table = Table::found(1, 1, &[1], Shape::Wide).expect("a plain founding");
     let all = Rows::first(1);
     for version in 1..=1_000_000 {
-        assert_eq!(table.write(1, all, 0, &[version as u8]), Ok(version));
+        assert_eq!(version_of(table.write(1, all, 0, &[version as u8])), Ok(version));
     }
-    assert_eq!(table.write(1, all, 0, &[0]), Err(Refusal::AtLimit));
+    assert_eq!(version_of(table.write(1, all, 0, &[0])), Err(Refusal::AtLimit));
     let mut last = [0];
-    assert_eq!(table.read(1, all, 0, &mut last), Ok(1_000_000));
+    assert_eq!(version_of(table.read(1, all, 0, &mut last)), Ok(1_000_000));
     assert_eq!(last, [1_000_000_u32 as u8]);
 }
 

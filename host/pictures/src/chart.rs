@@ -1,7 +1,7 @@
 //! A line chart.
 
 use crate::measure::Sizes;
-use crate::svg::{line, open, text, Paper};
+use pictures::svg::{line, open, text, Paper};
 
 const WIDTH: f64 = 760.0;
 const HEIGHT: f64 = 440.0;

@@ -7,7 +7,6 @@ mod layers;
 mod measure;
 mod rooms;
 mod smallest;
-mod svg;
 mod wall;
 mod wall_page;
 
@@ -81,10 +80,10 @@ fn document(wide: &[Sizes], tall: &[Sizes]) -> Result<String, Refusal> {
     write!(
         text,
         "## The figures\n\n\
-         They come from the library, from the outside: in a founded table one row after the other is marked as stale, and a read\n\
-         (write) that is then refused by 7 had called that row. For writes the rows with a new version give the same number. For the last columns\n\
-         each machine of a founded table is left out in turn, and each of the others makes a check, and a write, that all the others answer.\n\
-         `make pictures` makes this page anew.\n\n\
+         They come from the library: each read and write says how many machines it called, here in a founded table, all answering. A test sees\n\
+         the same from the outside: with one row marked as stale, a read (write) that is then refused by 7 had called that row, and a write\n\
+         leaves a new version in the rows that it called. For the last columns each machine of a founded table is left out in turn, and each of\n\
+         the others makes a check, and a write, that all the others answer. `make pictures` makes this page anew.\n\n\
          Five machines are those of a list laid now, in three rows and two columns. A list of five that was in force in a table of form 1 keeps\n\
          the published grid of two rows and three columns: there a read calls {read}, a write {write}, and the loss of one is borne, {}.\n\n\
          | machines | read, wide | read, tall | write, wide | write, tall | majority | bears the loss of any one, wide | tall |\n\

@@ -1,4 +1,4 @@
-//! Finds the sizes of a coordinator's own choice, and the losses that are borne, from the outside.
+//! Asks the library how many machines a coordinator's own choice has, and which losses are borne.
 
 use dyngrid::{Refusal, Rows, Shape, Table};
 use std::fmt;
@@ -82,7 +82,9 @@ pub fn published_five() -> Result<Sizes, Refusal> {
 
 /// The columns that a list of so many machines with this grid mark has: a read calls one machine of each.
 pub fn columns(machines: usize, mark: u8) -> Result<usize, Refusal> {
-    called(&marked(machines, mark)?, 1, read)
+    let mut table = marked(machines, mark)?;
+    let all = table.rows();
+    read(&mut table, 1, all)
 }
 
 /// The grid mark of a list of so many machines that is laid now in this shape.
@@ -107,43 +109,26 @@ fn measured(founded: &Table) -> Result<Sizes, Refusal> {
     let mut reads = Vec::new();
     let mut writes = Vec::new();
     for coordinator in 1..=machines {
-        reads.push(called(founded, coordinator, read)?);
-        let write_calls = called(founded, coordinator, write)?;
-        assert_eq!(write_calls, rows_written(founded, coordinator)?, "two ways to count a write's rows");
-        writes.push(write_calls);
+        reads.push(read(&mut founded.clone(), coordinator, founded.rows())?);
+        writes.push(write(&mut founded.clone(), coordinator, founded.rows())?);
     }
     Ok(Sizes { machines, read: range(&reads), write: range(&writes), borne: borne(founded)? })
 }
 
-type Attempt = fn(&mut Table, usize, Rows) -> Result<u32, Refusal>;
+/// A call by a machine that so many answer; gives how many were called.
+type Attempt = fn(&mut Table, usize, Rows) -> Result<usize, Refusal>;
 
-fn read(table: &mut Table, coordinator: usize, answering: Rows) -> Result<u32, Refusal> {
-    table.read(coordinator, answering, 0, &mut [0])
+fn read(table: &mut Table, coordinator: usize, answering: Rows) -> Result<usize, Refusal> {
+    Ok(table.read(coordinator, answering, 0, &mut [0])?.called)
 }
 
-fn write(table: &mut Table, coordinator: usize, answering: Rows) -> Result<u32, Refusal> {
-    table.write(coordinator, answering, 0, &[1])
+fn write(table: &mut Table, coordinator: usize, answering: Rows) -> Result<usize, Refusal> {
+    Ok(table.write(coordinator, answering, 0, &[1])?.called)
 }
 
-/// In how many rows a stale mark makes the attempt fail: those that it calls.
-fn called(founded: &Table, coordinator: usize, attempt: Attempt) -> Result<usize, Refusal> {
-    let mut called = 0;
-    for row in founded.rows() {
-        let mut table = with_stale_row(founded, row)?;
-        match attempt(&mut table, coordinator, founded.rows()) {
-            Ok(_) => {}
-            Err(Refusal::NotCurrent) => called += 1,
-            Err(refusal) => return Err(refusal),
-        }
-    }
-    Ok(called)
-}
-
-/// How many rows have a new version after a write that all answer.
-fn rows_written(founded: &Table, coordinator: usize) -> Result<usize, Refusal> {
-    let mut table = founded.clone();
-    write(&mut table, coordinator, founded.rows())?;
-    Ok(table.rows().iter().filter(|&row| table.as_bytes()[row_at(row) + 4] == 1).count())
+/// Whoever is in use is asked.
+fn check(table: &mut Table, coordinator: usize, answering: Rows) -> Result<usize, Refusal> {
+    table.check(coordinator, answering).map(|_| table.used())
 }
 
 /// The machines without each of which all the others hold a write quorum: whoever of them calls, a check by them is done, and
@@ -152,7 +137,7 @@ fn borne(founded: &Table) -> Result<Rows, Refusal> {
     let mut borne = Rows::EMPTY;
     for lost in founded.rows() {
         let lost = Rows::of(&[lost])?;
-        if all_done(founded, founded.rows() - lost, &[Table::check, write])? {
+        if all_done(founded, founded.rows() - lost, &[check, write])? {
             borne |= lost;
         }
     }
@@ -175,14 +160,6 @@ fn all_done(founded: &Table, left: Rows, attempts: &[Attempt]) -> Result<bool, R
     Ok(done > 0)
 }
 
-/// The table with one row marked and desiring version 1.
-fn with_stale_row(founded: &Table, row: usize) -> Result<Table, Refusal> {
-    let mut bytes = founded.as_bytes().to_vec();
-    bytes[row_at(row) + 3] = 1;
-    bytes[row_at(row) + 8] = 1;
-    Ok(Table::from_bytes(bytes)?)
-}
-
 fn row_at(row: usize) -> usize {
     HEADER + (row - 1) * ROW
 }
@@ -196,6 +173,50 @@ fn range(sizes: &[usize]) -> Range {
 #[cfg(test)]
 mod tests {
     use super::*;
+
+    /// In how many rows a stale mark makes the attempt fail: those that it calls.
+    fn called(founded: &Table, coordinator: usize, attempt: Attempt) -> Result<usize, Refusal> {
+        let mut called = 0;
+        for row in founded.rows() {
+            let mut table = with_stale_row(founded, row)?;
+            match attempt(&mut table, coordinator, founded.rows()) {
+                Ok(_) => {}
+                Err(Refusal::NotCurrent) => called += 1,
+                Err(refusal) => return Err(refusal),
+            }
+        }
+        Ok(called)
+    }
+
+    /// How many rows have a new version after a write that all answer.
+    fn rows_written(founded: &Table, coordinator: usize) -> Result<usize, Refusal> {
+        let mut table = founded.clone();
+        write(&mut table, coordinator, founded.rows())?;
+        Ok(table.rows().iter().filter(|&row| table.as_bytes()[row_at(row) + 4] == 1).count())
+    }
+
+    /// The table with one row marked and desiring version 1.
+    fn with_stale_row(founded: &Table, row: usize) -> Result<Table, Refusal> {
+        let mut bytes = founded.as_bytes().to_vec();
+        bytes[row_at(row) + 3] = 1;
+        bytes[row_at(row) + 8] = 1;
+        Ok(Table::from_bytes(bytes)?)
+    }
+
+    /// What the calls say agrees with what is seen from the outside.
+    #[test]
+    fn the_number_called_is_what_shows_from_the_outside() {
+        let lists =
+            (1..=64).flat_map(|machines| [Shape::Wide, Shape::Tall].map(|shape| founded(machines, shape)));
+        for table in lists.chain([marked(5, 0)]).map(|table| table.expect("a plain founding")) {
+            for by in table.rows() {
+                let done = |attempt: Attempt| attempt(&mut table.clone(), by, table.rows());
+                assert_eq!(done(read), called(&table, by, read));
+                assert_eq!(done(write), called(&table, by, write));
+                assert_eq!(done(write), rows_written(&table, by));
+            }
+        }
+    }
 
     #[test]
     fn losses_are_borne_as_the_page_says() {

@@ -1,7 +1,7 @@
 //! The crates and what each stands on, drawn from crates.txt: a crate stands above all that it needs.
 
 use crate::layers::{place, Place, Widths};
-use crate::svg::{line, open, text, Paper};
+use pictures::svg::{line, open, text, Paper};
 use std::collections::{BTreeMap, BTreeSet};
 use std::path::Path;
 

@@ -1,7 +1,7 @@
 //! Draws the wall chart: one sheet with a small grid for each smallest write quorum.
 
 use crate::smallest::Charted;
-use crate::svg::{line, open, text, Paper};
+use pictures::svg::{line, open, text, Paper};
 
 /// A quarter of a millimetre each on A4.
 const WIDTH: f64 = 840.0;

@@ -53,10 +53,22 @@ pub enum Blunder {
     FiveOfAnyLength,
     /// A chart looks at the low byte of the mark only.
     MarkOfAByte,
+    /// Of the coordinator's own choice, those that did not answer do not count as called.
+    AnsweringCalled,
+    /// All used rows count as called, also where the own choice was enough.
+    AllCalled,
+    /// A refused call does not say how many were called.
+    CalledWhenDone,
+    /// A list of more than one byte is told how many were called, too.
+    CalledAtAnyLength,
+    /// A write looks at the list for how many were called before it looks at the range.
+    CalledLengthFirst,
+    /// A call that is refused by 6 called nobody.
+    NoneCalledBySix,
 }
 
 impl Blunder {
-    pub const ALL: [Blunder; 24] = [
+    pub const ALL: [Blunder; 30] = [
         Blunder::OutsidersCount,
         Blunder::ShortColumnWhole,
         Blunder::DesiredIgnored,
@@ -81,6 +93,12 @@ impl Blunder {
         Blunder::ShortListFirst,
         Blunder::FiveOfAnyLength,
         Blunder::MarkOfAByte,
+        Blunder::AnsweringCalled,
+        Blunder::AllCalled,
+        Blunder::CalledWhenDone,
+        Blunder::CalledAtAnyLength,
+        Blunder::CalledLengthFirst,
+        Blunder::NoneCalledBySix,
     ];
 
     /// Its name on a command line.
@@ -110,6 +128,12 @@ impl Blunder {
             Blunder::ShortListFirst => "short-list-first",
             Blunder::FiveOfAnyLength => "five-of-any-length",
             Blunder::MarkOfAByte => "mark-of-a-byte",
+            Blunder::AnsweringCalled => "answering-called",
+            Blunder::AllCalled => "all-called",
+            Blunder::CalledWhenDone => "called-when-done",
+            Blunder::CalledAtAnyLength => "called-at-any-length",
+            Blunder::CalledLengthFirst => "called-length-first",
+            Blunder::NoneCalledBySix => "none-called-by-six",
         }
     }
 

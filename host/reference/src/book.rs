@@ -41,10 +41,8 @@ impl Book {
 
     /// A done write.
     pub fn write(&mut self, coordinator: usize, answering: u64, offset: usize, patch: &[u8]) {
-        let own = self.layout(self.own[coordinator - 1]);
-        let choice = own.choice(Quorum::Write, self.names[coordinator - 1]) & answering;
-        let by_choice = self.holds(Quorum::Write, choice) && self.any_has_all(choice);
-        let set = if by_choice { choice } else { answering };
+        let choice = self.choice(Quorum::Write, coordinator) & answering;
+        let set = if self.suffices(Quorum::Write, choice) { choice } else { answering };
         let takers: Vec<usize> = rows::members(set).filter(|&row| self.has_all(row)).collect();
         for row in 1..=self.names.len() {
             self.has[row - 1].push(takers.contains(&row));
@@ -91,6 +89,16 @@ impl Book {
         }
     }
 
+    /// How many machines a read or write that passes questions 1 to 5 calls: the coordinator's own choice, or all.
+    pub fn called(&self, quorum: Quorum, coordinator: usize, answering: u64) -> usize {
+        let choice = self.choice(quorum, coordinator);
+        if self.suffices(quorum, choice & answering) {
+            choice.count_ones() as usize
+        } else {
+            self.names.len()
+        }
+    }
+
     /// The bytes that a done read gives.
     pub fn range(&self, offset: usize, length: usize) -> &[u8] {
         &self.file[offset..offset + length]
@@ -108,6 +116,16 @@ impl Book {
     /// How many writes are done: the value of a done read.
     pub fn writes(&self) -> usize {
         self.writes
+    }
+
+    /// The own choice of the coordinator, over its own list.
+    fn choice(&self, quorum: Quorum, coordinator: usize) -> u64 {
+        self.layout(self.own[coordinator - 1]).choice(quorum, self.names[coordinator - 1])
+    }
+
+    /// Does the set hold a quorum of the list in force, and has one of it every done write?
+    fn suffices(&self, quorum: Quorum, set: u64) -> bool {
+        self.holds(quorum, set) && self.any_has_all(set)
     }
 
     fn holds(&self, quorum: Quorum, set: u64) -> bool {

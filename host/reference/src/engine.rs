@@ -25,6 +25,12 @@ struct Poll {
     current: bool,
 }
 
+/// The length of the list that is lent for the size of the set called, and that size: 0 until question 6 is put.
+struct Called {
+    length: usize,
+    size: u8,
+}
+
 /// The value, or the number of the question whose answer is no.
 type Answer = Result<u32, u32>;
 
@@ -56,8 +62,12 @@ impl Engine {
         offset: u64,
         length: u64,
         buffer: &mut [u8],
+        called: &mut [u8],
     ) -> u64 {
-        result(self.try_read(bytes, coordinator, answering, offset, length, buffer))
+        let mut lent = Called { length: called.len(), size: 0 };
+        let answer = self.try_read(bytes, coordinator, answering, offset, length, buffer, &mut lent);
+        self.note(called, lent.size, answer);
+        result(answer)
     }
 
     pub fn write(
@@ -67,8 +77,12 @@ impl Engine {
         answering: u64,
         offset: u64,
         patch: &[u8],
+        called: &mut [u8],
     ) -> u64 {
-        result(self.try_write(bytes, coordinator, answering, offset, patch))
+        let mut lent = Called { length: called.len(), size: 0 };
+        let answer = self.try_write(bytes, coordinator, answering, offset, patch, &mut lent);
+        self.note(called, lent.size, answer);
+        result(answer)
     }
 
     pub fn send(&self, bytes: &mut [u8], from: u64, to: u64, answering: u64) -> u64 {
@@ -95,13 +109,14 @@ impl Engine {
         offset: u64,
         length: u64,
         buffer: &mut [u8],
+        called: &mut Called,
     ) -> Answer {
         let table = self.judge(bytes)?;
         ask(2, is_used(&table, coordinator) && only_used(&table, answering))?;
         ask(3, answers(answering, coordinator))?;
         ask(4, range_fits(&table, offset, length))?;
-        ask(5, buffer.len() as u64 == length)?;
-        let poll = self.settle(&table, bytes, coordinator as usize, answering, Quorum::Read)?;
+        ask(5, buffer.len() as u64 == length && called.length == 1)?;
+        let poll = self.settle(&table, bytes, coordinator as usize, answering, Quorum::Read, called)?;
         // The set is current, so there is a good row.
         let source = if self.makes(Blunder::HighestGood) {
             64 - poll.good.leading_zeros()
@@ -120,12 +135,17 @@ impl Engine {
         answering: u64,
         offset: u64,
         patch: &[u8],
+        called: &mut Called,
     ) -> Answer {
         let table = self.judge(bytes)?;
         ask(2, is_used(&table, coordinator) && only_used(&table, answering))?;
         ask(3, answers(answering, coordinator))?;
+        if self.makes(Blunder::CalledLengthFirst) {
+            ask(5, called.length == 1)?;
+        }
         ask(4, range_fits(&table, offset, patch.len() as u64))?;
-        let poll = self.settle(&table, bytes, coordinator as usize, answering, Quorum::Write)?;
+        ask(5, called.length == 1)?;
+        let poll = self.settle(&table, bytes, coordinator as usize, answering, Quorum::Write, called)?;
         ask(8, poll.version < LIMIT)?;
         let version = poll.version + 1;
         if self.makes(Blunder::WriteForgotten) {
@@ -240,6 +260,7 @@ impl Engine {
     }
 
     /// The set that a read or write works on: the coordinator's own choice as far as it answered, or else all that answered.
+    /// Called are all of the choice, or else all used rows.
     fn settle(
         &self,
         table: &Table,
@@ -247,7 +268,10 @@ impl Engine {
         coordinator: usize,
         answering: u64,
         quorum: Quorum,
+        called: &mut Called,
     ) -> Result<Poll, u32> {
+        let all = table.used as u8;
+        called.size = if self.makes(Blunder::NoneCalledBySix) { 0 } else { all };
         if self.makes(Blunder::SixByCount) {
             ask(6, answering.count_ones() as usize > table.used / 2)?;
         }
@@ -256,19 +280,34 @@ impl Engine {
             own.list.mark = 0;
         }
         let mut layout = Layout::of(own.list, &table.chain);
-        let choice = layout.choice(quorum, own.name) & answering;
+        let chosen = layout.choice(quorum, own.name);
+        let choice = chosen & answering;
         if choice != 0 && !self.makes(Blunder::NoChoice) {
             let poll = self.poll(table, bytes, choice);
             layout.lay(poll.list, &table.chain);
             if self.holds(table, &layout, quorum, choice) && poll.current {
+                called.size = match self.blunder {
+                    Some(Blunder::AnsweringCalled) => choice.count_ones() as u8,
+                    Some(Blunder::AllCalled) => all,
+                    _ => chosen.count_ones() as u8,
+                };
                 return Ok(poll);
             }
         }
         let poll = self.poll(table, bytes, answering);
         layout.lay(poll.list, &table.chain);
         ask(6, self.holds(table, &layout, quorum, answering))?;
+        called.size = all;
         ask(7, poll.current)?;
         Ok(poll)
+    }
+
+    /// Writes the size of the set called into its list, if that has one byte.
+    fn note(&self, called: &mut [u8], size: u8, answer: Answer) {
+        let unwritten = answer.is_err() && self.makes(Blunder::CalledWhenDone);
+        if called.len() == 1 && !unwritten || !called.is_empty() && self.makes(Blunder::CalledAtAnyLength) {
+            called[0] = size;
+        }
     }
 
     /// Polls the rows of a set that is not empty.
@@ -360,4 +399,127 @@ fn answers(answering: u64, row: u64) -> bool {
 
 fn range_fits(table: &Table, offset: u64, length: u64) -> bool {
     length >= 1 && u128::from(offset) + u128::from(length) <= table.file_len as u128
+}
+
+#[cfg(test)]
+mod tests {
+    use super::*;
+
+    /// A read or write of one byte by row c, R answering, with a list of so many bytes: refusal number, and the list after.
+    fn call(table: &mut [u8], quorum: Quorum, c: u64, r: u64, lent: usize) -> (u64, Vec<u8>) {
+        let mut called = vec![0xee; lent];
+        let result = match quorum {
+            Quorum::Read => Engine::default().read(table, c, r, 0, 1, &mut [0], &mut called),
+            Quorum::Write => Engine::default().write(table, c, r, 0, &[7], &mut called),
+        };
+        (result >> 32, called)
+    }
+
+    fn founded(capacity: u64, names: &[u16], choice: u64) -> Vec<u8> {
+        let names: Vec<u8> = names.iter().flat_map(|name| name.to_le_bytes()).collect();
+        let mut table = vec![0; Table::length(capacity as usize, 4)];
+        assert_eq!(Engine::default().found(&mut table, capacity, 4, &names, choice) >> 32, 0);
+        table
+    }
+
+    use Quorum::{Read, Write};
+
+    /// Columns {1, 3} and {2, 4}: the write choice of 10 is {1, 2, 3}, its read choice {1, 2}.
+    #[test]
+    fn the_choice_or_all_used_rows_are_called() {
+        let mut table = founded(6, &[10, 20, 30, 40], 0);
+        assert_eq!(call(&mut table, Write, 1, 0b1111, 1), (0, vec![3]));
+        assert_eq!(call(&mut table, Read, 1, 0b1111, 1), (0, vec![2]));
+        assert_eq!(
+            call(&mut table, Read, 1, 0b0011, 1),
+            (0, vec![2]),
+            "all that answered, and they are the choice"
+        );
+        assert_eq!(call(&mut table, Read, 1, 0b1001, 1), (0, vec![4]), "row 2 is away");
+        assert_eq!(call(&mut table, Write, 1, 0b1011, 1), (0, vec![4]), "row 3 is away");
+        assert_eq!(call(&mut table, Write, 1, 0b0011, 1), (6, vec![4]));
+        assert_eq!(call(&mut table, Read, 3, 0b1100, 1), (7, vec![4]));
+        // A joined row counts at once; it has no choice of its own.
+        assert_eq!(Engine::default().join(&mut table, 15), 5);
+        assert_eq!(call(&mut table, Read, 1, 0b1001, 1), (0, vec![5]));
+        assert_eq!(call(&mut table, Read, 5, 0b1_1111, 1), (0, vec![5]));
+        assert_eq!(call(&mut table, Read, 5, 0b1_0000, 1), (6, vec![5]));
+        assert_eq!(call(&mut table, Read, 1, 0b1_1111, 1), (0, vec![2]));
+    }
+
+    /// Row 4 missed the check by the others. Its choice of four, {1, 2, 3}, is a quorum of their list of three; only two of them
+    /// answer, and that is one too.
+    #[test]
+    fn a_choice_counts_whole_though_some_of_it_did_not_answer() {
+        let mut table = founded(4, &[10, 20, 30, 40], 0);
+        assert_eq!(Engine::default().check(&mut table, 1, 0b0111), 1);
+        assert_eq!(call(&mut table, Write, 4, 0b1011, 1), (0, vec![3]));
+    }
+
+    #[test]
+    fn nobody_is_called_before_question_6() {
+        for quorum in [Read, Write] {
+            let mut table = founded(2, &[10, 20], 1);
+            assert_eq!(call(&mut table, quorum, 3, 0b11, 1), (2, vec![0]));
+            assert_eq!(call(&mut table, quorum, 1, 0b10, 1), (3, vec![0]));
+            for lent in [0, 2, 3] {
+                let untouched = vec![0xee; lent];
+                assert_eq!(call(&mut table, quorum, 3, 0b11, lent), (2, untouched.clone()));
+                assert_eq!(call(&mut table, quorum, 1, 0b10, lent), (3, untouched.clone()));
+                assert_eq!(call(&mut table, quorum, 1, 0b11, lent), (5, untouched));
+            }
+            table[0] = 1;
+            assert_eq!([0, 1, 2].map(|lent| call(&mut table, quorum, 1, 0b11, lent)), {
+                [(1, vec![]), (1, vec![0]), (1, vec![0xee, 0xee])]
+            });
+        }
+    }
+
+    #[test]
+    fn questions_4_and_5_call_nobody() {
+        let mut table = founded(1, &[10], 0);
+        for lent in [0, 1, 2] {
+            let after = |called: &[u8]| {
+                if lent == 1 {
+                    called == [0]
+                } else {
+                    called.iter().all(|&byte| byte == 0xee)
+                }
+            };
+            let mut called = vec![0xee; lent];
+            assert_eq!(Engine::default().write(&mut table, 1, 1, 4, &[1], &mut called) >> 32, 4);
+            assert!(after(&called));
+            called.fill(0xee);
+            assert_eq!(Engine::default().read(&table, 1, 1, 4, 1, &mut [0], &mut called) >> 32, 4);
+            assert!(after(&called));
+            called.fill(0xee);
+            assert_eq!(Engine::default().read(&table, 1, 1, 0, 1, &mut [0; 2], &mut called) >> 32, 5);
+            assert!(after(&called));
+        }
+    }
+
+    /// At version 1,000,000 a write that its own choice was enough for is refused by 8.
+    #[test]
+    fn a_write_at_its_limit_called_its_choice() {
+        let mut table = founded(4, &[10, 20, 30, 40], 0);
+        for row in 0..4 {
+            table[16 + 36 * row + 4..][..4].copy_from_slice(&LIMIT.to_le_bytes());
+        }
+        assert_eq!(call(&mut table, Write, 1, 0b1111, 1), (8, vec![3]));
+        assert_eq!(call(&mut table, Write, 1, 0b1011, 1), (8, vec![4]));
+    }
+
+    /// A read's choice has one machine of each column, a write's at most one column more, less one.
+    #[test]
+    fn choices_are_as_large_as_the_request_says() {
+        for (length, mark) in (1..=64).flat_map(|length| [(length, 0), (length, crate::TALL)]).chain([(5, 1)])
+        {
+            let layout = crate::grid::tests::laid(length, mark);
+            let Grid { rows, columns, .. } = layout.grid;
+            for name in 1..=500 {
+                assert_eq!(layout.choice(Read, name).count_ones() as usize, columns);
+                assert!(layout.choice(Write, name).count_ones() as usize <= rows + columns - 1);
+            }
+        }
+    }
 }

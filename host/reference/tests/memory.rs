@@ -44,22 +44,22 @@ fn every_call(choice: u64) {
     let names: Vec<u8> = (1..=63u16).map(|rank| 10 * rank).flat_map(u16::to_le_bytes).collect();
     let mut table = vec![0; Table::length(64, 100)];
     let (all, but_one) = (rows::first(64), rows::first(63));
-    let (mut buffer, mut list) = ([0; 100], [0; 128]);
+    let (mut buffer, mut list, mut called) = ([0; 100], [0; 128], [0]);
     let before = TAKEN.get();
     let results = [
         engine.found(&mut table, 64, 100, &names, choice),
         engine.join(&mut table, 305),
         engine.join(&mut table, 305),
         engine.join(&mut table, 306),
-        engine.write(&mut table, 5, all, 0, &[1; 100]),
-        engine.read(&table, 64, all, 0, 100, &mut buffer),
+        engine.write(&mut table, 5, all, 0, &[1; 100], &mut called),
+        engine.read(&table, 64, all, 0, 100, &mut buffer, &mut called),
         engine.check(&mut table, 1, all),
         engine.check(&mut table, 1, but_one),
         engine.check(&mut table, 1, but_one),
-        engine.write(&mut table, 1, but_one & !2, 0, &[2; 7]),
+        engine.write(&mut table, 1, but_one & !2, 0, &[2; 7], &mut called),
         engine.check(&mut table, 1, all),
         send(engine, &mut table),
-        engine.read(&table, 1, 1, 0, 100, &mut buffer),
+        engine.read(&table, 1, 1, 0, 100, &mut buffer, &mut called),
         engine.chart(9, 2 * choice, &mut list),
         engine.chart(10, 0, &mut list),
     ];

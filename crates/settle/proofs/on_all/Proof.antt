@@ -1,9 +1,13 @@
+use native.Mathlib.Omega.{arith}
 use borrow.Author.Needs.{needs}
 use Rattle.settle.proofs.on_all.Statement.{statement}
 use Rattle.settle.proofs.on_all.Tie as tie
 
 asked-requires : tie.Need-asked-requires
 asked-requires c κs = search needs
+
+cast-settled-on : tie.Need-cast-settled-on
+cast-settled-on c = record { fits = omega (arith, c .before .pre .few) }
 
 settled-on-requires : tie.Need-settled-on-requires
 settled-on-requires c κs = search needs
@@ -12,4 +16,4 @@ returns : tie.Need-returns
 returns c = rw (c .settled-on .ensures, c .before .asked .ensures)
 
 pub on-all-spec : {M : Type 1} → statement M
-on-all-spec = tie.close (tie.spec asked-requires settled-on-requires returns)
+on-all-spec = tie.close (tie.spec asked-requires cast-settled-on settled-on-requires returns)

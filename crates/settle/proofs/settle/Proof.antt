@@ -1,5 +1,5 @@
 use mathlib.Core.Bool.{Bool, cond}
-use mathlib.Core.Path.{_≡_, refl, sym, _∙_, ap, ap₂}
+use mathlib.Core.Path.{_≡_, refl, sym, _∙_, ap, ap₂, subst}
 use mathlib.Core.List.{List}
 use Prim.Native.Nat.{ℕ, _^_, _<_}
 use native.Mathlib.Omega.{arith}
@@ -21,7 +21,8 @@ use Rattle.fields.specs.Layout.{get, name, list, noList, usedOf, nameOf, listOf
 use Rattle.bools.proofs.BoolLaws.{and-l, and-r}
 use Rattle.sets.proofs.SetLaws.{has-within, within-lt}
 use Rattle.sets.specs.Sets.{has, cutTo}
-use Rattle.sets.specs.Upto.{Within}
+use Rattle.sets.specs.Upto.{Within, count}
+use Rattle.sets.proofs.UptoLaws.{count-le}
 use Rattle.settle.proofs.settle.Statement.{statement}
 use Rattle.settle.proofs.settle.Tie as tie
 
@@ -50,14 +51,22 @@ chosen-is c =
     ∙ ap₂ (λ (o : List ℕ) (l : Laid). listChoice (a .kind) o l (c .before .name .result)) (order-is (c .before .before .before .before)) (own-is (c .before .before))
     ∙ ap (listChoice (a .kind) (orderOf (a .t .now)) (listOf (a .t .now) (a .c))) (c .before .name .ensures ∙ ap (get name) (c .before .before .before .row-of .ensures .0))
 
+-- over the list that it says it has
+chosen-said : (c : tie.After-choice) → let a = c .before .before .before .before .before .before .args in
+    has (c .choice .result .bits) ≡ listChoice (a .kind) (orderOf (a .t .now)) (answers (a .t .now) (a .answering .bits) .list (a .c)) (nameOf (a .t .now) (a .c))
+unfolding answers polled
+chosen-said c =
+    let s = c .before .before .before .before .before .before in
+    chosen-is c
+    ∙ ap (λ (b : Bool). listChoice (s .args .kind) (orderOf (s .args .t .now)) (cond b (listOf (s .args .t .now) (s .args .c)) noList) (nameOf (s .args .t .now) (s .args .c))) (sym (s .pre .3))
+
 -- P is tried first
 tried : (c : tie.After-cut) → let a = c .before .before .before .before .before .before .before .args in
     has (c .cut .result .bits) ≡ ownTry (a .kind) (orderOf (a .t .now)) (answers (a .t .now) (a .answering .bits)) (a .c) (nameOf (a .t .now) (a .c)) (has (a .answering .bits))
-unfolding ownTry answers polled
+unfolding ownTry
 tried c =
-    let s = c .before .before .before .before .before .before .before in
-    c .cut .ensures ∙ ap (λ (f : ℕ → Bool). cutTo f (has (s .args .answering .bits))) (chosen-is (c .before)
-    ∙ ap (λ (b : Bool). listChoice (s .args .kind) (orderOf (s .args .t .now)) (cond b (listOf (s .args .t .now) (s .args .c)) noList) (nameOf (s .args .t .now) (s .args .c))) (sym (s .pre .3)))
+    let a = c .before .before .before .before .before .before .before .args in
+    c .cut .ensures ∙ ap (λ (f : ℕ → Bool). cutTo f (has (a .answering .bits))) (chosen-said (c .before))
 
 -- its rows are used ones
 tried-used : (c : tie.After-cut) → c .cut .result .bits < 2 ^ usedOf (c .before .before .before .before .before .before .before .args .t .now)
@@ -118,35 +127,57 @@ passes-requires c κs =
           rw (order-is u, force) (sure-held (s .args .kind) t (p .cut .result .bits) _ (listOf t (s .args .c)) (s .pre .0) (formed t (s .pre .0) .rows _ (own-used u) .only) (whole ∙ chosen-is (p .before)) (sym (j .scanned .ensures .current) ∙ k)),
     )
 
+size-requires : tie.Need-size-requires
+size-requires c κs = search needs
+
+cast-settled-on : tie.Need-cast-settled-on
+cast-settled-on c = record { fits = omega (arith, c .size .ensures, count-le 64 (has (c .before .before .before .before .before .before .before .before .before .choice .result .bits))) }
+
 settled-on-requires : tie.Need-settled-on-requires
 settled-on-requires c κs = search needs
 
 returns : tie.Need-returns
 returns c =
-    let y = c .before .before in
+    let y = c .before .before .before in
     let j = y .before .before .before .before .before in
     let p = j .before in
     let u = p .before .before .before .before .before in
     let s = u .before .before in
     works-on-try (s .args .kind) (s .args .t .now) (s .args .c) (s .args .answering .bits) (p .cut .result .bits) (tried p) _ (order-is u) _ (part j) _ (y .passes .ensures)
-    (c .before .if1 .taken) _ (p .cut .result) refl (c .settled-on .ensures)
-
-scanned-requires-2 : tie.Need-scanned-requires-2
-scanned-requires-2 c κs = let s = c .before .before .before .before .before .before .before .before .before .before .before .before .before .before in (sized (s .pre .0), s .pre .2)
+    (c .before .before .if1 .taken) _ (p .cut .result) _ refl (c .before .size .ensures ∙ ap (count 64) (chosen-said (p .before))) (c .settled-on .ensures)
 
 on-all-requires : tie.Need-on-all-requires
-on-all-requires c κs = listed (c .before .before .before .before .before .before .before .before .before .before .before .before .before)
+on-all-requires c κs = listed (c .before .before .before .before .before .before .before .before .before .before .before .before .before .before .before)
 
 returns-2 : tie.Need-returns-2
 returns-2 c =
-    let e = c .before .before in
+    let e = c .before .before .before .before in
+    let y = e .before in
+    let j = y .before .before .before .before .before in
+    let p = j .before in
+    let u = p .before .before .before .before .before in
+    let s = u .before .before in
+    let a = s .args in
+    works-on-all (a .kind) (a .t .now) (a .c) (a .answering .bits) (p .cut .result .bits) (tried p) _ (order-is u) _ (part j) _ (y .passes .ensures)
+    (e .if1 .left) _ (a .answering) _ _ refl (u .used .ensures)
+    (subst (λ (x : ℕ). Judged (answers (a .t .now) (a .answering .bits)) (has x) (j .scanned .result)) (c .before .if2 .taken) (part j)) (c .on-all .ensures)
+
+scanned-requires-2 : tie.Need-scanned-requires-2
+scanned-requires-2 c κs = let s = c .before .before .before .before .before .before .before .before .before .before .before .before .before .before .before .before .before in (sized (s .pre .0), s .pre .2)
+
+on-all-requires-2 : tie.Need-on-all-requires-2
+on-all-requires-2 c κs = listed (c .before .before .before .before .before .before .before .before .before .before .before .before .before .before .before .before)
+
+returns-3 : tie.Need-returns-3
+returns-3 c =
+    let e = c .before .before .before .before .before in
     let y = e .before in
     let j = y .before .before .before .before .before in
     let p = j .before in
     let u = p .before .before .before .before .before in
     let s = u .before .before in
     works-on-all (s .args .kind) (s .args .t .now) (s .args .c) (s .args .answering .bits) (p .cut .result .bits) (tried p) _ (order-is u) _ (part j) _ (y .passes .ensures)
-    (e .if1 .left) _ (s .args .answering) _ refl (c .before .scanned2 .ensures) (c .on-all .ensures)
+    (e .if1 .left) _ (s .args .answering) _ _ refl (u .used .ensures) (c .before .scanned2 .ensures) (c .on-all2 .ensures)
 
 pub settle-spec : {M : Type 1} → statement M
 settle-spec =
@@ -162,8 +193,12 @@ settle-spec =
     same-requires
     both-requires
     passes-requires
+    size-requires
+    cast-settled-on
     settled-on-requires
     returns
-    scanned-requires-2
     on-all-requires
-    returns-2)
+    returns-2
+    scanned-requires-2
+    on-all-requires-2
+    returns-3)

@@ -1,0 +1,193 @@
+use mathlib.Core.Bool.{true, false}
+use mathlib.Core.Path.{_≡_, refl, sym, _∙_, ap}
+use mathlib.Core.List.{List, [], _∷_}
+use Prim.Native.Nat.{ℕ}
+use native.Mathlib.Omega.{arith}
+use borrow.Author.Needs.{needs}
+use borrow.Author.Tests.{ltb-true, not-true, not-false}
+use lib.Dec.{eqb, ltb}
+use lib.ListN.{length}
+use Rattle.table.proofs.WellFormedLaws.{sized}
+use Rattle.table.specs.WellFormed.{limit}
+use Rattle.asking.specs.Asking.{firstNo}
+use Rattle.protocol.specs.Calls.{Writing, noted}
+use Rattle.protocol.proofs.QuestionLaws.{ByCoordinator}
+use Rattle.questions.specs.Stages.{toRange}
+use Rattle.questions.specs.declared.Answered.{Answered}
+use Rattle.questions.proofs.QuestionLaws.{range-passed}
+use Rattle.writes.proofs.WriteLaws.{write-early, called-early, write-long, called-long, write-no, called-by, write-full, works-used, patch-in, write-done}
+use Rattle.writes.proofs.answer.Statement.{statement}
+use Rattle.writes.proofs.answer.Tie as tie
+
+-- the arguments of the call
+abbrev writing : tie.Start → List ℕ → Writing
+writing s called = record { c = s .args .c; r = s .args .r; offset = s .args .offset; patch = s .args .patch .now; called = called }
+
+-- questions 1 to 4 are passed
+passed : (c : tie.Else1) → let start = c .before .before .before .before .before .before in firstNo (toRange (start .args .t .now) (start .args .c) (start .args .r) (start .args .offset) (length (start .args .patch .now))) ≡ 0
+passed c = sym (c .before .range-asked .ensures .0) ∙ (let none : c .before .range-asked .result ≡ 0 = omega arith in none)
+
+-- and 1 to 3 among them
+asked : (c : tie.Else1) → let start = c .before .before .before .before .before .before in ByCoordinator (start .args .t .now) (start .args .c) (start .args .r)
+asked c = let start = c .before .before .before .before .before .before in range-passed (start .args .t .now) (start .args .c) (start .args .r) (start .args .offset) (length (start .args .patch .now)) (passed c) .0
+
+-- 5 is passed
+fitting : (c : tie.Else2) → c .before .before .before .before .before .before .before .args .fits ≡ true
+fitting c = not-false _ (c .if2 .left)
+
+-- 6 and 7 are passed
+settled-here : (c : tie.Else3) → c .before .before .settle .result .refusal ≡ 0
+settled-here c = omega arith
+
+-- 8 is passed
+room : (c : tie.Else4) → ltb (c .before .before .before .before .settle .result .version) limit ≡ true
+room c = sym (c .before .below-limit .ensures) ∙ not-false _ (c .if4 .left)
+
+range-asked-requires : tie.Need-range-asked-requires
+range-asked-requires c κs = search needs
+
+answer-of-requires : tie.Need-answer-of-requires
+answer-of-requires c κs = search needs
+
+same-length : tie.Need-same-length
+same-length c = search needs
+
+returns : tie.Need-returns
+returns c called e =
+    let q = c .before .before in
+    let start = q .before .before .before .before .before in
+    let no = write-early (start .args .t .now) (writing start called) _ (q .range-asked .ensures .0) (omega arith) in (
+      ap (λ (x : Answered). x .result) (c .answer-of .ensures) ∙ no .result,
+      no .table,
+      ap (λ (x : Answered). noted called (x .called)) (c .answer-of .ensures) ∙ called-early (start .args .t .now) (writing start called) _ (q .range-asked .ensures .0) (omega arith),
+    )
+
+answer-of-requires-2 : tie.Need-answer-of-requires-2
+answer-of-requires-2 c κs = search needs
+
+same-length-2 : tie.Need-same-length-2
+same-length-2 c = search needs
+
+returns-2 : tie.Need-returns-2
+returns-2 c called e =
+    let u = c .before .before in
+    let start = u .before .before .before .before .before .before in
+    let five : eqb (length called) 1 ≡ false = sym e ∙ not-true _ (c .before .if2 .taken) in
+    let no = write-long (start .args .t .now) (writing start called) (passed u) five in (
+      ap (λ (x : Answered). x .result) (c .answer-of2 .ensures) ∙ no .result,
+      no .table,
+      ap (λ (x : Answered). noted called (x .called)) (c .answer-of2 .ensures) ∙ called-long (start .args .t .now) (writing start called) (passed u) five,
+    )
+
+settle-requires : tie.Need-settle-requires
+settle-requires c κs =
+    let u = c .before .before .before in
+    let y = asked u in
+    (y .formed, u .before .range-asked .ensures .1 (omega arith), y .rows, y .answered)
+
+answer-of-requires-3 : tie.Need-answer-of-requires-3
+answer-of-requires-3 c κs = search needs
+
+same-length-3 : tie.Need-same-length-3
+same-length-3 c = search needs
+
+returns-3 : tie.Need-returns-3
+returns-3 c called e =
+    let s = c .before .before .before in
+    let f = s .before .before .before in
+    let u = f .before in
+    let start = u .before .before .before .before .before .before in
+    let five : eqb (length called) 1 ≡ true = sym e ∙ fitting f in
+    let no = write-no (start .args .t .now) (writing start called) (passed u) five (s .settle .result) (s .settle .ensures) (omega arith) in (
+      ap (λ (x : Answered). x .result) (c .answer-of3 .ensures) ∙ no .result,
+      no .table,
+      ap (λ (x : Answered). noted called (x .called)) (c .answer-of3 .ensures) ∙ called-by (start .args .t .now) (writing start called) (passed u) five (s .settle .result) (s .settle .ensures),
+    )
+
+below-limit-requires : tie.Need-below-limit-requires
+below-limit-requires c κs = search needs
+
+answer-of-requires-4 : tie.Need-answer-of-requires-4
+answer-of-requires-4 c κs = search needs
+
+same-length-4 : tie.Need-same-length-4
+same-length-4 c = search needs
+
+returns-4 : tie.Need-returns-4
+returns-4 c called e =
+    let b = c .before .before in
+    let s = b .before .before .before in
+    let f = s .before .before .before in
+    let u = f .before in
+    let start = u .before .before .before .before .before .before in
+    let five : eqb (length called) 1 ≡ true = sym e ∙ fitting f in
+    let no = write-full (start .args .t .now) (writing start called) (passed u) five (s .settle .result) (s .settle .ensures) (settled-here (b .before)) (sym (b .below-limit .ensures) ∙ not-true _ (c .before .if4 .taken)) in (
+      ap (λ (x : Answered). x .result) (c .answer-of4 .ensures) ∙ no .result,
+      no .table,
+      ap (λ (x : Answered). noted called (x .called)) (c .answer-of4 .ensures) ∙ called-by (start .args .t .now) (writing start called) (passed u) five (s .settle .result) (s .settle .ensures),
+    )
+
+add-version : tie.Need-add-version
+unfolding limit
+add-version c = let v = c .before .before .before .before .before .settle .result .version in record { fits = omega (arith, ltb-true v limit (room (c .before))) }
+
+-- what is asked of the rows is so whatever list of one byte was lent
+write-rows-requires : tie.Need-write-rows-requires
+write-rows-requires c κs =
+    let l = c .before .before in
+    let b = l .before in
+    let s = b .before .before .before in
+    let f = s .before .before .before in
+    let u = f .before in
+    let start = u .before .before .before .before .before .before in (
+      sized (asked u .formed),
+      works-used (start .args .t .now) (writing start (0 ∷ [])) (passed u) refl (s .settle .result) (s .settle .ensures) (settled-here (b .before)) (room l),
+      patch-in (start .args .t .now) (writing start (0 ∷ [])) (passed u) refl (s .settle .result) (s .settle .ensures) (settled-here (b .before)) (room l),
+    )
+
+answer-of-requires-5 : tie.Need-answer-of-requires-5
+answer-of-requires-5 c κs = search needs
+
+same-length-5 : tie.Need-same-length-5
+same-length-5 c = search needs
+
+returns-5 : tie.Need-returns-5
+returns-5 c called e =
+    let w = c .before .before .before in
+    let l = w .before .before .before in
+    let b = l .before in
+    let s = b .before .before .before in
+    let f = s .before .before .before in
+    let u = f .before in
+    let start = u .before .before .before .before .before .before in
+    let five : eqb (length called) 1 ≡ true = sym e ∙ fitting f in
+    let yes = write-done (start .args .t .now) (writing start called) (passed u) five (s .settle .result) (s .settle .ensures) (settled-here (b .before)) (room l) in (
+      ap (λ (x : Answered). x .result) (c .answer-of5 .ensures) ∙ yes .0,
+      w .write-rows .ensures ∙ yes .1,
+      ap (λ (x : Answered). noted called (x .called)) (c .answer-of5 .ensures) ∙ called-by (start .args .t .now) (writing start called) (passed u) five (s .settle .result) (s .settle .ensures),
+    )
+
+pub answer-spec : {M : Type 1} → statement M
+answer-spec =
+    tie.close
+    (tie.spec
+    range-asked-requires
+    answer-of-requires
+    same-length
+    returns
+    answer-of-requires-2
+    same-length-2
+    returns-2
+    settle-requires
+    answer-of-requires-3
+    same-length-3
+    returns-3
+    below-limit-requires
+    answer-of-requires-4
+    same-length-4
+    returns-4
+    add-version
+    write-rows-requires
+    answer-of-requires-5
+    same-length-5
+    returns-5)

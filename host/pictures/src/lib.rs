@@ -1,0 +1,3 @@
+//! What pictures of this repository are drawn with.
+
+pub mod svg;
