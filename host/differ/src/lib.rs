@@ -54,10 +54,12 @@ impl Run {
         archive::now_in(self.seed, number);
         let mut random = Random::new(self.seed, number);
         let edge = if random.chance(1, 2) { Edge::Start } else { Edge::End };
-        // The first two cases try every chart, in lists against one edge and against the other.
+        // The first cases try every chart, and every choice on a few tables, in lists against one edge and against the other.
         let (edge, mut plan) = match number {
             0 => (Edge::Start, Plan::charts(&mut random)),
             1 => (Edge::End, Plan::charts(&mut random)),
+            2..=7 if number % 2 == 0 => (Edge::Start, Plan::choices(&mut random)),
+            2..=7 => (Edge::End, Plan::choices(&mut random)),
             _ => (edge, Plan::pick(&mut random)),
         };
         let mut case = Case { table: plan.table(), ledger: plan.ledger(), calls: Vec::new(), edge };

@@ -155,15 +155,15 @@ fn finds(seed: u64, blunder: Blunder) -> bool {
     let name = blunder.name();
     let mut run = Run::new(seed, Some(blunder));
     let Some(failed) = run.cases(SELF_TEST_CALLS, |_| {}) else {
-        println!("{name:20} NOT found in {SELF_TEST_CALLS} calls");
+        println!("{name:22} NOT found in {SELF_TEST_CALLS} calls");
         return false;
     };
     if Run::new(seed, None).case(failed.number).is_some() {
-        println!("{name:20} NOT found: the archive differs without it");
+        println!("{name:22} NOT found: the archive differs without it");
         return false;
     }
     let calls = run.counts.total() + 1;
     let (case, failure) = run.shrink(&failed);
-    println!("{name:20} found after {calls:>5} calls, cut down to {}: {}", case.calls.len(), failure.what);
+    println!("{name:22} found after {calls:>5} calls, cut down to {}: {}", case.calls.len(), failure.what);
     true
 }

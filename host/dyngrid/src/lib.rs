@@ -19,6 +19,7 @@
 
 mod called;
 mod chart;
+mod choice;
 pub mod raw;
 mod refusal;
 mod rows;
@@ -26,6 +27,7 @@ mod table;
 
 pub use called::{Done, Refused};
 pub use chart::chart;
+pub use choice::Kind;
 pub use refusal::Refusal;
 pub use rows::{Rows, RowsIter};
 pub use table::{NotATable, Shape, Table};

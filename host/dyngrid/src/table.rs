@@ -26,8 +26,8 @@ pub enum Shape {
 /// Its length always agrees with its header, and no buffer, patch or list of names can overlap it. Rows have the
 /// numbers 1 to [`Table::used`].
 ///
-/// Reads of one table may run at the same time, also from several threads: a read takes the table by shared reference
-/// and alters nothing of it, and the library keeps no state of its own. Every other call has the table to itself.
+/// Reads and choices of one table may run at the same time, also from several threads: they take the table by shared reference
+/// and alter nothing of it, and the library keeps no state of its own. Every other call has the table to itself.
 #[derive(Clone, PartialEq, Eq)]
 pub struct Table {
     bytes: Vec<u8>,

@@ -1,6 +1,6 @@
 //! The wrapper keeps its promises: nothing panics, refusals have the right number, tables keep their length.
 
-use dyngrid::{chart, Done, Refusal, Refused, Rows, Shape, Table};
+use dyngrid::{chart, Done, Kind, Refusal, Refused, Rows, Shape, Table};
 
 /// The version, or the refusal, of a read or write.
 fn version_of(answer: Result<Done, Refused>) -> Result<u32, Refusal> {
@@ -156,6 +156,63 @@ fn a_chart_says_who_can_write() {
             );
         }
     }
+}
+
+/// On tables of 1 to 64 machines, wide and tall, for every coordinator: those chosen and the coordinator are enough, nobody else
+/// is called, and a write alters rows of the choice only; without one of a read's choice all are called.
+#[test]
+fn the_choice_and_the_coordinator_are_enough() {
+    for (machines, shape) in (1..=64).flat_map(|machines| [(machines, Shape::Wide), (machines, Shape::Tall)])
+    {
+        let names: Vec<u16> = (1..=machines as u16).map(|rank| 3 * rank + rank % 2).collect();
+        let founded = Table::found(machines, 1, &names, shape).expect("a plain founding");
+        for by in founded.rows() {
+            let own = Rows::from_bits(1 << (by - 1));
+            let [read, write] =
+                [Kind::Read, Kind::Write].map(|kind| founded.choice(by, kind).expect("in use"));
+            assert!(!read.is_empty() && read.is_subset(write) && write.is_subset(founded.rows()));
+            let answer = founded.read(by, read | own, 0, &mut [0]);
+            assert_eq!(answer, Ok(Done { version: 0, called: read.len() }));
+            let mut written = founded.clone();
+            let answer = written.write(by, write | own, 0, &[1]);
+            assert_eq!(answer, Ok(Done { version: 1, called: write.len() }));
+            let altered: Rows =
+                founded.rows().iter().filter(|&row| founded.row(row) != written.row(row)).collect();
+            assert_eq!(altered, write);
+            let away = Rows::from_bits(1 << (read.iter().find(|&row| row != by).unwrap_or(by) - 1));
+            if away != own && read != founded.rows() {
+                let answer = founded.read(by, founded.rows() - away, 0, &mut [0]);
+                assert!(matches!(
+                    answer,
+                    Ok(Done { called, .. }) | Err(Refused { called, .. }) if called == machines
+                ));
+            }
+        }
+        assert_eq!(founded.choice(0, Kind::Read), Err(Refusal::NoSuchRow));
+        assert_eq!(founded.choice(machines + 1, Kind::Write), Err(Refusal::NoSuchRow));
+    }
+}
+
+/// A row that joined has none until a check takes it in; one that missed a check has that of its old list.
+#[test]
+fn choices_over_the_own_list() {
+    let mut table = Table::found(5, 4, &[10, 20, 30, 40], Shape::Wide).expect("a plain founding");
+    let rows = |rows: &[usize]| Rows::of(rows).expect("rows");
+    assert_eq!(
+        (1..=4).map(|by| table.choice(by, Kind::Write)).collect::<Vec<_>>(),
+        [Ok(rows(&[1, 2, 3])); 4]
+    );
+    assert_eq!(table.join(15), Ok(5));
+    assert_eq!([Kind::Read, Kind::Write].map(|kind| table.choice(5, kind)), [Ok(Rows::EMPTY); 2]);
+    assert_eq!(table.check(1, rows(&[1, 2, 4])), Ok(1));
+    assert_eq!(
+        [1, 2, 3, 4].map(|by| table.choice(by, Kind::Write)),
+        [&[1, 2, 4], &[1, 2, 4], &[1, 2, 3], &[1, 2, 4]].map(|set| Ok(rows(set)))
+    );
+    assert_eq!(table.check(5, rows(&[1, 2, 3, 4, 5])), Ok(2));
+    // In name order 1, 5, 2, 3, 4: columns {1, 2, 4} and {5, 3}; by 15 the first row and the whole second column.
+    assert_eq!(table.choice(5, Kind::Read), Ok(rows(&[1, 3])));
+    assert_eq!(table.choice(5, Kind::Write), Ok(rows(&[1, 3, 5])));
 }
 
 /// Its third machine is a column by itself, until two checks that it answers have laid the five anew.
