@@ -17,6 +17,7 @@
 
 #![deny(missing_docs)]
 
+mod assembled;
 mod called;
 mod chart;
 mod choice;
@@ -25,6 +26,7 @@ mod refusal;
 mod rows;
 mod table;
 
+pub use assembled::NotAssembled;
 pub use called::{Done, Refused};
 pub use chart::chart;
 pub use choice::Kind;
