@@ -29,7 +29,12 @@ pub struct Counts {
     stayed: [BTreeMap<(u32, bool), u64>; KINDS],
     /// How often each of `CHOICES` was told.
     chosen: [u64; CHOICES.len()],
+    /// For each kind of call, how often a relay made it too.
+    relayed: [u64; KINDS],
 }
+
+/// So many calls must be made by a relay too.
+pub const RELAYED: u64 = 200_000;
 
 /// The answers that each kind of call can give, 0 for done, in the order of `Call::KINDS`.
 const POSSIBLE: [&[u32]; KINDS] = [
@@ -158,6 +163,8 @@ pub struct Step {
     pub stayed: Option<bool>,
     /// The place in `CHOICES` of the choice that was told.
     pub chosen: Option<usize>,
+    /// Did a relay make the call too?
+    pub relayed: bool,
 }
 
 impl Default for Counts {
@@ -171,6 +178,7 @@ impl Default for Counts {
             lents: Default::default(),
             stayed: Default::default(),
             chosen: Default::default(),
+            relayed: Default::default(),
         }
     }
 }
@@ -185,6 +193,7 @@ impl Counts {
         if let Some(stayed) = step.stayed {
             *self.stayed[call.kind()].entry((answer, stayed)).or_default() += 1;
         }
+        self.relayed[call.kind()] += u64::from(step.relayed);
         if let Some(chosen) = step.chosen {
             self.chosen[chosen] += 1;
         }
@@ -210,6 +219,11 @@ impl Counts {
     /// How often the scope's rules alone judged a call too, on a well-formed table.
     pub fn published(&self) -> u64 {
         self.published.iter().sum()
+    }
+
+    /// How often a relay made a call too.
+    pub fn relayed(&self) -> u64 {
+        self.relayed.iter().sum()
     }
 
     /// How often the grid of a list judged a call that its other grid would have judged otherwise.
@@ -246,6 +260,11 @@ impl Counts {
         }
         let untold = CHOICES.into_iter().zip(self.chosen).filter(|&(_, count)| count == 0);
         missing.extend(untold.map(|(choice, _)| format!("choice of a {choice}")));
+        let not_relayed = Call::KINDS.into_iter().zip(self.relayed).filter(|&(_, count)| count == 0);
+        missing.extend(not_relayed.map(|(name, _)| format!("{name} through a relay")));
+        if self.relayed() < RELAYED {
+            missing.push(format!("{RELAYED} calls through a relay"));
+        }
         for kind in CALLING {
             let (name, possible) = (Call::KINDS[kind], POSSIBLE[kind]);
             for answer in EITHER.into_iter().filter(|answer| possible.contains(answer)) {
@@ -332,8 +351,18 @@ mod tests {
     fn step(answer: u32) -> Step {
         let result = u64::from(answer) << 32;
         let ground = Ground::Published;
-        let (twin_of, decided, lent, called, stayed, chosen) = (None, None, None, None, None, None);
-        Step { result, ground, twin_of, published: false, decided, lent, called, stayed, chosen }
+        Step {
+            result,
+            ground,
+            twin_of: None,
+            published: false,
+            decided: None,
+            lent: None,
+            called: None,
+            stayed: None,
+            chosen: None,
+            relayed: false,
+        }
     }
 
     #[test]
@@ -342,10 +371,18 @@ mod tests {
         let answers: usize = POSSIBLE.iter().map(|answers| answers.len()).sum();
         let called = (5 * 3 + 2) + (5 * 3 - 1 + 4);
         let choices = (4 * 4 - 1) + 8;
-        assert_eq!(
-            counts.missing().len(),
-            answers + 6 * (64 + Ground::ALL.len()) + 4 + 12 + called + choices
-        );
+        let relayed = KINDS + 1;
+        let of_tables = answers + 6 * (64 + Ground::ALL.len()) + 4 + 12;
+        assert_eq!(counts.missing().len(), of_tables + called + choices + relayed);
+        for _ in 0..RELAYED - KINDS as u64 {
+            counts.add(&calls()[1], Step { relayed: true, ..step(0) });
+        }
+        for (kind, name) in Call::KINDS.into_iter().enumerate() {
+            let missing = counts.missing();
+            assert_eq!(missing.contains(&format!("{name} through a relay")), kind != 1);
+            assert!(missing.contains(&format!("{RELAYED} calls through a relay")));
+            counts.add(&calls()[kind], Step { relayed: true, ..step(0) });
+        }
         for (kind, answer, lent) in lent_lists() {
             counts.add(&calls()[kind], Step { lent: Some(lent), ..step(answer) });
         }

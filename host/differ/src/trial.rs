@@ -5,6 +5,7 @@ use crate::call::{result_shown, set_shown, Answer, Call};
 use crate::guard::Edge;
 use crate::ledger::Ledger;
 use crate::random::Random;
+use crate::relay::{Relay, Slip};
 use crate::report::{choice_told, Ground, Step};
 use crate::tables::{self, Picture};
 use reference::{rows, Engine, Grid, Laid, Layout, Quorum, Rules, Shape, Table, HEADER, TALL};
@@ -31,11 +32,14 @@ pub struct Trial<'a> {
     reference: Engine,
     table: Vec<u8>,
     ledger: Ledger,
+    /// Makes every call of a founded history a second time.
+    relay: Option<Relay>,
+    slip: Option<Slip>,
 }
 
 /// Makes all calls of a case again.
-pub fn replay(archive: &mut Archive, reference: Engine, case: &Case) -> Option<Failure> {
-    let mut trial = Trial::new(archive, reference, case);
+pub fn replay(archive: &mut Archive, reference: Engine, slip: Option<Slip>, case: &Case) -> Option<Failure> {
+    let mut trial = Trial::new(archive, reference, case).slipping(slip);
     case.calls
         .iter()
         .enumerate()
@@ -50,7 +54,12 @@ impl<'a> Trial<'a> {
 
     /// Goes on where a history stopped.
     pub fn resume(archive: &'a mut Archive, reference: Engine, table: Vec<u8>, ledger: Ledger) -> Trial<'a> {
-        Trial { archive, reference, table, ledger }
+        Trial { archive, reference, table, ledger, relay: None, slip: None }
+    }
+
+    /// Lets the relay make a mistake.
+    pub fn slipping(self, slip: Option<Slip>) -> Trial<'a> {
+        Trial { slip, ..self }
     }
 
     pub fn table(&self) -> &[u8] {
@@ -68,6 +77,9 @@ impl<'a> Trial<'a> {
         let before = self.table.clone();
         let judged = Picture::of(&before);
         let ground = Ground::of(judged.as_ref());
+        if self.ledger.is_open() && self.relay.is_none() {
+            self.relay = Some(Relay::open(&before, self.slip)?);
+        }
         let answer = self.archive.call(&mut self.table, call)?;
         self.refer(self.reference, call, &answer, &before)?;
         let published = self.ask_published(call, &answer, &before, ground)?;
@@ -84,13 +96,18 @@ impl<'a> Trial<'a> {
         if self.ledger.is_open() && Table::decode(&self.table).is_none() {
             return Err("a founded history leaves a malformed table".into());
         }
+        let relayed = self.relay.is_some();
+        if let Some(relay) = &mut self.relay {
+            relay.call(self.archive, call, &answer, &self.table)?;
+        }
         let called = (answer.called.len() == 1).then(|| answer.called[0]);
         let lent = match call {
             Call::Choice { set, .. } => Some(set.len()),
             _ => call.called().map(<[u8]>::len),
         };
         let stayed = judged.as_ref().and_then(|table| stayed(call, called?, table));
-        Ok(Step { result: answer.result, ground, twin_of, published, decided, lent, called, stayed, chosen })
+        let result = answer.result;
+        Ok(Step { result, ground, twin_of, published, decided, lent, called, stayed, chosen, relayed })
     }
 
     /// Compares what the archive gave and left with what the engine gives and leaves.
