@@ -74,7 +74,9 @@ int main(void)
         return 1;
 
     /* Machine 10, row 1, imports a score while row 4 is away. The machines that it calls first are up, and it is one of them. */
-    if (!report("choice of row 1", grid_choice(table, sizeof table, 1, GRID_WRITE, chosen, sizeof chosen)) || grid_set(chosen) != three)
+    if (!report("choice of row 1", grid_choice(table, sizeof table, 1, GRID_WRITE, chosen, sizeof chosen)))
+        return 1;
+    if (grid_set(chosen) != three)
         return 1;
     if (!report("write by row 1", grid_write(table, sizeof table, 1, three, 0, (const uint8_t *)score, sizeof score,
                                              called, sizeof called)))
