@@ -1,4 +1,5 @@
-/* Four machines share a file of results: found it, write, read, meet a refusal, and ask which machines are enough to write. */
+/* Four machines share a file of results: found it, ask whom to call, write, read, meet a refusal, and ask which machines are enough
+   to write. */
 #include <stdio.h>
 #include <string.h>
 #include "dyngrid.h"
@@ -15,7 +16,7 @@ static const char *meaning(uint32_t refusal)
     case GRID_MALFORMED: return "the table is malformed: use a good copy of it";
     case GRID_NO_SUCH_ROW: return "there is no such row: rows count from 1 to the rows used";
     case GRID_NOT_ANSWERING: return "the coordinator did not answer: it must be in the answering set";
-    case GRID_OUT_OF_RANGE: return "the range is empty or ends beyond the file";
+    case GRID_OUT_OF_RANGE: return "the range is empty or ends beyond the file, or a choice is neither a read's nor a write's";
     case GRID_WRONG_BUFFER: return "the buffer is not as long as the range, or a lent list has another length than it must";
     case GRID_NO_QUORUM: return "too few machines answered: try again when more do";
     case GRID_NOT_CURRENT: return "no machine that answered has the newest version: wait for one that has";
@@ -58,7 +59,7 @@ static void print_chart(const uint8_t *sets, uint32_t count)
 int main(void)
 {
     static uint8_t table[TABLE_BYTES];
-    uint8_t sets[GRID_CHART_BYTES], called[1];
+    uint8_t sets[GRID_CHART_BYTES], called[1], chosen[GRID_SET_BYTES];
     const uint8_t names[2 * MACHINES] = {10, 0, 20, 0, 30, 0, 40, 0};
     const char score[] = "1-0";
     uint8_t got[sizeof score] = {0};
@@ -72,7 +73,11 @@ int main(void)
     if (!report("found", grid_found(table, sizeof table, MACHINES, FILE_BYTES, names, sizeof names, GRID_WIDE)))
         return 1;
 
-    /* Machine 10, row 1, imports a score while row 4 is away. */
+    /* Machine 10, row 1, imports a score while row 4 is away. The machines that it calls first are up, and it is one of them. */
+    if (!report("choice of row 1", grid_choice(table, sizeof table, 1, GRID_WRITE, chosen, sizeof chosen)))
+        return 1;
+    if (grid_set(chosen) != three)
+        return 1;
     if (!report("write by row 1", grid_write(table, sizeof table, 1, three, 0, (const uint8_t *)score, sizeof score,
                                              called, sizeof called)))
         return 1;

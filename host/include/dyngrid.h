@@ -5,7 +5,8 @@
  * caller's business.
  *
  * Conventions
- *   A list is a pointer and then its length in bytes. Names, and sets in a chart, are two bytes each, low byte first.
+ *   A list is a pointer and then its length in bytes. Names, and sets in a chart, are two bytes each, low byte first; the set of
+ *   a choice is eight bytes.
  *   Rows have the numbers 1 upward. In an answering set, bit i - 1 stands for row i (see grid_row).
  *   A result is the refusal number (0: done) times 2^32, plus the value (see grid_refusal, grid_value).
  *   A refused call has value 0 and alters no byte of the table, of a buffer or of anything else, but for the byte in which a
@@ -21,13 +22,13 @@
  *   is away. Two checks with that machine on lay it anew: one by four of the five, and one by all five (see grid_check).
  *
  * Calls at the same time
- *   Reads of one table may run at the same time, also from several threads, each with its own buffer: a read alters
+ *   Reads and choices of one table may run at the same time, also from several threads, each with its own lists: they alter
  *   nothing of the table, and the library keeps no state of its own. Every other call has the table to itself.
  *
  * What a host must not do
- *   - pass slices of one call that overlap: a table and its buffer, patch, names or list for the number called;
- *   - let two calls that are not both reads run on one table at once, or touch a slice of a call while it runs (other
- *     reads of its table aside);
+ *   - pass slices of one call that overlap: a table and its buffer, patch, names or lent list;
+ *   - let two calls run on one table at once, unless both are reads or choices, or touch a slice of a call while it runs (other
+ *     reads and choices of its table aside);
  *   - pass a length above 0 with a null pointer, or above what the pointer leads to. Null with length 0 is an empty list.
  *   These three the library cannot see; everything else it refuses by number.
  */
@@ -43,7 +44,7 @@ extern "C" {
 
 /* Rises with every signature in this header that is new or changed, and with nothing else: a new form of the table does not
    raise it, for a table tells its form itself, and one of another form is refused by 1. */
-#define DYNGRID_INTERFACE 5
+#define DYNGRID_INTERFACE 6
 
 /* The number of the archive. */
 uint64_t grid_interface(void);
@@ -62,9 +63,9 @@ enum grid_refusals {
     GRID_MALFORMED = 1,            /* the table is not well formed: use a good copy of it, or found it anew; form 1: see above */
     GRID_NO_SUCH_ROW = 2,          /* a row is not in use, or a send names one row twice */
     GRID_NOT_ANSWERING = 3,        /* the coordinator, or an end of a send, is not in the answering set */
-    GRID_OUT_OF_RANGE = 4,         /* the range is empty or ends beyond the file */
+    GRID_OUT_OF_RANGE = 4,         /* the range is empty or ends beyond the file; a choice is neither a read's nor a write's */
     GRID_WRONG_BUFFER = 5,         /* the buffer is not exactly as long as the range, or the list for the number called not one
-                                      byte; a chart's list is shorter than 128 bytes */
+                                      byte; a choice's list is not eight bytes; a chart's is shorter than 128 bytes */
     GRID_NO_QUORUM = 6,            /* the rows that answered hold no quorum: try again when more answer */
     GRID_NOT_CURRENT = 7,          /* no row that answered has the newest version: try again when one answers */
     GRID_AT_LIMIT = 8,             /* the version, or the epoch, is at 1,000,000: found a new table */
@@ -85,6 +86,12 @@ enum grid_shapes { GRID_WIDE = 0, GRID_TALL = 1 };
 
 /* The marks of the grid that a list lies in: byte 24 of a row that has a list. */
 enum grid_marks { GRID_MARK_PUBLISHED = 0, GRID_MARK_NEW_FIVE = 1, GRID_MARK_TALL = 2 };
+
+/* The kinds of calls that have a choice. */
+enum grid_kinds { GRID_READ = 0, GRID_WRITE = 1 };
+
+/* The bytes of a set in a list. */
+enum grid_set_bytes { GRID_SET_BYTES = 8 };
 
 /* Limits of a table. */
 enum grid_limits { GRID_MAX_ROWS = 64, GRID_MAX_FILE = 4096, GRID_HEADER = 16, GRID_ROW_HEADER = 32 };
@@ -108,6 +115,15 @@ static inline uint32_t grid_value(uint64_t result)
 static inline size_t grid_table_length(size_t capacity, size_t file_len)
 {
     return GRID_HEADER + capacity * (GRID_ROW_HEADER + file_len);
+}
+
+/* The set in a list of eight bytes, as a choice leaves it there. */
+static inline uint64_t grid_set(const uint8_t *set)
+{
+    uint64_t rows = 0;
+    for (int byte = GRID_SET_BYTES - 1; byte >= 0; byte--)
+        rows = rows << 8 | set[byte];
+    return rows;
 }
 
 /* The set of one row from 1 to 64; sets are put together with |. Any other number gives the empty set. */
@@ -175,6 +191,17 @@ uint64_t grid_join(uint8_t *table, size_t table_len, uint16_t name);
    Mark 0 is for lists of any length (of five only in a table taken over from form 1), mark 1 for lists of five, mark 2 for
    lists of any length in a tall table. Four members with mark 0 give 7, 11, 13, 14. */
 uint64_t grid_chart(uint64_t length, uint64_t mark, uint8_t *list, size_t list_len);
+
+/* Whom to call: tells the set that the coordinator calls first for a read (kind GRID_READ) or a write (GRID_WRITE). It is the
+   coordinator's own choice by its name, over its own list and in that list's grid. The set is a number, bit i - 1 for row i as in
+   an answering set, in a list of exactly eight bytes (GRID_SET_BYTES), low byte first; grid_set puts it together.
+   Value: how many rows the set has. Refusals: 1, 2, 4, 5. The table stays as it is.
+
+   A row whose own list is empty has no choice: the set is empty and the value 0, and all used rows are called. The coordinator
+   need not be in its own choice, but must answer its call; call the choice and the coordinator. If all of them answer, its own
+   list is the list in force and some row of the choice has every done write, that is enough (for a write: below version
+   1,000,000); else call all used rows. Nothing is looked at but header, names, links and the coordinator's own row. */
+uint64_t grid_choice(const uint8_t *table, size_t table_len, uint64_t coordinator, uint64_t kind, uint8_t *set, size_t set_len);
 
 #ifdef __cplusplus
 }

@@ -2,14 +2,15 @@
 ghost use mathlib.Core.Path.{_≡_};
 ghost use Rattle.asking.specs.Asking.{result};
 ghost use Rattle.charting.specs.Charts.{charted};
+ghost use Rattle.choices.specs.Choosing.{chosen};
 ghost use Rattle.protocol.specs.Calls.{founding, join, read, write, send, check, resultOf, outcome};
 
 // The number of this interface: it rises with every change of a signature, so that header and archive can be compared.
 #[no_mangle]
 pub extern "C" fn grid_interface() -> u64
-    ensures { λ r. ⌜ r ≡ 5 ⌝ }
+    ensures { λ r. ⌜ r ≡ 6 ⌝ }
 {
-    5
+    6
 }
 
 #[no_mangle]
@@ -85,4 +86,12 @@ pub extern "C" fn grid_chart(length: u64, mark: u64, list: &mut [u8]) -> u64
     ensures { λ r. ⌜ (let o = charted length mark (now (list .entry)) in (r ≡ result (o .refusal) (o .value)) × (now (list .exit) ≡ o .list)) ⌝ }
 {
     charts::chart(length, mark, list)
+}
+
+// The set that a coordinator calls first.
+#[no_mangle]
+pub extern "C" fn grid_choice(table: &[u8], coordinator: u64, kind: u64, set: &mut [u8]) -> u64
+    ensures { λ r. ⌜ (let o = chosen (now (table .entry)) coordinator kind (now (set .entry)) in (r ≡ result (o .refusal) (o .value)) × (now (set .exit) ≡ o .set)) ⌝ }
+{
+    choices::choice(table, coordinator as usize, kind, set)
 }

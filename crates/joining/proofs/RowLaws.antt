@@ -34,11 +34,11 @@ module _ (x next body : ℕ) (h : Within 65_535 x) (l : next < 256) where
   abbrev new : List ℕ
   new = bytesOf 2 x ++ (bytesOf 1 next ++ (zeros 29 ++ zeros body))
 
-  new-name : get name new ≡ x
+  pub new-name : get name new ≡ x
   unfolding get name part zeros bytesOf
   new-name = number-bytes 2 x (omega arith)
 
-  new-link : get link new ≡ next
+  pub new-link : get link new ≡ next
   unfolding get link part zeros bytesOf
   new-link = number-bytes 1 next (omega arith)
 
@@ -46,7 +46,7 @@ module _ (x next body : ℕ) (h : Within 65_535 x) (l : next < 256) where
   unfolding isEmpty list get members part number zeros bytesOf
   new-list = refl
 
-  new-facts : (n i : ℕ) → next ≤ n → RowFacts n i new
+  pub new-facts : (n i : ℕ) → next ≤ n → RowFacts n i new
   unfolding isEmpty list reserved get mark version desired epoch members gridMark markFits part number zeros bytesOf limit allZero
   new-facts n i b = record {
     named = rw new-name h;

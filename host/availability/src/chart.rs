@@ -52,7 +52,8 @@ const SERIES: [(&str, &str, Figure); 6] = [
 ];
 
 pub fn svg(columns: &[Columns]) -> String {
-    let mut svg = open(WIDTH, HEIGHT, "Part of the time in which the file cannot be written", Paper::Page, LIGHT, DARK);
+    let mut svg =
+        open(WIDTH, HEIGHT, "Part of the time in which the file cannot be written", Paper::Page, LIGHT, DARK);
     text(&mut svg, LEFT, 30.0, "title", "start", "Part of the time in which the file cannot be written");
     let most = columns.len();
     axes(&mut svg, most);

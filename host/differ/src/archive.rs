@@ -13,7 +13,7 @@ const LONGEST_CALLED: usize = 16;
 
 pub struct Archive {
     table: Guard,
-    /// The other slice of a call: its names, buffer, patch or the list of a chart.
+    /// The other slice of a call: its names, buffer, patch or the list of a chart or a choice.
     list: Guard,
     /// The list for the number of machines called.
     called: Guard,
@@ -34,6 +34,7 @@ impl Archive {
             Call::Read { buffer, .. } => buffer,
             Call::Write { patch, .. } => patch,
             Call::Chart { list, .. } => list,
+            Call::Choice { set, .. } => set,
             Call::Send { .. } | Call::Check { .. } | Call::Join { .. } => &[],
         };
         self.table.place(table, self.edge);
@@ -98,6 +99,9 @@ impl Archive {
                 }
                 Call::Join { name } => raw::grid_join(table, table_len, name),
                 Call::Chart { length, mark, .. } => raw::grid_chart(length, mark, list, list_len),
+                Call::Choice { coordinator, kind, .. } => {
+                    raw::grid_choice(table, table_len, coordinator, kind, list, list_len)
+                }
             }
         }
     }

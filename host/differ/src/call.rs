@@ -12,9 +12,10 @@ pub enum Call {
     Check { coordinator: u64, answering: u64 },
     Join { name: u16 },
     Chart { length: u64, mark: u64, list: Vec<u8> },
+    Choice { coordinator: u64, kind: u64, set: Vec<u8> },
 }
 
-/// What a call gave: its result, the bytes that its buffer, or the list of a chart, then holds (empty but for these), and
+/// What a call gave: its result, the bytes that its buffer, or the list of a chart or a choice, then holds (empty but for these), and
 /// those that the list for the number called holds (empty but for a read and a write).
 #[derive(Clone, Debug, PartialEq, Eq)]
 pub struct Answer {
@@ -24,7 +25,8 @@ pub struct Answer {
 }
 
 impl Call {
-    pub const KINDS: [&'static str; 7] = ["found", "read", "write", "send", "check", "join", "chart"];
+    pub const KINDS: [&'static str; 8] =
+        ["found", "read", "write", "send", "check", "join", "chart", "choice"];
 
     /// Its place in `KINDS`.
     pub fn kind(&self) -> usize {
@@ -36,6 +38,7 @@ impl Call {
             Call::Check { .. } => 4,
             Call::Join { .. } => 5,
             Call::Chart { .. } => 6,
+            Call::Choice { .. } => 7,
         }
     }
 
@@ -52,14 +55,29 @@ impl Call {
         match self {
             Call::Read { buffer, .. } => Some(buffer),
             Call::Chart { list, .. } => Some(list),
+            Call::Choice { set, .. } => Some(set),
             _ => None,
         }
     }
 
-    /// The rows that answered; nobody is asked in a founding, a joining or a chart.
+    /// The rows that a call may look at, beyond names and links, if it looks at any: those that answered, or the coordinator of
+    /// a choice. A joining looks at none.
+    pub fn seen(&self) -> Option<u64> {
+        match *self {
+            Call::Found { .. } | Call::Chart { .. } => None,
+            Call::Join { .. } => Some(0),
+            Call::Choice { coordinator: coordinator @ 1..=64, .. } => Some(rows::only(coordinator as usize)),
+            Call::Choice { .. } => Some(0),
+            Call::Read { .. } | Call::Write { .. } | Call::Send { .. } | Call::Check { .. } => {
+                self.answering()
+            }
+        }
+    }
+
+    /// The rows that answered; nobody is asked in a founding, a joining, a chart or a choice.
     pub fn answering(&self) -> Option<u64> {
         match *self {
-            Call::Found { .. } | Call::Join { .. } | Call::Chart { .. } => None,
+            Call::Found { .. } | Call::Join { .. } | Call::Chart { .. } | Call::Choice { .. } => None,
             Call::Read { answering, .. }
             | Call::Write { answering, .. }
             | Call::Send { answering, .. }
@@ -70,7 +88,7 @@ impl Call {
     /// Lets only these rows answer.
     pub fn cut_down(&mut self, rows: u64) {
         match self {
-            Call::Found { .. } | Call::Join { .. } | Call::Chart { .. } => {}
+            Call::Found { .. } | Call::Join { .. } | Call::Chart { .. } | Call::Choice { .. } => {}
             Call::Read { answering, .. }
             | Call::Write { answering, .. }
             | Call::Send { answering, .. }
@@ -96,6 +114,7 @@ impl Call {
             Call::Check { coordinator, answering } => engine.check(table, *coordinator, *answering),
             Call::Join { name } => engine.join(table, *name),
             Call::Chart { length, mark, .. } => engine.chart(*length, *mark, &mut lent),
+            Call::Choice { coordinator, kind, .. } => engine.choice(table, *coordinator, *kind, &mut lent),
         };
         Answer { result, buffer: lent, called: number }
     }
@@ -127,12 +146,15 @@ impl fmt::Display for Call {
             Call::Chart { length, mark, list } => {
                 write!(f, "grid_chart(length {length}, mark {mark}, list {})", bytes_shown(list))
             }
+            Call::Choice { coordinator, kind, set } => {
+                write!(f, "grid_choice(coordinator {coordinator}, kind {kind}, set {})", bytes_shown(set))
+            }
         }
     }
 }
 
 /// A set of rows by number and by member.
-fn set_shown(set: u64) -> String {
+pub fn set_shown(set: u64) -> String {
     let members: Vec<String> = rows::members(set).map(|row| row.to_string()).collect();
     format!("0x{set:x} {{{}}}", members.join(","))
 }

@@ -12,6 +12,12 @@ const CHART_LENGTHS: [u64; 13] = [0, 1, 2, 3, 4, 5, 6, 7, 8, 9, 10, 1 << 32, (1 
 const CHART_MARKS: [u64; 7] = [0, 1, 2, 3, 4, 257, 1 << 32];
 const CHART_LISTS: [usize; 5] = [0, 127, 128, 129, 200];
 
+/// What every choice is asked for besides the coordinators from 0 to one beyond the used rows: coordinators further beyond; kinds,
+/// two of which there are; bytes of the list for the set.
+const NO_COORDINATORS: [u64; 6] = [64, 65, 257, (1 << 32) + 1, 1 << 63, u64::MAX];
+const CHOICE_KINDS: [u64; 7] = [0, 1, 2, 256, 257, 1 << 32, (1 << 32) + 1];
+const CHOICE_LISTS: [usize; 4] = [0, 7, 8, 9];
+
 /// What a case tries: a table to start from, and how its calls are picked.
 pub struct Plan {
     start: Vec<u8>,
@@ -71,8 +77,13 @@ impl Plan {
         for _ in 0..random.between(1, 12) {
             let mut table = plan.table();
             let call = plan.next(random, &table);
-            let of_a_request =
-                matches!(call, Call::Join { .. } | Call::Chart { .. } | Call::Found { choice: 1.., .. });
+            let of_a_request = matches!(
+                call,
+                Call::Join { .. }
+                    | Call::Chart { .. }
+                    | Call::Choice { .. }
+                    | Call::Found { choice: 1.., .. }
+            );
             if !of_a_request {
                 let answer = call.refer(engine, &mut table);
                 plan.ledger
@@ -151,6 +162,33 @@ impl Plan {
         }
         Plan {
             start: Vec::new(),
+            ledger: Ledger::default(),
+            calls: calls.len(),
+            opening: calls.into_iter(),
+            foundings: None,
+            known: None,
+            up: 0,
+        }
+    }
+
+    /// Every choice on a well-formed table of a few rows, and every way to be refused one.
+    pub fn choices(random: &mut Random) -> Plan {
+        let used = random.between(5, 9);
+        let size = Size { used, capacity: random.between(used, 11), file_len: random.between(1, 6) };
+        let start = tables::well_formed(random, size);
+        let beyond = NO_COORDINATORS.into_iter().filter(|&row| row > used as u64);
+        let mut calls = Vec::new();
+        for coordinator in (0..=used as u64 + 1).chain(beyond) {
+            for kind in CHOICE_KINDS {
+                calls.extend(CHOICE_LISTS.map(|bytes| Call::Choice {
+                    coordinator,
+                    kind,
+                    set: random.bytes(bytes),
+                }));
+            }
+        }
+        Plan {
+            start,
             ledger: Ledger::default(),
             calls: calls.len(),
             opening: calls.into_iter(),
@@ -269,7 +307,7 @@ fn fitting(random: &mut Random, table: &Picture, up: u64) -> Call {
     let unlisted = table.unlisted() & up;
     let coordinators = if random.chance(1, 4) && unlisted != 0 { unlisted } else { up };
     let coordinator = random.row(coordinators);
-    match random.between(0, 99) {
+    match random.between(0, 105) {
         0..=29 => {
             let answering = answering(random, table, up, coordinator, Quorum::Read);
             let (offset, length) = range(random, table);
@@ -290,6 +328,11 @@ fn fitting(random: &mut Random, table: &Picture, up: u64) -> Call {
         }
         93..=97 => Call::Join { name: joining_name(random, table) },
         98 => chart(random),
+        99..=104 => {
+            let unlisted = if unlisted != 0 { unlisted } else { table.unlisted() };
+            let coordinators = if random.chance(1, 4) { unlisted } else { table.all_used() };
+            choice_of(random, coordinators)
+        }
         _ => {
             let used = random.between(1, table.capacity);
             let choice = choice(random);
@@ -386,6 +429,13 @@ fn chart(random: &mut Random) -> Call {
     Call::Chart { length, mark, list: random.bytes(bytes) }
 }
 
+/// The choice of one of these rows, mostly in a list of its length.
+fn choice_of(random: &mut Random, coordinators: u64) -> Call {
+    let coordinator = random.row(coordinators) as u64;
+    let bytes = if random.chance(1, 8) { random.pick(&CHOICE_LISTS) } else { 8 };
+    Call::Choice { coordinator, kind: random.pick(&[0, 1]), set: random.bytes(bytes) }
+}
+
 /// Gives one argument of the call a value at or beyond its limits.
 fn spoil(random: &mut Random, call: &mut Call, table: &Picture) {
     let (used, longest) = (table.used as u64, table.file_len as u64);
@@ -430,6 +480,11 @@ fn spoil(random: &mut Random, call: &mut Call, table: &Picture) {
             0 => *length = edge(random, 9, *length),
             1 => *mark = edge(random, 2, *mark),
             _ => list.truncate(random.between(0, 129)),
+        },
+        Call::Choice { coordinator, kind, set } => match random.between(0, 2) {
+            0 => *coordinator = edge(random, used, *coordinator),
+            1 => *kind = edge(random, 1, *kind),
+            _ => set.resize(random.pick(&[0, 1, 7, 9, 16]), 0),
         },
     }
 }
@@ -476,6 +531,26 @@ mod tests {
             answers.into_iter().collect::<Vec<_>>(),
             [(0, 19 * 3), (5, 19 * 2), (17, (13 * 7 - 19) * 5)]
         );
+    }
+
+    #[test]
+    fn every_choice_is_tried() {
+        for case in 0..50 {
+            let mut random = Random::new(6, case);
+            let mut plan = Plan::choices(&mut random);
+            let mut table = plan.table();
+            let used = Table::decode(&table).expect("well formed").used;
+            let mut answers = std::collections::BTreeMap::new();
+            for _ in 0..plan.calls() {
+                let call = plan.next(&mut random, &table);
+                *answers.entry(call.refer(Engine::default(), &mut table).result >> 32).or_insert(0) += 1;
+            }
+            // Two kinds of seven, one length of four; two coordinators besides those far beyond are no rows.
+            assert_eq!(
+                answers.into_iter().collect::<Vec<_>>(),
+                [(0, used * 2), (2, 8 * 7 * 4), (4, used * 5 * 4), (5, used * 2 * 3)]
+            );
+        }
     }
 
     #[test]

@@ -515,13 +515,16 @@ fn gathered_pictures_give_the_same_as_the_whole_table() {
             let call = plan.next(&mut random, &whole);
             let Some(answering) = call.answering() else {
                 let answer = archive.call(&mut whole, &call).expect("no stray write");
-                if let Call::Join { .. } = call {
+                match call {
+                    Call::Found { .. } => pictures = vec![whole.clone(); 65],
                     // Everybody hears of it.
-                    for picture in &mut pictures {
-                        assert_eq!(archive.call(picture, &call).as_ref(), Ok(&answer), "{call}");
+                    Call::Join { .. } => {
+                        for picture in &mut pictures {
+                            assert_eq!(archive.call(picture, &call).as_ref(), Ok(&answer), "{call}");
+                        }
                     }
-                } else {
-                    pictures = vec![whole.clone(); 65];
+                    // A chart and a choice alter nothing.
+                    _ => {}
                 }
                 continue;
             };
@@ -578,7 +581,7 @@ impl Explorer {
     }
 }
 
-/// Every read, write, send and check, and joinings in every gap between names; a write lays down the byte `mark`.
+/// Every read, write, send, check and choice, and joinings in every gap between names; a write lays down the byte `mark`.
 fn every_call(table: &[u8], mark: u8) -> Vec<Call> {
     let table = Picture::of(table).expect("a founded history");
     let mut calls = Vec::new();
@@ -594,6 +597,9 @@ fn every_call(table: &[u8], mark: u8) -> Vec<Call> {
             calls
                 .extend([read, Call::Write { coordinator, answering, offset: 0, patch: vec![mark], called }]);
         }
+    }
+    for coordinator in 1..=table.used as u64 {
+        calls.extend([0, 1].map(|kind| Call::Choice { coordinator, kind, set: vec![0xee; 8] }));
     }
     for from in 1..=table.used {
         for to in (1..=table.used).filter(|&to| to != from) {

@@ -1,6 +1,6 @@
 //! Keeps the plain book beside a history, and compares the answers with it.
 
-use crate::call::{result_shown, Answer, Call};
+use crate::call::{result_shown, set_shown, Answer, Call};
 use reference::{rows, Book, Quorum, Rules, Shape};
 
 /// Closed until a founding is done.
@@ -72,6 +72,16 @@ impl Ledger {
                 number_called(called, answer)?;
                 if done {
                     book.write(*coordinator as usize, *answering, *offset as usize, patch);
+                }
+            }
+            Call::Choice { coordinator, kind, .. } if done => {
+                let quorum = Quorum::of_kind(*kind).ok_or("a choice of another kind was done")?;
+                if *coordinator > book.rows() as u64 || *coordinator == 0 {
+                    return Err("the choice of no row was done".into());
+                }
+                let chosen = book.choice(quorum, *coordinator as usize);
+                if answer.buffer != chosen.to_le_bytes() || answer.result != u64::from(chosen.count_ones()) {
+                    return Err(format!("another choice than the book's, {}", set_shown(chosen)));
                 }
             }
             Call::Send { from, to, .. } if done => book.send(*from as usize, *to as usize),
@@ -158,9 +168,9 @@ mod tests {
     /// Good rows of a founded history hold the same bytes, so the book cannot tell which of them was read; no history
     /// leads to two marks in one epoch, or to two shapes in one table; the book keeps no charts, and does not look at a list
     /// for the number called that has another length than one byte, nor in which order a write's range and that list are
-    /// asked for.
+    /// asked for, nor at the list of a choice that was refused.
     #[test]
-    fn the_book_alone_finds_all_blunders_but_ten() {
+    fn the_book_alone_finds_all_blunders_but_eleven() {
         let hidden = [
             Blunder::HighestGood,
             Blunder::MarksOfEpoch,
@@ -172,6 +182,7 @@ mod tests {
             Blunder::MarkOfAByte,
             Blunder::CalledAtAnyLength,
             Blunder::CalledLengthFirst,
+            Blunder::SetAtAnyLength,
         ];
         for blunder in Blunder::ALL {
             assert_eq!(book_finds(Some(blunder), 50_000), !hidden.contains(&blunder), "{}", blunder.name());

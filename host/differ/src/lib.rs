@@ -10,6 +10,7 @@ mod guard;
 mod histories;
 mod ledger;
 mod random;
+mod relay;
 mod report;
 mod shrink;
 mod tables;
@@ -18,6 +19,7 @@ mod trial;
 pub use archive::report_faults;
 pub use call::{bytes_shown, Call};
 pub use random::Random;
+pub use relay::Slip;
 pub use report::Counts;
 pub use trial::{Case, Failure};
 
@@ -32,8 +34,35 @@ use trial::Trial;
 pub struct Run {
     pub seed: u64,
     reference: Engine,
+    slip: Option<Slip>,
     archive: Archive,
     pub counts: Counts,
+}
+
+/// What is made wrong on purpose, so that a difference must follow.
+#[derive(Clone, Copy, Debug, PartialEq, Eq)]
+pub enum Mistake {
+    Blunder(Blunder),
+    Slip(Slip),
+}
+
+impl Mistake {
+    pub fn all() -> impl Iterator<Item = Mistake> {
+        let blunders = Blunder::ALL.into_iter().map(Mistake::Blunder);
+        blunders.chain(Slip::ALL.into_iter().map(Mistake::Slip))
+    }
+
+    /// Its name on a command line.
+    pub fn name(self) -> &'static str {
+        match self {
+            Mistake::Blunder(blunder) => blunder.name(),
+            Mistake::Slip(slip) => slip.name(),
+        }
+    }
+
+    pub fn from_name(name: &str) -> Option<Mistake> {
+        Mistake::all().find(|mistake| mistake.name() == name)
+    }
 }
 
 /// A case that failed, and its number.
@@ -44,9 +73,14 @@ pub struct Failed {
 }
 
 impl Run {
-    pub fn new(seed: u64, blunder: Option<Blunder>) -> Run {
+    pub fn new(seed: u64, mistake: Option<Mistake>) -> Run {
+        let (blunder, slip) = match mistake {
+            Some(Mistake::Blunder(blunder)) => (Some(blunder), None),
+            Some(Mistake::Slip(slip)) => (None, Some(slip)),
+            None => (None, None),
+        };
         let reference = Engine { blunder, ..Engine::default() };
-        Run { seed, reference, archive: Archive::new(), counts: Counts::default() }
+        Run { seed, reference, slip, archive: Archive::new(), counts: Counts::default() }
     }
 
     /// Makes the calls of one case; stops at the first difference.
@@ -54,14 +88,16 @@ impl Run {
         archive::now_in(self.seed, number);
         let mut random = Random::new(self.seed, number);
         let edge = if random.chance(1, 2) { Edge::Start } else { Edge::End };
-        // The first two cases try every chart, in lists against one edge and against the other.
+        // The first cases try every chart, and every choice on a few tables, in lists against one edge and against the other.
         let (edge, mut plan) = match number {
             0 => (Edge::Start, Plan::charts(&mut random)),
             1 => (Edge::End, Plan::charts(&mut random)),
+            2..=7 if number % 2 == 0 => (Edge::Start, Plan::choices(&mut random)),
+            2..=7 => (Edge::End, Plan::choices(&mut random)),
             _ => (edge, Plan::pick(&mut random)),
         };
         let mut case = Case { table: plan.table(), ledger: plan.ledger(), calls: Vec::new(), edge };
-        let mut trial = Trial::new(&mut self.archive, self.reference, &case);
+        let mut trial = Trial::new(&mut self.archive, self.reference, &case).slipping(self.slip);
         for _ in 0..plan.calls() {
             let call = plan.next(&mut random, trial.table());
             case.calls.push(call.clone());
@@ -91,7 +127,7 @@ impl Run {
 
     /// The case cut down to few and short calls that still fail.
     pub fn shrink(&mut self, failed: &Failed) -> (Case, Failure) {
-        let mut fails = |case: &Case| trial::replay(&mut self.archive, self.reference, case);
+        let mut fails = |case: &Case| trial::replay(&mut self.archive, self.reference, self.slip, case);
         Shrinker::shrink(&failed.case, &failed.failure, &mut fails)
     }
 }

@@ -1,7 +1,6 @@
 //! Compares the archive with the reference and with the plain book.
 
-use differ::{report_faults, Failed, Run};
-use reference::Blunder;
+use differ::{report_faults, Failed, Mistake, Run};
 use std::process::ExitCode;
 use std::time::{Instant, SystemTime, UNIX_EPOCH};
 
@@ -11,7 +10,7 @@ differ: compares the archive with the reference, call by call
     --calls N        make N calls (2000000)
     --seed S         the random numbers to use (a new seed each time)
     --case K         only case K of the seed
-    --blunder NAME   the reference makes this blunder: a difference must follow
+    --blunder NAME   the reference, or the relay, makes this blunder: a difference must follow
     --self-test      tries every blunder; each must be found within 20000 calls
     --blunders       lists the blunders";
 
@@ -25,7 +24,7 @@ struct Options {
     calls: Option<u64>,
     seed: Option<u64>,
     case: Option<u64>,
-    blunder: Option<Blunder>,
+    blunder: Option<Mistake>,
     self_test: bool,
 }
 
@@ -36,7 +35,7 @@ fn main() -> ExitCode {
         return ExitCode::SUCCESS;
     }
     if arguments.iter().any(|argument| argument == "--blunders") {
-        Blunder::ALL.iter().for_each(|blunder| println!("{}", blunder.name()));
+        Mistake::all().for_each(|mistake| println!("{}", mistake.name()));
         return ExitCode::SUCCESS;
     }
     let options = match parse(&arguments) {
@@ -65,7 +64,7 @@ fn parse(arguments: &[String]) -> Result<Options, String> {
             "--blunder" => {
                 let name = value()?;
                 options.blunder =
-                    Some(Blunder::from_name(name).ok_or(format!("there is no blunder {name}"))?);
+                    Some(Mistake::from_name(name).ok_or(format!("there is no blunder {name}"))?);
             }
             "--self-test" => options.self_test = true,
             _ => return Err(format!("what is {argument}?")),
@@ -107,10 +106,11 @@ fn compare(seed: u64, options: &Options) -> bool {
     }
     let [own, all] = run.counts.stayed();
     println!(
-        "differ: {calls} calls ({} by the scope's rules alone too, {} decided by a grid mark, {own} by an own choice, {all} not) \
-         and {} twins in {:.1} s, no difference (seed {seed})",
+        "differ: {calls} calls ({} by the scope's rules alone too, {} decided by a grid mark, {own} by an own choice, {all} not, \
+         {} through a relay too) and {} twins in {:.1} s, no difference (seed {seed})",
         run.counts.published(),
         run.counts.decided(),
+        run.counts.relayed(),
         run.counts.twins(),
         started.elapsed().as_secs_f64()
     );
@@ -130,7 +130,7 @@ fn progress(started: Instant) -> impl FnMut(&differ::Counts) {
 }
 
 /// Prints a failing case, cut down, and how to repeat it.
-fn show(run: &mut Run, failed: &Failed, blunder: Option<Blunder>) {
+fn show(run: &mut Run, failed: &Failed, blunder: Option<Mistake>) {
     let (case, failure) = run.shrink(failed);
     println!("differ: {}", failed.failure.what);
     println!("cut down to {} calls: {}", case.calls.len(), failure.what);
@@ -145,25 +145,26 @@ fn show(run: &mut Run, failed: &Failed, blunder: Option<Blunder>) {
 /// Each blunder must be found; true if all are.
 fn self_test(seed: u64) -> bool {
     println!("differ: seed {seed}");
-    let found = Blunder::ALL.into_iter().filter(|&blunder| finds(seed, blunder)).count();
-    println!("differ: {found} of {} blunders found", Blunder::ALL.len());
-    found == Blunder::ALL.len()
+    let (found, all) =
+        (Mistake::all().filter(|&mistake| finds(seed, mistake)).count(), Mistake::all().count());
+    println!("differ: {found} of {all} blunders found");
+    found == all
 }
 
 /// Does a case fail with the blunder, and not without it?
-fn finds(seed: u64, blunder: Blunder) -> bool {
+fn finds(seed: u64, blunder: Mistake) -> bool {
     let name = blunder.name();
     let mut run = Run::new(seed, Some(blunder));
     let Some(failed) = run.cases(SELF_TEST_CALLS, |_| {}) else {
-        println!("{name:20} NOT found in {SELF_TEST_CALLS} calls");
+        println!("{name:22} NOT found in {SELF_TEST_CALLS} calls");
         return false;
     };
     if Run::new(seed, None).case(failed.number).is_some() {
-        println!("{name:20} NOT found: the archive differs without it");
+        println!("{name:22} NOT found: the archive differs without it");
         return false;
     }
     let calls = run.counts.total() + 1;
     let (case, failure) = run.shrink(&failed);
-    println!("{name:20} found after {calls:>5} calls, cut down to {}: {}", case.calls.len(), failure.what);
+    println!("{name:22} found after {calls:>5} calls, cut down to {}: {}", case.calls.len(), failure.what);
     true
 }

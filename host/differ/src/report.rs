@@ -2,7 +2,7 @@
 
 use crate::call::Call;
 use crate::tables::Picture;
-use reference::Shape;
+use reference::{Quorum, Shape};
 use std::collections::{BTreeMap, BTreeSet};
 use std::fmt;
 use std::ops::RangeInclusive;
@@ -23,11 +23,18 @@ pub struct Counts {
     /// For each kind of call and grid mark, how often a list of that mark judged it that its other grid would have judged
     /// otherwise.
     decided: [[u64; MARKS.len()]; KINDS],
-    /// For each kind of call, answer and length of the list for the number called, how often they came together.
+    /// For each kind of call, answer and length of the list for the number called, or for a choice, how often they came together.
     lents: [BTreeMap<(u32, usize), u64>; KINDS],
     /// For each kind of call and answer, how often it surely stayed with the own choice, and how often it surely did not.
     stayed: [BTreeMap<(u32, bool), u64>; KINDS],
+    /// How often each of `CHOICES` was told.
+    chosen: [u64; CHOICES.len()],
+    /// For each kind of call, how often a relay made it too.
+    relayed: [u64; KINDS],
 }
+
+/// So many calls must be made by a relay too.
+pub const RELAYED: u64 = 200_000;
 
 /// The answers that each kind of call can give, 0 for done, in the order of `Call::KINDS`.
 const POSSIBLE: [&[u32]; KINDS] = [
@@ -38,6 +45,7 @@ const POSSIBLE: [&[u32]; KINDS] = [
     &[0, 1, 2, 3, 6, 7, 8],
     &[0, 1, 13, 14],
     &[0, 5, 17],
+    &[0, 1, 2, 4, 5],
 ];
 
 /// The kinds of calls that are not asked what the table holds: founding and chart.
@@ -46,19 +54,40 @@ const TABLELESS: [usize; 2] = [0, 6];
 /// The kinds of calls that the scope alone puts question 1 to.
 const PUBLISHED: RangeInclusive<usize> = 1..=4;
 
-/// The kinds of calls that ask for a quorum: read, write, check.
-const QUORUM: [usize; 3] = [1, 2, 4];
+/// The kinds of calls that the grid of a list decides: read, write, check, choice.
+const BY_GRID: [usize; 4] = [1, 2, 4, 7];
 
-/// The kinds of calls that say how many machines were called: read and write. Each answer that they give before anyone is
-/// called must come with each of these lengths of the list for the number; 5 comes with one byte from a read only.
+/// The kinds of calls that say how many machines were called: read and write.
 const CALLING: [usize; 2] = [1, 2];
-const BEFORE_CALLING: RangeInclusive<u32> = 1..=5;
-const LENT: [usize; 3] = [0, 1, 2];
+/// The kinds of calls that are lent a list of one length: those, and a choice. Each of these refusals must come with each
+/// of these lengths of the list, the right one among them; 5 comes with that one from a read only.
+const LENT: [(usize, &[u32], &[usize], usize); 3] = [
+    (1, &[1, 2, 3, 4, 5], &[0, 1, 2], 1),
+    (2, &[1, 2, 3, 4, 5], &[0, 1, 2], 1),
+    (7, &[1, 2, 4, 5], &[0, 7, 8, 9], 8),
+];
 /// The answers that both a call that stayed with its own choice and one that did not can give.
 const EITHER: [u32; 2] = [0, 8];
 
 /// The lists that can lie in two grids, by grid mark.
 const MARKS: [&str; 3] = ["a five in the published grid", "a five in the new grid", "a tall list"];
+
+/// The choices that can be told, by kind and by the grid mark of the own list, or none.
+const CHOICES: [&str; 8] = [
+    "read over a list in the published grid",
+    "read over a list in the new grid",
+    "read over a tall list",
+    "read over an empty list",
+    "write over a list in the published grid",
+    "write over a list in the new grid",
+    "write over a tall list",
+    "write over an empty list",
+];
+
+/// The place in `CHOICES` of one over a list with this mark, or over an empty one.
+pub fn choice_told(quorum: Quorum, mark: Option<u8>) -> usize {
+    4 * usize::from(quorum == Quorum::Write) + mark.map_or(3, usize::from)
+}
 
 /// The kinds of tables that a call is made on.
 #[derive(Clone, Copy, Debug, PartialEq, Eq)]
@@ -126,12 +155,16 @@ pub struct Step {
     pub published: bool,
     /// The mark of the list that judged the call, if its other grid would have judged otherwise.
     pub decided: Option<u8>,
-    /// The length of the list for the number called, if one was lent.
+    /// The length of the list for the number called, or for a choice, if one was lent.
     pub lent: Option<usize>,
     /// The number of machines called, if there was a byte for it.
     pub called: Option<u8>,
     /// Did the call stay with the own choice? None if that cannot be told.
     pub stayed: Option<bool>,
+    /// The place in `CHOICES` of the choice that was told.
+    pub chosen: Option<usize>,
+    /// Did a relay make the call too?
+    pub relayed: bool,
 }
 
 impl Default for Counts {
@@ -144,6 +177,8 @@ impl Default for Counts {
             decided: Default::default(),
             lents: Default::default(),
             stayed: Default::default(),
+            chosen: Default::default(),
+            relayed: Default::default(),
         }
     }
 }
@@ -157,6 +192,10 @@ impl Counts {
         }
         if let Some(stayed) = step.stayed {
             *self.stayed[call.kind()].entry((answer, stayed)).or_default() += 1;
+        }
+        self.relayed[call.kind()] += u64::from(step.relayed);
+        if let Some(chosen) = step.chosen {
+            self.chosen[chosen] += 1;
         }
         self.grounds[call.kind()][step.ground as usize] += 1;
         self.published[call.kind()] += u64::from(step.published && step.ground == Ground::Published);
@@ -182,6 +221,11 @@ impl Counts {
         self.published.iter().sum()
     }
 
+    /// How often a relay made a call too.
+    pub fn relayed(&self) -> u64 {
+        self.relayed.iter().sum()
+    }
+
     /// How often the grid of a list judged a call that its other grid would have judged otherwise.
     pub fn decided(&self) -> u64 {
         self.decided.iter().flatten().sum()
@@ -205,18 +249,24 @@ impl Counts {
                 missing.push(format!("{name} by the scope's rules alone"));
             }
         }
-        for kind in QUORUM {
+        for kind in BY_GRID {
             let never = MARKS.into_iter().zip(self.decided[kind]).filter(|&(_, count)| count == 0);
             missing.extend(never.map(|(list, _)| format!("{} decided by {list}", Call::KINDS[kind])));
         }
+        for (kind, answer, lent) in lent_lists() {
+            if !self.lents[kind].contains_key(&(answer, lent)) {
+                missing.push(format!("{} {answer} with a list of {lent} bytes", Call::KINDS[kind]));
+            }
+        }
+        let untold = CHOICES.into_iter().zip(self.chosen).filter(|&(_, count)| count == 0);
+        missing.extend(untold.map(|(choice, _)| format!("choice of a {choice}")));
+        let not_relayed = Call::KINDS.into_iter().zip(self.relayed).filter(|&(_, count)| count == 0);
+        missing.extend(not_relayed.map(|(name, _)| format!("{name} through a relay")));
+        if self.relayed() < RELAYED {
+            missing.push(format!("{RELAYED} calls through a relay"));
+        }
         for kind in CALLING {
             let (name, possible) = (Call::KINDS[kind], POSSIBLE[kind]);
-            for (answer, lent) in BEFORE_CALLING.flat_map(|answer| LENT.map(|lent| (answer, lent))) {
-                let of_the_buffer = answer == 5 && lent == 1;
-                if !self.lents[kind].contains_key(&(answer, lent)) && !(of_the_buffer && name == "write") {
-                    missing.push(format!("{name} {answer} with {lent} bytes for the number called"));
-                }
-            }
             for answer in EITHER.into_iter().filter(|answer| possible.contains(answer)) {
                 let never =
                     [true, false].into_iter().filter(|&own| !self.stayed[kind].contains_key(&(answer, own)));
@@ -244,6 +294,15 @@ impl Counts {
         }
         impossible
     }
+}
+
+/// The kinds of calls, refusals and lengths of a lent list that must come together.
+fn lent_lists() -> impl Iterator<Item = (usize, u32, usize)> {
+    LENT.into_iter().flat_map(|(kind, answers, lengths, right)| {
+        let pairs = answers.iter().flat_map(|&answer| lengths.iter().map(move |&lent| (answer, lent)));
+        let by_the_list = move |&(answer, lent): &(u32, usize)| answer != 5 || lent != right || kind == 1;
+        pairs.filter(by_the_list).map(move |(answer, lent)| (kind, answer, lent))
+    })
 }
 
 impl fmt::Display for Counts {
@@ -284,6 +343,7 @@ mod tests {
             Call::Check { coordinator: 1, answering: 1 },
             Call::Join { name: 1 },
             Call::Chart { length: 1, mark: 0, list: vec![0; 128] },
+            Call::Choice { coordinator: 1, kind: 0, set: vec![0; 8] },
         ]
     }
 
@@ -291,8 +351,18 @@ mod tests {
     fn step(answer: u32) -> Step {
         let result = u64::from(answer) << 32;
         let ground = Ground::Published;
-        let (twin_of, decided, lent, called, stayed) = (None, None, None, None, None);
-        Step { result, ground, twin_of, published: false, decided, lent, called, stayed }
+        Step {
+            result,
+            ground,
+            twin_of: None,
+            published: false,
+            decided: None,
+            lent: None,
+            called: None,
+            stayed: None,
+            chosen: None,
+            relayed: false,
+        }
     }
 
     #[test]
@@ -300,11 +370,29 @@ mod tests {
         let mut counts = Counts::default();
         let answers: usize = POSSIBLE.iter().map(|answers| answers.len()).sum();
         let called = (5 * 3 + 2) + (5 * 3 - 1 + 4);
-        assert_eq!(counts.missing().len(), answers + 5 * (64 + Ground::ALL.len()) + 4 + 9 + called);
+        let choices = (4 * 4 - 1) + 8;
+        let relayed = KINDS + 1;
+        let of_tables = answers + 6 * (64 + Ground::ALL.len()) + 4 + 12;
+        assert_eq!(counts.missing().len(), of_tables + called + choices + relayed);
+        for _ in 0..RELAYED - KINDS as u64 {
+            counts.add(&calls()[1], Step { relayed: true, ..step(0) });
+        }
+        for (kind, name) in Call::KINDS.into_iter().enumerate() {
+            let missing = counts.missing();
+            assert_eq!(missing.contains(&format!("{name} through a relay")), kind != 1);
+            assert!(missing.contains(&format!("{RELAYED} calls through a relay")));
+            counts.add(&calls()[kind], Step { relayed: true, ..step(0) });
+        }
+        for (kind, answer, lent) in lent_lists() {
+            counts.add(&calls()[kind], Step { lent: Some(lent), ..step(answer) });
+        }
+        for (quorum, mark) in [Quorum::Read, Quorum::Write]
+            .into_iter()
+            .flat_map(|quorum| [Some(0), Some(1), Some(2), None].map(|mark| (quorum, mark)))
+        {
+            counts.add(&calls()[7], Step { chosen: Some(choice_told(quorum, mark)), ..step(0) });
+        }
         for kind in CALLING {
-            for (answer, lent) in BEFORE_CALLING.flat_map(|answer| LENT.map(|lent| (answer, lent))) {
-                counts.add(&calls()[kind], Step { lent: Some(lent), ..step(answer) });
-            }
             for (answer, own) in EITHER.into_iter().flat_map(|answer| [(answer, true), (answer, false)]) {
                 if POSSIBLE[kind].contains(&answer) {
                     counts.add(&calls()[kind], Step { stayed: Some(own), ..step(answer) });
@@ -329,29 +417,38 @@ mod tests {
         }
         let rules =
             ["read", "write", "send", "check"].map(|name| format!("{name} by the scope's rules alone"));
-        let decided =
-            ["read", "write", "check"].map(|name| MARKS.map(|list| format!("{name} decided by {list}")));
+        let decided = ["read", "write", "check", "choice"]
+            .map(|name| MARKS.map(|list| format!("{name} decided by {list}")));
         assert_eq!(counts.missing(), [&rules, decided.as_flattened()].concat());
         for call in &calls()[PUBLISHED] {
             counts.add(call, Step { published: true, ..step(0) });
         }
         assert_eq!((counts.missing(), counts.published()), (decided.as_flattened().to_vec(), 4));
-        for kind in QUORUM {
+        for kind in BY_GRID {
             for mark in [0, 1, 2] {
-                counts.add(&calls()[kind], Step { decided: Some(mark), ..step(6) });
+                counts.add(&calls()[kind], Step { decided: Some(mark), ..step(0) });
             }
         }
-        assert_eq!((counts.missing(), counts.decided()), (vec![], 9));
+        assert_eq!((counts.missing(), counts.decided()), (vec![], 12));
         assert_eq!(counts.impossible(), ["found 1", "chart 1"]);
     }
 
     #[test]
     fn no_other_answer_may_come() {
         let mut counts = Counts::default();
-        for (call, answer) in calls().iter().zip([13, 14, 15, 8, u32::MAX, 12, 6]) {
+        for (call, answer) in calls().iter().zip([13, 14, 15, 8, u32::MAX, 12, 6, 3]) {
             counts.add(call, step(answer));
         }
-        let others = ["found 13", "read 14", "write 15", "send 8", "check 4294967295", "join 12", "chart 6"];
+        let others = [
+            "found 13",
+            "read 14",
+            "write 15",
+            "send 8",
+            "check 4294967295",
+            "join 12",
+            "chart 6",
+            "choice 3",
+        ];
         assert_eq!(counts.impossible(), others);
     }
 

@@ -117,6 +117,15 @@ fn plainer(call: &Call) -> Vec<Call> {
                 vec![with(plain)]
             }
         }
+        Call::Choice { coordinator, kind, set } => {
+            let plain = vec![0xff; set.len()];
+            let with = |set| Call::Choice { coordinator: *coordinator, kind: *kind, set };
+            if plain == *set {
+                Vec::new()
+            } else {
+                vec![with(plain)]
+            }
+        }
         Call::Found { capacity, file_len, names, .. } => {
             vec![Call::Found { capacity: *capacity, file_len: *file_len, names: names.clone(), choice: 0 }]
         }

@@ -1,11 +1,12 @@
 //! One case, call by call: archive against reference, against the book, and against itself.
 
 use crate::archive::Archive;
-use crate::call::{result_shown, Answer, Call};
+use crate::call::{result_shown, set_shown, Answer, Call};
 use crate::guard::Edge;
 use crate::ledger::Ledger;
 use crate::random::Random;
-use crate::report::{Ground, Step};
+use crate::relay::{Relay, Slip};
+use crate::report::{choice_told, Ground, Step};
 use crate::tables::{self, Picture};
 use reference::{rows, Engine, Grid, Laid, Layout, Quorum, Rules, Shape, Table, HEADER, TALL};
 
@@ -31,11 +32,14 @@ pub struct Trial<'a> {
     reference: Engine,
     table: Vec<u8>,
     ledger: Ledger,
+    /// Makes every call of a founded history a second time.
+    relay: Option<Relay>,
+    slip: Option<Slip>,
 }
 
 /// Makes all calls of a case again.
-pub fn replay(archive: &mut Archive, reference: Engine, case: &Case) -> Option<Failure> {
-    let mut trial = Trial::new(archive, reference, case);
+pub fn replay(archive: &mut Archive, reference: Engine, slip: Option<Slip>, case: &Case) -> Option<Failure> {
+    let mut trial = Trial::new(archive, reference, case).slipping(slip);
     case.calls
         .iter()
         .enumerate()
@@ -50,7 +54,12 @@ impl<'a> Trial<'a> {
 
     /// Goes on where a history stopped.
     pub fn resume(archive: &'a mut Archive, reference: Engine, table: Vec<u8>, ledger: Ledger) -> Trial<'a> {
-        Trial { archive, reference, table, ledger }
+        Trial { archive, reference, table, ledger, relay: None, slip: None }
+    }
+
+    /// Lets the relay make a mistake.
+    pub fn slipping(self, slip: Option<Slip>) -> Trial<'a> {
+        Trial { slip, ..self }
     }
 
     pub fn table(&self) -> &[u8] {
@@ -68,11 +77,15 @@ impl<'a> Trial<'a> {
         let before = self.table.clone();
         let judged = Picture::of(&before);
         let ground = Ground::of(judged.as_ref());
+        if self.ledger.is_open() && self.relay.is_none() {
+            self.relay = Some(Relay::open(&before, self.slip)?);
+        }
         let answer = self.archive.call(&mut self.table, call)?;
         self.refer(self.reference, call, &answer, &before)?;
         let published = self.ask_published(call, &answer, &before, ground)?;
         frame(call, &answer, &before, &self.table)?;
         called_frame(call, &answer, judged.as_ref())?;
+        let chosen = choice_frame(call, &answer, judged.as_ref())?;
         let (decided, twin_of) = match &judged {
             Some(table) => {
                 (deciding_mark(call, &answer, table), self.ask_twin(call, &answer, &before, table)?)
@@ -83,10 +96,18 @@ impl<'a> Trial<'a> {
         if self.ledger.is_open() && Table::decode(&self.table).is_none() {
             return Err("a founded history leaves a malformed table".into());
         }
+        let relayed = self.relay.is_some();
+        if let Some(relay) = &mut self.relay {
+            relay.call(self.archive, call, &answer, &self.table)?;
+        }
         let called = (answer.called.len() == 1).then(|| answer.called[0]);
-        let lent = call.called().map(<[u8]>::len);
+        let lent = match call {
+            Call::Choice { set, .. } => Some(set.len()),
+            _ => call.called().map(<[u8]>::len),
+        };
         let stayed = judged.as_ref().and_then(|table| stayed(call, called?, table));
-        Ok(Step { result: answer.result, ground, twin_of, published, decided, lent, called, stayed })
+        let result = answer.result;
+        Ok(Step { result, ground, twin_of, published, decided, lent, called, stayed, chosen, relayed })
     }
 
     /// Compares what the archive gave and left with what the engine gives and leaves.
@@ -117,7 +138,8 @@ impl<'a> Trial<'a> {
     }
 
     /// Rows that did not answer have no part in a call beyond names and links: another table that differs in them gives
-    /// the same. Nobody answers a joining. Gives the used rows, if there is such a table; a chart has none.
+    /// the same. Nobody answers a joining, and a choice looks at the row of its coordinator alone. Gives the used rows, if there
+    /// is such a table; a chart has none.
     fn ask_twin(
         &mut self,
         call: &Call,
@@ -126,10 +148,9 @@ impl<'a> Trial<'a> {
         table: &Table,
     ) -> Result<Option<usize>, String> {
         const LONGEST: usize = 6_000;
-        let answering = call.answering().unwrap_or(0);
+        let Some(answering) = call.seen() else { return Ok(None) };
         let none_differs = table.all_used() & !answering == 0;
-        let asked = !matches!(call, Call::Found { .. } | Call::Chart { .. });
-        if !asked || before.len() > LONGEST || none_differs {
+        if before.len() > LONGEST || none_differs {
             return Ok(None);
         }
         let mut random = Random::new(answering, answer.result ^ before.len() as u64);
@@ -155,23 +176,36 @@ impl<'a> Trial<'a> {
     }
 }
 
-/// The mark of the list in force among the rows that answered, if its other grid would have answered question 6 otherwise: of
-/// a list of five in a wide table the other grid of five, of a tall one the grid that it would have in a wide table.
+/// The mark of the list in force among the rows that answered, if its other grid would have answered question 6 otherwise; and
+/// that of the coordinator's own list, if its other grid would have given another choice.
 fn deciding_mark(call: &Call, answer: &Answer, table: &Picture) -> Option<u8> {
     let (answering, quorum) = match *call {
         Call::Read { answering, .. } => (answering, Quorum::Read),
         Call::Write { answering, .. } | Call::Check { answering, .. } => (answering, Quorum::Write),
-        Call::Found { .. } | Call::Send { .. } | Call::Join { .. } | Call::Chart { .. } => return None,
-    };
-    let list = table.newest(answering);
-    let other = match list.mark {
-        _ if !matches!(answer.result >> 32, 0 | 6..=8) => return None,
-        TALL => Rules::Newest.lay(Shape::Wide, list.members),
-        mark if list.members.count_ones() == 5 => Laid { mark: 1 - mark, ..list },
+        Call::Choice { coordinator, kind, .. } if answer.result >> 32 == 0 => {
+            let own = table.row(coordinator as usize);
+            let quorum = Quorum::of_kind(kind)?;
+            let choice = |list| Layout::of(list, &table.chain).choice(quorum, own.name);
+            return (choice(own.list) != choice(other_grid(own.list)?)).then_some(own.list.mark);
+        }
         _ => return None,
     };
-    let [own, other] = [list, other].map(|list| Layout::of(list, &table.chain).holds(quorum, answering));
-    (own != other).then_some(list.mark)
+    if !matches!(answer.result >> 32, 0 | 6..=8) {
+        return None;
+    }
+    let list = table.newest(answering);
+    let holds = |list| Layout::of(list, &table.chain).holds(quorum, answering);
+    (holds(list) != holds(other_grid(list)?)).then_some(list.mark)
+}
+
+/// The list in its other grid, if there is one: five of a wide table in the other grid of five, a tall list in the grid that it
+/// would have in a wide table.
+fn other_grid(list: Laid) -> Option<Laid> {
+    match list.mark {
+        TALL => Some(Rules::Newest.lay(Shape::Wide, list.members)),
+        mark if list.members.count_ones() == 5 => Some(Laid { mark: 1 - mark, ..list }),
+        _ => None,
+    }
 }
 
 fn compare(answer: &Answer, table: &[u8], expected: &Answer, expected_table: &[u8]) -> Result<(), String> {
@@ -208,6 +242,10 @@ fn frame(call: &Call, answer: &Answer, before: &[u8], after: &[u8]) -> Result<()
             return Err("a chart altered the table".into());
         }
         return chart_frame(*length, list, answer);
+    } else if let Call::Choice { .. } = call {
+        if before != after {
+            return Err("a choice altered the table".into());
+        }
     } else if let Call::Join { name } = *call {
         return joining_frame(name, answer.result, before, after);
     } else if let (Some(answering), true) = (call.answering(), before != after) {
@@ -273,6 +311,35 @@ fn called_frame(call: &Call, answer: &Answer, table: Option<&Picture>) -> Result
     } else {
         Err(format!("{called} machines called by a call with {}", result_shown(answer.result)))
     }
+}
+
+/// A done choice tells a quorum of the coordinator's own list, of members of that list and of no more than the grid has rows
+/// and columns, less one (a read's: as many as it has columns), or no row if that list is empty; its value is how many. Gives
+/// its place in `CHOICES`.
+fn choice_frame(call: &Call, answer: &Answer, table: Option<&Picture>) -> Result<Option<usize>, String> {
+    let Call::Choice { coordinator, kind, .. } = *call else { return Ok(None) };
+    if answer.result >> 32 != 0 {
+        return Ok(None);
+    }
+    let table = table.ok_or("a choice on a malformed table was done")?;
+    let own = (coordinator as usize).checked_sub(1).and_then(|place| table.rows.get(place));
+    let own = own.ok_or("the choice of no row was done")?;
+    let quorum = Quorum::of_kind(kind).ok_or("a choice of another kind was done")?;
+    let told =
+        <[u8; 8]>::try_from(&answer.buffer[..]).map_err(|_| "a set of other than eight bytes was told")?;
+    let set = u64::from_le_bytes(told);
+    let layout = Layout::of(own.list, &table.chain);
+    let Grid { rows, columns, .. } = layout.grid;
+    let size = set.count_ones() as usize;
+    let fits = match quorum {
+        _ if own.list.is_empty() => set == 0,
+        Quorum::Read => layout.holds(quorum, set) && size == columns,
+        Quorum::Write => layout.holds(quorum, set) && size < rows + columns,
+    };
+    if !fits || set & !own.list.members != 0 || answer.result != size as u64 {
+        return Err(format!("{} is no choice, with {}", set_shown(set), result_shown(answer.result)));
+    }
+    Ok(Some(choice_told(quorum, (!own.list.is_empty()).then_some(own.list.mark))))
 }
 
 /// A done chart lists rising sets of its members from the first place on; every other byte of the list stays.
@@ -371,6 +438,35 @@ mod tests {
         assert!(frame(0, &[9; 7]).is_err() && frame(4, &[9; 7]).is_err());
         assert_eq!(frame(17 << 32, &[9; 7]), Ok(()));
         assert!(frame(17 << 32 | 1, &[9; 7]).is_err() && frame(5 << 32, &[0; 7]).is_err());
+    }
+
+    /// Four machines, columns {1, 3} and {2, 4}; row 5 has no list.
+    #[test]
+    fn a_wrong_choice_is_found_out() {
+        let mut bytes = vec![0; Table::length(5, 1)];
+        Engine::default().found(&mut bytes, 5, 1, &tables::names_in_bytes(&[10, 20, 30, 40]), 0);
+        Engine::default().join(&mut bytes, 50);
+        let table = Picture::of(&bytes);
+        let told = |coordinator, kind, result, set: u64| {
+            let answer = Answer { result, buffer: set.to_le_bytes().to_vec(), called: Vec::new() };
+            choice_frame(&Call::Choice { coordinator, kind, set: vec![9; 8] }, &answer, table.as_ref()).ok()
+        };
+        assert_eq!((told(1, 0, 2, 0b0011), told(1, 1, 3, 0b0111)), (Some(Some(0)), Some(Some(4))));
+        assert_eq!([0, 1].map(|kind| told(5, kind, 0, 0)), [Some(Some(3)), Some(Some(7))]);
+        // No quorum, too many, an outsider, a wrong value; a row, a kind and a list that are none.
+        let wrong = [(2, 0b0101), (3, 0b0111), (3, 0b1_0011), (3, 0b0011), (0, 0)];
+        assert!(wrong.into_iter().all(|(value, set)| told(1, 0, value, set).is_none()));
+        assert!([(4, 0b1111), (2, 0b0011)].into_iter().all(|(value, set)| told(1, 1, value, set).is_none()));
+        assert!([0, 6, (1 << 32) + 1].into_iter().all(|row| told(row, 0, 2, 0b0011).is_none()));
+        assert!(told(1, 2, 2, 0b0011).is_none() && told(5, 0, 5, 0b1_1111).is_none());
+        assert_eq!(told(6, 2, 2 << 32, 9), Some(None), "refused");
+        // A refused one leaves the list, and no choice alters the table.
+        let call = Call::Choice { coordinator: 1, kind: 0, set: vec![9; 8] };
+        let frame = |result, set: u8, after: u8| {
+            frame(&call, &Answer { result, buffer: vec![set; 8], called: Vec::new() }, &[1], &[after]).is_ok()
+        };
+        assert_eq!([frame(5 << 32, 9, 1), frame(5 << 32, 0, 1), frame(2, 0, 1)], [true, false, true]);
+        assert_eq!([frame(5 << 32, 9, 0), frame(2, 0, 0), frame(5 << 32 | 1, 9, 1)], [false; 3]);
     }
 
     /// Four machines, columns {1, 3} and {2, 4}: a write's choice has three of them, a read's two.

@@ -1,85 +1,94 @@
-//! Machines that each hold their own row: a relay gathers the rows that answer, makes a call on them, and ships the
-//! rows that changed. Four are founded, and a fifth joins. Run with `cargo run --example relay`.
+//! Machines that each hold their own row: a relay asks whom to call, gathers the rows that answer, makes a call on them, and
+//! ships the rows that changed. Four are founded, and a fifth joins. Run with `cargo run --example relay`.
 
-use dyngrid::{Done, Refusal, Rows, Shape, Table};
+use dyngrid::{Done, Kind, Refusal, Rows, Shape, Table};
 
 const FILE_LEN: usize = 16;
-/// Bytes of a row, and of the header before the rows.
-const ROW: usize = 32 + FILE_LEN;
-const HEADER: usize = 16;
-/// A row begins with its name and link.
-const NAME_AND_LINK: usize = 3;
 
 struct Relay {
     /// Header, names and links, which all calls must agree on. The relay keeps them: a joining alters the link of a
     /// machine that may be away.
-    roster: Table,
+    frame: Table,
     /// What each machine holds: row i at place i - 1.
     machines: Vec<Vec<u8>>,
 }
 
 impl Relay {
     fn found(capacity: usize, names: &[u16]) -> Result<Relay, Refusal> {
-        let roster = Table::found(capacity, FILE_LEN, names, Shape::Wide)?;
-        let machines = roster.rows().iter().filter_map(|row| roster.row(row)).map(<[u8]>::to_vec).collect();
-        Ok(Relay { roster, machines })
+        let table = Table::found(capacity, FILE_LEN, names, Shape::Wide)?;
+        let rows = table.rows().iter().filter_map(|row| table.row_bytes(row));
+        Ok(Relay { frame: table.frame(), machines: rows.map(<[u8]>::to_vec).collect() })
     }
 
     /// A machine joins: nobody is asked, and it begins with its row as the joining made it.
     fn join(&mut self, name: u16) -> Result<usize, Refusal> {
-        let row = self.roster.join(name)?;
-        self.machines.extend(self.roster.row(row).map(<[u8]>::to_vec));
+        let row = self.frame.join(name)?;
+        self.machines.extend(self.frame.row_bytes(row).map(<[u8]>::to_vec));
         println!("machine {name} joins as row {row}");
         Ok(row)
     }
 
-    /// The table of a call: the rows that answered. The others stand there as they began, and count by name and link only.
+    /// The table of a call: the rows that answered. The others count by name and link only.
     fn gather(&self, answering: Rows) -> Result<Table, Refusal> {
-        let mut bytes = self.roster.as_bytes().to_vec();
-        for row in answering {
-            let place = HEADER + (row - 1) * ROW..HEADER + row * ROW;
-            bytes[place][NAME_AND_LINK..].copy_from_slice(&self.machines[row - 1][NAME_AND_LINK..]);
+        Ok(Table::assemble(&self.frame, answering.iter().map(|row| (row, &self.machines[row - 1])))?)
+    }
+
+    /// Calls the machines of its choice first, and then all. Of those called the machines that are up answer, itself
+    /// among them.
+    fn call_few<T>(
+        &mut self,
+        by: usize,
+        kind: Kind,
+        up: Rows,
+        mut call: impl FnMut(&mut Table, Rows) -> Result<T, Refusal>,
+    ) -> Result<T, Refusal> {
+        let own = Rows::of(&[by])?;
+        let few = (self.gather(own)?.choice(by, kind)? | own) & up;
+        match self.call(few, |table| call(table, few)) {
+            Err(Refusal::NoQuorum | Refusal::NotCurrent) => self.call(up, |table| call(table, up)),
+            answer => answer,
         }
-        Ok(Table::from_bytes(bytes)?)
     }
 
     /// Makes a call on the rows that answer, and ships the rows that it changed to their machines.
     /// A real relay locks the rows before, and sees to it that all machines store what they get, or none.
     fn call<T>(
         &mut self,
-        what: &str,
         answering: Rows,
         call: impl FnOnce(&mut Table) -> Result<T, Refusal>,
     ) -> Result<T, Refusal> {
         let before = self.gather(answering)?;
         let mut table = before.clone();
         let value = call(&mut table)?;
-        let changed: Rows = answering.iter().filter(|&row| table.row(row) != before.row(row)).collect();
+        let changed = table.changed(&before);
         for row in changed {
-            self.machines[row - 1].copy_from_slice(&table.as_bytes()[HEADER + (row - 1) * ROW..][..ROW]);
+            self.machines[row - 1] = table.row_bytes(row).unwrap_or_default().to_vec();
         }
-        println!("{what}, {answering} answer: rows {changed} change");
+        println!("rows {answering} answer, rows {changed} change");
         Ok(value)
     }
 
-    fn write(&mut self, by: usize, answering: Rows, score: &[u8]) -> Result<Done, Refusal> {
-        self.call(&format!("write by row {by}"), answering, |table| Ok(table.write(by, answering, 0, score)?))
+    fn write(&mut self, by: usize, up: Rows, score: &[u8]) -> Result<Done, Refusal> {
+        print!("write by row {by}: ");
+        self.call_few(by, Kind::Write, up, |table, answering| Ok(table.write(by, answering, 0, score)?))
     }
 
-    fn read(&mut self, by: usize, answering: Rows) -> Result<[u8; 3], Refusal> {
+    fn read(&mut self, by: usize, up: Rows) -> Result<[u8; 3], Refusal> {
         let mut score = [0; 3];
-        let read = |table: &mut Table| Ok(table.read(by, answering, 0, &mut score)?);
-        self.call(&format!("read by row {by}"), answering, read)?;
+        print!("read by row {by}: ");
+        self.call_few(by, Kind::Read, up, |table, answering| Ok(table.read(by, answering, 0, &mut score)?))?;
         Ok(score)
     }
 
     fn send(&mut self, from: usize, to: usize) -> Result<u32, Refusal> {
         let ends = Rows::of(&[from, to])?;
-        self.call(&format!("send from row {from} to row {to}"), ends, |table| table.send(from, to, ends))
+        print!("send from row {from} to row {to}: ");
+        self.call(ends, |table| table.send(from, to, ends))
     }
 
-    fn check(&mut self, by: usize, answering: Rows) -> Result<u32, Refusal> {
-        self.call(&format!("check by row {by}"), answering, |table| table.check(by, answering))
+    fn check(&mut self, by: usize, up: Rows) -> Result<u32, Refusal> {
+        print!("check by row {by}: ");
+        self.call(up, |table| table.check(by, up))
     }
 
     /// Is the row marked as stale on its machine?

@@ -17,15 +17,19 @@
 
 #![deny(missing_docs)]
 
+mod assembled;
 mod called;
 mod chart;
+mod choice;
 pub mod raw;
 mod refusal;
 mod rows;
 mod table;
 
+pub use assembled::NotAssembled;
 pub use called::{Done, Refused};
 pub use chart::chart;
+pub use choice::Kind;
 pub use refusal::Refusal;
 pub use rows::{Rows, RowsIter};
 pub use table::{NotATable, Shape, Table};

@@ -1,8 +1,8 @@
 //! The functions of the archive as `dyngrid.h` declares them.
 //!
 //! A list is a pointer and then its length in bytes. A result is the refusal number times 2^32, plus the value.
-//! The slices of one call must not overlap. Reads of one table may run at the same time, each with its own buffer;
-//! while any other call runs on a table, nothing else may touch it.
+//! The slices of one call must not overlap. Reads and choices of one table may run at the same time, each with its own
+//! buffer or list; while any other call runs on a table, nothing else may touch it.
 //!
 //! Who calls these functions calls [`assert_interface`] before the first of them. A [`Table`](crate::Table) does it by itself,
 //! and so does [`chart`](crate::chart()).
@@ -11,12 +11,17 @@ use std::sync::OnceLock;
 
 /// Rises with every signature below that is new or changed, as in the archive, and with nothing else: a table tells its form
 /// itself.
-pub const INTERFACE: u64 = 5;
+pub const INTERFACE: u64 = 6;
 
 /// The choices of a founding: a wide table, or a tall one.
 pub const WIDE: u64 = 0;
 /// See [`WIDE`].
 pub const TALL: u64 = 1;
+
+/// The kinds of calls that have a choice: a read, or a write.
+pub const READ: u64 = 0;
+/// See [`READ`].
+pub const WRITE: u64 = 1;
 
 /// Panics unless the archive has the signatures that are declared here. The archive is asked once.
 pub fn assert_interface() {
@@ -86,6 +91,17 @@ extern "C" {
 
     /// Lists the smallest write quorums of a list of so many members with this grid mark. Value: how many.
     pub fn grid_chart(length: u64, mark: u64, list: *mut u8, list_len: usize) -> u64;
+
+    /// Tells in eight bytes the set that the coordinator calls first; the kind is [`READ`] or [`WRITE`]. Value: how many rows
+    /// it has.
+    pub fn grid_choice(
+        table: *const u8,
+        table_len: usize,
+        coordinator: u64,
+        kind: u64,
+        set: *mut u8,
+        set_len: usize,
+    ) -> u64;
 }
 
 #[cfg(test)]
@@ -99,7 +115,7 @@ mod tests {
 
     #[test]
     #[should_panic(
-        expected = "has interface 7, and this wrapper needs 5: build archive and wrapper from one checkout"
+        expected = "has interface 7, and this wrapper needs 6: build archive and wrapper from one checkout"
     )]
     fn another_archive_is_refused() {
         agree(7);

@@ -13,10 +13,10 @@ pub enum Refusal {
     NoSuchRow,
     /// 3: the coordinator, or an end of a send, did not answer.
     NotAnswering,
-    /// 4: the range is empty or ends beyond the file.
+    /// 4: the range is empty or ends beyond the file; in C also a choice that is neither a read's nor a write's.
     OutOfRange,
-    /// 5: the buffer is not exactly as long as the range, the list for the number called not one byte, or a chart's list
-    /// shorter than 128 bytes. From this wrapper it never comes.
+    /// 5: the buffer is not exactly as long as the range, the list for the number called not one byte, a choice's list not
+    /// eight, or a chart's shorter than 128. From this wrapper it never comes.
     WrongBuffer,
     /// 6: the rows that answered hold no quorum.
     NoQuorum,
@@ -98,10 +98,13 @@ impl Refusal {
             }
             Refusal::NoSuchRow => "a row is not in use, or a send names one row twice: name rows from 1 to the rows used",
             Refusal::NotAnswering => "the coordinator, or an end of a send, is not among the rows that answered: add it",
-            Refusal::OutOfRange => "the range is empty or ends beyond the file: name at least one byte, all inside the file",
+            Refusal::OutOfRange => {
+                "the range is empty or ends beyond the file: name at least one byte, all inside the file (for a choice: the \
+                 kind 0, a read, or 1, a write)"
+            }
             Refusal::WrongBuffer => {
                 "the buffer is not as long as the range: lend one of exactly that length (for the number called: one byte; \
-                 to a chart: at least 128)"
+                 to a choice: eight; to a chart: at least 128)"
             }
             Refusal::NoQuorum => "the rows that answered hold no quorum: try again when more of them answer",
             Refusal::NotCurrent => "no row that answered has the newest version: try again with a row that has it",

@@ -1,13 +1,17 @@
 use crate::called::answer;
 use crate::refusal::split;
-use crate::{raw, Done, Refusal, Refused, Rows};
+use crate::{raw, Done, NotAssembled, Refusal, Refused, Rows};
 use std::error::Error;
 use std::fmt;
+use std::ops::Range;
 
 /// The form of a table, in its first byte.
 const FORM: u8 = 2;
 const HEADER: usize = 16;
 const ROW_HEADER: usize = 32;
+/// A row begins with its name, and then its link.
+const NAME: usize = 2;
+const NAME_AND_LINK: usize = 3;
 
 /// How the lists of a table are laid; chosen at its founding, for good.
 #[derive(Clone, Copy, Debug, PartialEq, Eq, Hash)]
@@ -26,8 +30,8 @@ pub enum Shape {
 /// Its length always agrees with its header, and no buffer, patch or list of names can overlap it. Rows have the
 /// numbers 1 to [`Table::used`].
 ///
-/// Reads of one table may run at the same time, also from several threads: a read takes the table by shared reference
-/// and alters nothing of it, and the library keeps no state of its own. Every other call has the table to itself.
+/// Reads and choices of one table may run at the same time, also from several threads: they take the table by shared reference
+/// and alter nothing of it, and the library keeps no state of its own. Every other call has the table to itself.
 #[derive(Clone, PartialEq, Eq)]
 pub struct Table {
     bytes: Vec<u8>,
@@ -120,9 +124,87 @@ impl Table {
     }
 
     /// The bytes of a row, which are what its machine holds; none if the row is not in use.
-    pub fn row(&self, row: usize) -> Option<&[u8]> {
+    pub fn row_bytes(&self, row: usize) -> Option<&[u8]> {
+        self.bytes.get(self.place(row)?)
+    }
+
+    /// Where a row lies in the table, if it is in use.
+    fn place(&self, row: usize) -> Option<Range<usize>> {
         let stride = ROW_HEADER + self.file_len();
-        self.rows().contains(row).then(|| &self.bytes[HEADER + (row - 1) * stride..][..stride])
+        self.rows().contains(row).then(|| HEADER + (row - 1) * stride..HEADER + row * stride)
+    }
+
+    /// What a relay keeps, the same for every call: header, names and links. It is a table in which each used row is zero
+    /// otherwise, its list empty; a machine joins by [`Table::join`] on it.
+    pub fn frame(&self) -> Table {
+        let mut frame = Table { bytes: vec![0; self.bytes.len()] };
+        frame.bytes[..HEADER].copy_from_slice(&self.bytes[..HEADER]);
+        for place in self.rows().iter().filter_map(|row| self.place(row)) {
+            let name_and_link = place.start..place.start + NAME_AND_LINK;
+            frame.bytes[name_and_link.clone()].copy_from_slice(&self.bytes[name_and_link]);
+        }
+        frame
+    }
+
+    /// Puts the table of a call together from a [frame](Table::frame) and the rows of the machines that answered, each with its
+    /// number and the bytes that its machine holds. Of the frame only header, names and links count; each other used row is
+    /// zero otherwise.
+    ///
+    /// Every read, write, send and check by these rows answers as on the table of all rows, and leaves these rows as it would
+    /// there; so does the [choice](Table::choice) of one of them. What is then to be shipped, [`Table::changed`] says. The
+    /// link of a row is the frame's: a joining may have altered it while the machine was away.
+    ///
+    /// ```
+    /// use dyngrid::{Rows, Shape, Table};
+    ///
+    /// # fn main() -> Result<(), Box<dyn std::error::Error>> {
+    /// let founded = Table::found(4, 16, &[10, 20, 30, 40], Shape::Wide)?;
+    /// let frame = founded.frame();
+    /// let mut machines: Vec<Vec<u8>> = founded.rows().iter().filter_map(|row| Some(founded.row_bytes(row)?.to_vec())).collect();
+    ///
+    /// // Machines 10, 20 and 30 answer.
+    /// let answering = Rows::first(3);
+    /// let before = Table::assemble(&frame, answering.iter().map(|row| (row, &machines[row - 1])))?;
+    /// let mut table = before.clone();
+    /// table.write(1, answering, 0, b"1-0")?;
+    /// for row in table.changed(&before) {
+    ///     machines[row - 1] = table.row_bytes(row).ok_or("in use")?.to_vec();
+    /// }
+    /// assert!(machines[2][32..].starts_with(b"1-0"));
+    /// # Ok(())
+    /// # }
+    /// ```
+    pub fn assemble<B: AsRef<[u8]>>(
+        frame: &Table,
+        answered: impl IntoIterator<Item = (usize, B)>,
+    ) -> Result<Table, NotAssembled> {
+        let mut table = frame.frame();
+        let mut laid = Rows::EMPTY;
+        for (row, bytes) in answered {
+            let bytes = bytes.as_ref();
+            let place = table.place(row).ok_or(NotAssembled::NoSuchRow { row })?;
+            let one = Rows::from_bits(1 << (row - 1));
+            if one.is_subset(laid) {
+                return Err(NotAssembled::Twice { row });
+            }
+            laid |= one;
+            if bytes.len() != place.len() {
+                return Err(NotAssembled::WrongLength { row, length: bytes.len() });
+            }
+            let place = &mut table.bytes[place];
+            if place[..NAME] != bytes[..NAME] {
+                return Err(NotAssembled::OtherName { row, name: u16::from_le_bytes([bytes[0], bytes[1]]) });
+            }
+            place[NAME_AND_LINK..].copy_from_slice(&bytes[NAME_AND_LINK..]);
+        }
+        Ok(Table::from_bytes(table.bytes)?)
+    }
+
+    /// The rows that are to be shipped to their machines after a call: those whose bytes are others than in the table before
+    /// it, or that were not in use there.
+    pub fn changed(&self, before: &Table) -> Rows {
+        let differs = |&row: &usize| self.row_bytes(row) != before.row_bytes(row);
+        (self.rows() | before.rows()).iter().filter(differs).collect()
     }
 
     /// The bytes of the whole table.

@@ -1,6 +1,6 @@
 //! The wrapper keeps its promises: nothing panics, refusals have the right number, tables keep their length.
 
-use dyngrid::{chart, Done, Refusal, Refused, Rows, Shape, Table};
+use dyngrid::{chart, Done, Kind, NotAssembled, Refusal, Refused, Rows, Shape, Table};
 
 /// The version, or the refusal, of a read or write.
 fn version_of(answer: Result<Done, Refused>) -> Result<u32, Refusal> {
@@ -76,7 +76,7 @@ fn a_table_of_form_1_is_told_and_taken_over() {
 #[test]
 fn five_bear_the_loss_of_any_one() {
     let five = Table::found(5, 4, &[1, 2, 3, 4, 5], Shape::Wide).expect("a plain founding");
-    assert!(five.rows().iter().all(|row| five.row(row).is_some_and(|row| row[24] == 1)));
+    assert!(five.rows().iter().all(|row| five.row_bytes(row).is_some_and(|row| row[24] == 1)));
     for lost in five.rows() {
         let left = five.rows() - Rows::of(&[lost]).expect("a row");
         let by = left.iter().next().expect("four rows");
@@ -84,7 +84,7 @@ fn five_bear_the_loss_of_any_one() {
         assert_eq!(version_of(table.read(by, left, 0, &mut [0; 3])), Ok(0));
         assert_eq!(version_of(table.write(by, left, 0, b"1-0")), Ok(1));
         assert_eq!(table.check(by, left), Ok(1));
-        assert!(left.iter().all(|row| table.row(row).is_some_and(|row| row[24] == 0)));
+        assert!(left.iter().all(|row| table.row_bytes(row).is_some_and(|row| row[24] == 0)));
     }
 }
 
@@ -93,7 +93,7 @@ fn five_bear_the_loss_of_any_one() {
 #[test]
 fn a_tall_table_stays_tall() {
     let marks = |table: &Table| -> Vec<u8> {
-        table.rows().iter().filter_map(|row| table.row(row)).map(|row| row[24]).collect()
+        table.rows().iter().filter_map(|row| table.row_bytes(row)).map(|row| row[24]).collect()
     };
     let mut table = Table::found(6, 4, &[10, 20], Shape::Tall).expect("a plain founding");
     let mut got = [0; 3];
@@ -142,7 +142,7 @@ fn a_chart_says_who_can_write() {
     for (machines, shape) in (1..=9).flat_map(|machines| [(machines, Shape::Wide), (machines, Shape::Tall)]) {
         let names: Vec<u16> = (1..=machines as u16).map(|rank| 7 * rank).collect();
         let founded = Table::found(machines, 1, &names, shape).expect("a plain founding");
-        let mark = founded.row(1).expect("in use")[24];
+        let mark = founded.row_bytes(1).expect("in use")[24];
         let quorums = chart(machines, mark).expect("a chart of each length");
         for bits in 1..1 << machines {
             let answering = Rows::from_bits(bits);
@@ -156,6 +156,66 @@ fn a_chart_says_who_can_write() {
             );
         }
     }
+}
+
+/// On tables of 1 to 64 machines, wide and tall, for every coordinator: those chosen and the coordinator are enough, nobody else
+/// is called, and a write alters rows of the choice only; without one of a read's choice all are called.
+#[test]
+fn the_choice_and_the_coordinator_are_enough() {
+    for (machines, shape) in (1..=64).flat_map(|machines| [(machines, Shape::Wide), (machines, Shape::Tall)])
+    {
+        let names: Vec<u16> = (1..=machines as u16).map(|rank| 3 * rank + rank % 2).collect();
+        let founded = Table::found(machines, 1, &names, shape).expect("a plain founding");
+        for by in founded.rows() {
+            let own = Rows::from_bits(1 << (by - 1));
+            let [read, write] =
+                [Kind::Read, Kind::Write].map(|kind| founded.choice(by, kind).expect("in use"));
+            assert!(!read.is_empty() && read.is_subset(write) && write.is_subset(founded.rows()));
+            let answer = founded.read(by, read | own, 0, &mut [0]);
+            assert_eq!(answer, Ok(Done { version: 0, called: read.len() }));
+            let mut written = founded.clone();
+            let answer = written.write(by, write | own, 0, &[1]);
+            assert_eq!(answer, Ok(Done { version: 1, called: write.len() }));
+            let altered: Rows = founded
+                .rows()
+                .iter()
+                .filter(|&row| founded.row_bytes(row) != written.row_bytes(row))
+                .collect();
+            assert_eq!(altered, write);
+            let away = Rows::from_bits(1 << (read.iter().find(|&row| row != by).unwrap_or(by) - 1));
+            if away != own && read != founded.rows() {
+                let answer = founded.read(by, founded.rows() - away, 0, &mut [0]);
+                assert!(matches!(
+                    answer,
+                    Ok(Done { called, .. }) | Err(Refused { called, .. }) if called == machines
+                ));
+            }
+        }
+        assert_eq!(founded.choice(0, Kind::Read), Err(Refusal::NoSuchRow));
+        assert_eq!(founded.choice(machines + 1, Kind::Write), Err(Refusal::NoSuchRow));
+    }
+}
+
+/// A row that joined has none until a check takes it in; one that missed a check has that of its old list.
+#[test]
+fn choices_over_the_own_list() {
+    let mut table = Table::found(5, 4, &[10, 20, 30, 40], Shape::Wide).expect("a plain founding");
+    let rows = |rows: &[usize]| Rows::of(rows).expect("rows");
+    assert_eq!(
+        (1..=4).map(|by| table.choice(by, Kind::Write)).collect::<Vec<_>>(),
+        [Ok(rows(&[1, 2, 3])); 4]
+    );
+    assert_eq!(table.join(15), Ok(5));
+    assert_eq!([Kind::Read, Kind::Write].map(|kind| table.choice(5, kind)), [Ok(Rows::EMPTY); 2]);
+    assert_eq!(table.check(1, rows(&[1, 2, 4])), Ok(1));
+    assert_eq!(
+        [1, 2, 3, 4].map(|by| table.choice(by, Kind::Write)),
+        [&[1, 2, 4], &[1, 2, 4], &[1, 2, 3], &[1, 2, 4]].map(|set| Ok(rows(set)))
+    );
+    assert_eq!(table.check(5, rows(&[1, 2, 3, 4, 5])), Ok(2));
+    // In name order 1, 5, 2, 3, 4: columns {1, 2, 4} and {5, 3}; by 15 the first row and the whole second column.
+    assert_eq!(table.choice(5, Kind::Read), Ok(rows(&[1, 3])));
+    assert_eq!(table.choice(5, Kind::Write), Ok(rows(&[1, 3, 5])));
 }
 
 /// Its third machine is a column by itself, until two checks that it answers have laid the five anew.
@@ -179,11 +239,104 @@ fn five_taken_over_keep_their_grid_until_they_are_laid_anew() {
 fn a_row_is_what_its_machine_holds() {
     let mut table = four();
     table.write(1, Rows::first(3), 1, b"ab").expect("a quorum answers");
-    assert_eq!(table.row(1).map(|row| (row.len(), &row[32..])), Some((36, &b"\0ab\0"[..])));
+    assert_eq!(table.row_bytes(1).map(|row| (row.len(), &row[32..])), Some((36, &b"\0ab\0"[..])));
     let rows: Vec<u8> =
-        table.rows().iter().flat_map(|row| table.row(row).expect("in use").to_vec()).collect();
+        table.rows().iter().flat_map(|row| table.row_bytes(row).expect("in use").to_vec()).collect();
     assert_eq!(rows, table.as_bytes()[16..]);
-    assert_eq!((table.row(0), table.row(5)), (None, None));
+    assert_eq!((table.row_bytes(0), table.row_bytes(5)), (None, None));
+}
+
+/// With any rows it is the whole table, but that the others are zero behind name and link; a frame is what all of them share.
+#[test]
+fn a_table_is_assembled_from_the_rows_that_answered() {
+    let mut table = Table::found(6, 4, &[10, 20, 30, 40], Shape::Wide).expect("a plain founding");
+    table.write(1, Rows::of(&[1, 2, 4]).expect("rows"), 0, b"1-0").expect("a quorum answers");
+    table.join(25).expect("room");
+    table.check(1, Rows::of(&[1, 2, 3, 5]).expect("rows")).expect("a quorum answers");
+    for bits in 0..1 << table.used() {
+        let answering = Rows::from_bits(bits);
+        let rows = answering.iter().map(|row| (row, table.row_bytes(row).expect("in use")));
+        let assembled = Table::assemble(&table.frame(), rows.clone()).expect("rows of one table");
+        assert_eq!(
+            Table::assemble(&table, rows),
+            Ok(assembled.clone()),
+            "only header, names and links count"
+        );
+        assert_eq!(assembled.as_bytes()[..16], table.as_bytes()[..16]);
+        for row in table.rows() {
+            let [whole, part] = [&table, &assembled].map(|table| table.row_bytes(row).expect("in use"));
+            if answering.contains(row) {
+                assert_eq!(whole, part);
+            } else {
+                assert_eq!((&part[..3], &part[3..]), (&whole[..3], &[0; 33][..]));
+            }
+        }
+        assert_eq!(assembled.as_bytes()[16 + 36 * table.used()..], [0; 36]);
+        assert_eq!(assembled.frame(), table.frame());
+    }
+    // Row 2 was before row 3 until row 5 joined between them: the frame's link counts.
+    let mut away = table.row_bytes(2).expect("in use").to_vec();
+    assert_eq!(away[2], 5);
+    away[2] = 3;
+    let assembled = Table::assemble(&table.frame(), [(2, away)]).expect("an old link");
+    assert_eq!(assembled.row_bytes(2), table.row_bytes(2));
+}
+
+#[test]
+fn rows_that_do_not_fit_are_told() {
+    let (table, other) = (four(), Table::found(4, 4, &[1, 2, 3, 9], Shape::Wide).expect("a plain founding"));
+    let row = |row: usize| (row, table.row_bytes(row).expect("in use").to_vec());
+    let assemble = |rows: Vec<(usize, Vec<u8>)>| Table::assemble(&table.frame(), rows);
+    for row in [0, 5, 64, 65, usize::MAX] {
+        assert_eq!(assemble(vec![(row, Vec::new())]), Err(NotAssembled::NoSuchRow { row }));
+    }
+    assert_eq!(assemble(vec![row(1), row(2), row(1)]), Err(NotAssembled::Twice { row: 1 }));
+    for length in [0, 1, 2, 35, 37] {
+        let bytes = vec![1; length];
+        assert_eq!(assemble(vec![row(2), (1, bytes)]), Err(NotAssembled::WrongLength { row: 1, length }));
+    }
+    let of_another = other.row_bytes(4).expect("in use").to_vec();
+    assert_eq!(assemble(vec![(4, of_another)]), Err(NotAssembled::OtherName { row: 4, name: 9 }));
+    // Two lists in one epoch.
+    let (one, mut two) = (row(1), row(2));
+    two.1[16] = 0b0011;
+    let refused = assemble(vec![one, two]).expect_err("two lists in one epoch");
+    assert!(matches!(&refused, NotAssembled::Malformed(error) if error.refusal() == Refusal::Malformed));
+    assert!(refused
+        .to_string()
+        .starts_with("the rows do not fit together: 160 bytes are no table: refused by 1"));
+    assert_eq!(Refusal::from(refused), Refusal::Malformed);
+    assert_eq!(Refusal::from(NotAssembled::NoSuchRow { row: 7 }), Refusal::NoSuchRow);
+    assert_eq!(assemble(Vec::new()), Ok(table.frame()));
+}
+
+#[test]
+fn changed_rows_are_to_be_shipped() {
+    let founded = Table::found(5, 4, &[10, 20, 30, 40], Shape::Wide).expect("a plain founding");
+    let rows = |rows: &[usize]| Rows::of(rows).expect("rows");
+    assert_eq!(
+        (founded.changed(&founded), founded.changed(&founded.frame())),
+        (Rows::EMPTY, rows(&[1, 2, 3, 4]))
+    );
+    let mut table = founded.clone();
+    // The choice of 10; then all that answered; then the row that a send brings up.
+    table.write(1, table.rows(), 0, b"1-0").expect("a quorum answers");
+    assert_eq!(table.changed(&founded), rows(&[1, 2, 3]));
+    let before = table.clone();
+    table.write(1, rows(&[1, 2, 4]), 0, b"1-0").expect("a quorum answers");
+    assert_eq!(table.changed(&before), rows(&[1, 2, 4]));
+    let before = table.clone();
+    table.send(1, 4, rows(&[1, 4])).expect("row 4 is stale");
+    assert_eq!(table.changed(&before), rows(&[4]));
+    assert_eq!(table.check(1, table.rows()), Ok(0));
+    assert_eq!(table.read(1, table.rows(), 0, &mut [0; 3]).map(|done| done.version), Ok(2));
+    assert_eq!(table.changed(&before), rows(&[4]), "neither changes anything");
+    // A joining: the new row, and the row whose link leads to it. In the other direction too, and for another size all.
+    let before = table.clone();
+    assert_eq!(table.join(35), Ok(5));
+    assert_eq!((table.changed(&before), before.changed(&table)), (rows(&[3, 5]), rows(&[3, 5])));
+    let longer = Table::found(5, 5, &[10, 20, 30, 40], Shape::Wide).expect("a plain founding");
+    assert_eq!(founded.changed(&longer), rows(&[1, 2, 3, 4]));
 }
 
 #[test]
@@ -250,11 +403,15 @@ fn a_joining_links_the_row_in_name_order() {
     assert_eq!((table.used(), table.rows()), (5, Rows::first(5)));
     let bytes = table.as_bytes();
     assert_eq!(bytes[..4], [2, 5, 5, 4], "form 2, and the chain begins with row 4");
-    let names_and_links = table.rows().iter().map(|row| table.row(row).expect("in use")[..3].to_vec());
+    let names_and_links = table.rows().iter().map(|row| table.row_bytes(row).expect("in use")[..3].to_vec());
     let expected = [[20, 0, 5], [30, 0, 3], [40, 0, 0], [10, 0, 1], [25, 0, 2]];
     assert_eq!(names_and_links.collect::<Vec<_>>(), expected);
     for row in [3, 4, 5] {
-        assert_eq!(table.row(row).map(|row| &row[3..]), Some(&[0; 33][..]), "zero otherwise, the list too");
+        assert_eq!(
+            table.row_bytes(row).map(|row| &row[3..]),
+            Some(&[0; 33][..]),
+            "zero otherwise, the list too"
+        );
     }
 }
 

@@ -65,10 +65,22 @@ pub enum Blunder {
     CalledLengthFirst,
     /// A call that is refused by 6 called nobody.
     NoneCalledBySix,
+    /// A read's choice is told as the write's.
+    WriteChoiceTold,
+    /// A choice is told as the published grid has it, whatever the list's mark.
+    PublishedChoiceTold,
+    /// A choice is told over the list of the highest epoch, and not over the coordinator's own.
+    NewestChoiceTold,
+    /// Of a row with an empty list all used rows are told as its choice.
+    AllChosen,
+    /// A choice looks at the low byte of the kind only.
+    KindOfAByte,
+    /// A choice goes into a list of any length, as far as it has room, and is refused all the same.
+    SetAtAnyLength,
 }
 
 impl Blunder {
-    pub const ALL: [Blunder; 30] = [
+    pub const ALL: [Blunder; 36] = [
         Blunder::OutsidersCount,
         Blunder::ShortColumnWhole,
         Blunder::DesiredIgnored,
@@ -99,6 +111,12 @@ impl Blunder {
         Blunder::CalledAtAnyLength,
         Blunder::CalledLengthFirst,
         Blunder::NoneCalledBySix,
+        Blunder::WriteChoiceTold,
+        Blunder::PublishedChoiceTold,
+        Blunder::NewestChoiceTold,
+        Blunder::AllChosen,
+        Blunder::KindOfAByte,
+        Blunder::SetAtAnyLength,
     ];
 
     /// Its name on a command line.
@@ -134,6 +152,12 @@ impl Blunder {
             Blunder::CalledAtAnyLength => "called-at-any-length",
             Blunder::CalledLengthFirst => "called-length-first",
             Blunder::NoneCalledBySix => "none-called-by-six",
+            Blunder::WriteChoiceTold => "write-choice-told",
+            Blunder::PublishedChoiceTold => "published-choice-told",
+            Blunder::NewestChoiceTold => "newest-choice-told",
+            Blunder::AllChosen => "all-chosen",
+            Blunder::KindOfAByte => "kind-of-a-byte",
+            Blunder::SetAtAnyLength => "set-at-any-length",
         }
     }
 

@@ -119,7 +119,7 @@ impl Book {
     }
 
     /// The own choice of the coordinator, over its own list.
-    fn choice(&self, quorum: Quorum, coordinator: usize) -> u64 {
+    pub fn choice(&self, quorum: Quorum, coordinator: usize) -> u64 {
         self.layout(self.own[coordinator - 1]).choice(quorum, self.names[coordinator - 1])
     }
 

@@ -101,6 +101,10 @@ impl Engine {
         result(self.try_chart(length, mark, list))
     }
 
+    pub fn choice(&self, bytes: &[u8], coordinator: u64, kind: u64, set: &mut [u8]) -> u64 {
+        result(self.try_choice(bytes, coordinator, kind, set))
+    }
+
     fn try_read(
         &self,
         bytes: &[u8],
@@ -247,6 +251,31 @@ impl Engine {
             place.copy_from_slice(&set.to_le_bytes());
         }
         Ok(chart.sets().len() as u32)
+    }
+
+    fn try_choice(&self, bytes: &[u8], coordinator: u64, kind: u64, set: &mut [u8]) -> Answer {
+        let table = self.judge(bytes)?;
+        ask(2, is_used(&table, coordinator))?;
+        let kind = if self.makes(Blunder::KindOfAByte) { kind & 0xff } else { kind };
+        let mut quorum = Quorum::of_kind(kind).ok_or(4_u32)?;
+        let mut own = table.row(bytes, coordinator as usize);
+        match self.blunder {
+            Some(Blunder::WriteChoiceTold) => quorum = Quorum::Write,
+            Some(Blunder::PublishedChoiceTold) => own.list.mark = 0,
+            Some(Blunder::NewestChoiceTold) => own.list = self.poll(&table, bytes, table.all_used()).list,
+            _ => {}
+        }
+        let mut chosen = Layout::of(own.list, &table.chain).choice(quorum, own.name);
+        if own.list.is_empty() && self.makes(Blunder::AllChosen) {
+            chosen = table.all_used();
+        }
+        let told = chosen.to_le_bytes();
+        if self.makes(Blunder::SetAtAnyLength) {
+            set.iter_mut().zip(told).for_each(|(place, byte)| *place = byte);
+        }
+        ask(5, set.len() == told.len())?;
+        set.copy_from_slice(&told);
+        Ok(chosen.count_ones())
     }
 
     /// Question 1.
@@ -507,6 +536,64 @@ mod tests {
         }
         assert_eq!(call(&mut table, Write, 1, 0b1111, 1), (8, vec![3]));
         assert_eq!(call(&mut table, Write, 1, 0b1011, 1), (8, vec![4]));
+    }
+
+    /// The result of row c's choice with a list of so many bytes, and the list after.
+    fn choice(table: &[u8], c: u64, kind: u64, lent: usize) -> (u64, Vec<u8>) {
+        let mut set = vec![0xee; lent];
+        (Engine::default().choice(table, c, kind, &mut set), set)
+    }
+
+    /// Columns {1, 3} and {2, 4}. Row 5 joined, and has no list; a check without row 3 leaves it the old one.
+    #[test]
+    fn choices_by_hand() {
+        let told = |table: &[u8], c, kind| {
+            let (value, set) = choice(table, c, kind, 8);
+            (value, u64::from_le_bytes(set.try_into().expect("eight bytes")))
+        };
+        let mut table = founded(5, &[10, 20, 30, 40], 0);
+        for c in 1..=4 {
+            assert_eq!([0, 1].map(|kind| told(&table, c, kind)), [(2, 0b0011), (3, 0b0111)]);
+        }
+        assert_eq!(Engine::default().join(&mut table, 15), 5);
+        assert_eq!([0, 1].map(|kind| told(&table, 5, kind)), [(0, 0); 2]);
+        assert_eq!(Engine::default().check(&mut table, 1, 0b1011), 1);
+        // Of three: columns {1, 4} and {2}.
+        assert_eq!([0, 1].map(|kind| told(&table, 1, kind)), [(2, 0b0011), (3, 0b1011)]);
+        assert_eq!([0, 1].map(|kind| told(&table, 3, kind)), [(2, 0b0011), (3, 0b0111)]);
+        // Of 14 by document 01, the names being the places; of five in 3 rows and 2 columns, and tall of two.
+        let names: Vec<u16> = (1..=14).collect();
+        let set = [4, 7, 8, 12, 13, 14].map(rows::only).into_iter().sum();
+        assert_eq!(told(&founded(14, &names, 0), 7, 1), (6, set));
+        let five = founded(5, &[1, 2, 3, 4, 5], 0);
+        assert_eq!([0, 1].map(|kind| told(&five, 1, kind)), [(2, 0b01100), (3, 0b01110)]);
+        let two = founded(2, &[10, 21], 1);
+        assert_eq!([1, 2].map(|c| told(&two, c, 0)), [(1, 0b01), (1, 0b10)]);
+        assert_eq!([1, 2].map(|c| told(&two, c, 1)), [(2, 0b11); 2]);
+    }
+
+    #[test]
+    fn questions_of_a_choice_in_order() {
+        let mut table = founded(3, &[10, 20], 0);
+        let untouched = |refusal: u64, lent| (refusal << 32, vec![0xee; lent]);
+        for lent in [0, 7, 8, 9, 16] {
+            for kind in [0, 1, 2, 255, 256, 257, 1 << 32, (1 << 32) + 1, u64::MAX] {
+                for c in [0, 3, 64, 65, 257, (1 << 32) + 1, u64::MAX] {
+                    assert_eq!(choice(&table, c, kind, lent), untouched(2, lent));
+                }
+                for c in [1, 2] {
+                    match (kind, lent) {
+                        (2.., _) => assert_eq!(choice(&table, c, kind, lent), untouched(4, lent)),
+                        (_, 8) => assert_eq!(choice(&table, c, kind, 8).0, 2),
+                        _ => assert_eq!(choice(&table, c, kind, lent), untouched(5, lent)),
+                    }
+                }
+            }
+        }
+        table[0] = 1;
+        for (c, kind, lent) in [(1, 0, 8), (0, 0, 8), (1, 2, 8), (1, 0, 7), (0, 2, 0)] {
+            assert_eq!(choice(&table, c, kind, lent), untouched(1, lent));
+        }
     }
 
     /// A read's choice has one machine of each column, a write's at most one column more, less one.

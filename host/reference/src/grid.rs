@@ -9,6 +9,17 @@ pub enum Quorum {
     Write,
 }
 
+impl Quorum {
+    /// The kind of call that has this number.
+    pub fn of_kind(kind: u64) -> Option<Quorum> {
+        match kind {
+            0 => Some(Quorum::Read),
+            1 => Some(Quorum::Write),
+            _ => None,
+        }
+    }
+}
+
 /// How a table's lists are laid: the choice of its founding.
 #[derive(Clone, Copy, Debug, PartialEq, Eq)]
 pub enum Shape {

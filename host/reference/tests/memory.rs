@@ -62,8 +62,10 @@ fn every_call(choice: u64) {
         engine.read(&table, 1, 1, 0, 100, &mut buffer, &mut called),
         engine.chart(9, 2 * choice, &mut list),
         engine.chart(10, 0, &mut list),
+        engine.choice(&table, 64, choice, &mut list[..8]),
+        engine.choice(&table, 64, 2, &mut list[..8]),
     ];
     assert_eq!(TAKEN.get(), before);
-    assert_eq!(results.map(|result| result >> 32), [0, 0, 13, 14, 0, 0, 0, 0, 0, 0, 0, 0, 6, 0, 17]);
+    assert_eq!(results.map(|result| result >> 32), [0, 0, 13, 14, 0, 0, 0, 0, 0, 0, 0, 0, 6, 0, 17, 0, 4]);
     assert!(TAKEN.get() > 0, "the count works");
 }

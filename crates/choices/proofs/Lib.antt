@@ -1,0 +1,2 @@
+mod ChoiceLaws
+mod Computed

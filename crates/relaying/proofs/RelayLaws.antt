@@ -1,0 +1,133 @@
+-- The table that a relay puts together says of the rows that answered what the whole table says.
+use mathlib.Core.Path.{_≡_, refl, sym, _∙_, ap}
+use mathlib.Core.Bool.{Bool, true, false, not, cond}
+use mathlib.Core.List.{List, _++_}
+use Prim.Native.Nat.{ℕ, zero, suc, _≤_, _<_}
+use native.Mathlib.Decide.{decLe}
+use native.Mathlib.Omega.{arith}
+use lib.ListN.{length, take}
+use borrow.Author.Tests.{not-true, not-false}
+use Rattle.bools.proofs.BoolLaws.{clash}
+use Rattle.sets.specs.Upto.{Within}
+use Rattle.sets.specs.Sets.{has}
+use Rattle.blocks.specs.Blocks.{block}
+use Rattle.bytes.specs.Bytes.{bytesOf, part, zeros}
+use Rattle.bytes.proofs.ByteLaws.{length-zeros}
+use Rattle.fields.specs.Layout.{get, link, epoch, list, isEmpty, isTall, bodyLength, stride, fileLengthOf, rowLength, usedOf, nameOf, linkOf, listOf, rowBytes}
+use Rattle.table.specs.WellFormed.{wellFormed}
+use Rattle.table.proofs.FormLaws.{RowFacts, OneList, OneShape, Formed, formed, well-formed-of, rows-room, header-facts}
+use Rattle.table.proofs.TableLaws.{Changed, behind, many-rows}
+use Rattle.joining.proofs.RowLaws.{new-name, new-link, new-list, new-facts}
+use Rattle.protocol.proofs.FrameLaws.{Frame, frame-of, same-used, same-header, same-long, same-visits, same-rise, zero-stays}
+use Rattle.protocol.specs.Claims.{EqualIn}
+use Rattle.protocol.proofs.Unanswered.{unanswered-have-no-part}
+use Rattle.protocol.specs.Claims.{UnansweredHaveNoPart}
+use Rattle.relaying.specs.Relaying.{blankRow, blanked, BlankedEqual, OthersBlank, BlankedAnswers}
+
+module _ (t : List ℕ) (r : ℕ) (e : wellFormed t ≡ true) where
+  w : Formed t
+  w = formed t e
+
+  out : ℕ → Bool
+  out i = not (has r i)
+
+  body : ℕ
+  body = bodyLength (fileLengthOf t)
+
+  facts : (i : ℕ) → Within (usedOf t) i → RowFacts (usedOf t) i (rowBytes t i)
+  facts i u = w .rows i u
+
+  link-small : (i : ℕ) → Within (usedOf t) i → get link (rowBytes t i) < 256
+  link-small i u = let h = header-facts t (w .header) in omega (arith, facts i u .linked, h .used, h .capacity)
+
+  long : (i : ℕ) → length (blankRow body (rowBytes t i)) ≡ rowLength t
+  unfolding blankRow body rowLength stride bytesOf zeros
+  long i = simp length-zeros (omega arith)
+
+  -- the rows outside R are blank, and nothing else is altered
+  change : Changed t (blanked r t) (usedOf t) out (λ i. blankRow body)
+  unfolding blanked out body
+  change = many-rows t out (λ i. blankRow body) (usedOf t) (rows-room t w) (λ i u m. long i)
+
+  frame : Frame t (blanked r t)
+  unfolding blankRow
+  frame = frame-of change (λ i u m. new-name _ _ body (facts i u .named) (link-small i u)) (λ i u m. new-link _ _ body (facts i u .named) (link-small i u))
+
+  kept : (i : ℕ) → Within (usedOf t) i → has r i ≡ true → rowBytes (blanked r t) i ≡ rowBytes t i
+  unfolding out
+  kept i u m = change .rows i u ∙ rw m
+
+  blank : (i : ℕ) → Within (usedOf t) i → has r i ≡ false → rowBytes (blanked r t) i ≡ blankRow body (rowBytes t i)
+  unfolding out
+  blank i u m = change .rows i u ∙ rw m
+
+  -- a row with a list is one of R
+  listed : (i : ℕ) → Within (usedOf t) i → isEmpty (list (rowBytes (blanked r t) i)) ≡ false → rowBytes (blanked r t) i ≡ rowBytes t i
+  unfolding blankRow
+  listed i u f = go (has r i) refl
+    where
+      go : (b : Bool) → has r i ≡ b → rowBytes (blanked r t) i ≡ rowBytes t i
+      go true m = kept i u m
+      go false m = absurd (clash (sym f ∙ ap (λ (x : List ℕ). isEmpty (list x)) (blank i u m) ∙ new-list _ _ body (facts i u .named) (link-small i u)))
+
+  row-facts : (i : ℕ) → Within (usedOf t) i → RowFacts (usedOf t) i (rowBytes (blanked r t) i)
+  unfolding blankRow
+  row-facts i u = go (has r i) refl
+    where
+      go : (b : Bool) → has r i ≡ b → RowFacts (usedOf t) i (rowBytes (blanked r t) i)
+      go true m = rw (kept i u m) (facts i u)
+      go false m = rw (blank i u m) (new-facts _ _ body (facts i u .named) (link-small i u) (usedOf t) i (facts i u .linked))
+
+  agree : (i j : ℕ) → Within (usedOf t) i → Within (usedOf t) j → OneList (rowBytes (blanked r t) i) (rowBytes (blanked r t) j)
+  agree i j u v a b q =
+      let x = listed i u a in
+      let y = listed j v b in
+      ap list x ∙ w .agree i j u v (rw x at a) (rw y at b) (ap (get epoch) (sym x) ∙ q ∙ ap (get epoch) y) ∙ sym (ap list y)
+
+  shape : OneShape (blanked r t) (usedOf t)
+  unfolding listOf
+  shape i j u v a b =
+      let x = listed i u a in
+      let y = listed j v b in
+      ap (λ (z : List ℕ). isTall (list z)) x ∙ w .shape i j u v (rw x at a) (rw y at b) ∙ sym (ap (λ (z : List ℕ). isTall (list z)) y)
+
+  -- a row of R is as it was, used or not
+  answered : (i : ℕ) → has r i ≡ true → rowBytes t i ≡ rowBytes (blanked r t) i
+  unfolding rowBytes block
+  answered zero m = refl
+  answered (suc k) m = go (decLe (suc k) (usedOf t))
+    where
+      go : Dec (suc k ≤ usedOf t) → rowBytes t (suc k) ≡ rowBytes (blanked r t) (suc k)
+      go (yes l) = sym (kept (suc k) (omega arith) m)
+      go (no l) = sym (behind change (suc k) (omega arith))
+
+  right : Formed (blanked r t)
+  right = record {
+    header = same-header frame ∙ w .header;
+    long = same-long frame ∙ w .long;
+    rows = rw (same-used frame) row-facts;
+    visits = same-visits frame ∙ w .visits;
+    rise = same-rise frame ∙ w .rise;
+    zero = zero-stays change refl (same-used frame) ∙ w .zero;
+    agree = rw (same-used frame) agree;
+    shape = rw (same-used frame) shape;
+  }
+
+pub blanked-equal : BlankedEqual
+unfolding BlankedEqual part
+blanked-equal t r e = record {
+  formed = e;
+  formed-too = well-formed-of _ (right t r e);
+  header = sym (frame t r e .like .header 0 16 (omega arith));
+  names = λ i u. ap (λ (f : ℕ → ℕ). f i) (sym (frame t r e .names));
+  links = λ i u. ap (λ (f : ℕ → ℕ). f i) (sym (frame t r e .links));
+  rows = answered t r e;
+}
+
+pub others-blank : OthersBlank
+unfolding OthersBlank blankRow body nameOf linkOf
+others-blank t r i e u m = blank t r e i u m
+
+pub blanked-answers : BlankedAnswers
+unfolding BlankedAnswers BlankedEqual UnansweredHaveNoPart
+blanked-answers t k r a e = unanswered-have-no-part t (blanked r t) k r a (blanked-equal t r e)

@@ -1,0 +1,33 @@
+-- A relay that holds only rows that answered, and the table that it puts together for a call.
+use mathlib.Core.Path.{_≡_}
+use mathlib.Core.Bool.{Bool, true, false, not}
+use mathlib.Core.List.{List, _++_}
+use Prim.Native.Nat.{ℕ}
+use Rattle.sets.specs.Upto.{Within}
+use Rattle.sets.specs.Sets.{has}
+use Rattle.bytes.specs.Bytes.{bytesOf, zeros}
+use Rattle.fields.specs.Layout.{get, name, link, bodyLength, fileLengthOf, usedOf, nameOf, linkOf, rowBytes, withRows}
+use Rattle.table.specs.WellFormed.{wellFormed}
+use Rattle.protocol.specs.Calls.{Call, outcome}
+use Rattle.protocol.specs.Claims.{Answering, EqualIn, SameFor}
+
+-- a row of which only name and link are known, with so many bytes behind its head: "zero otherwise", its list empty
+unfoldable pub blankRow : ℕ → List ℕ → List ℕ
+blankRow body row = bytesOf 2 (get name row) ++ (bytesOf 1 (get link row) ++ (zeros 29 ++ zeros body))
+
+-- the table in which each used row outside R is such a row
+unfoldable pub blanked : ℕ → List ℕ → List ℕ
+blanked r t = withRows t (λ i. not (has r i)) (λ i. blankRow (bodyLength (fileLengthOf t))) (usedOf t)
+
+-- of a well-formed table it is well formed, with the same header, names, links and rows of R
+unfoldable pub BlankedEqual : Type 0
+BlankedEqual = (t : List ℕ) (r : ℕ) → wellFormed t ≡ true → EqualIn r t (blanked r t)
+
+-- and nothing of any other used row but its name and link
+unfoldable pub OthersBlank : Type 0
+OthersBlank = (t : List ℕ) (r i : ℕ) → wellFormed t ≡ true → Within (usedOf t) i → has r i ≡ false
+    → rowBytes (blanked r t) i ≡ bytesOf 2 (nameOf t i) ++ (bytesOf 1 (linkOf t i) ++ (zeros 29 ++ zeros (bodyLength (fileLengthOf t))))
+
+-- so every read, write, send and check with that R gives the same result, the same bytes and the same rows of R as on the whole table
+unfoldable pub BlankedAnswers : Type 0
+BlankedAnswers = (t : List ℕ) (k : Call) (r : ℕ) → Answering k r → wellFormed t ≡ true → SameFor r (outcome t k) (outcome (blanked r t) k)

@@ -1,0 +1,1 @@
+// A relay that holds only rows that answered: definitions and proofs only.
