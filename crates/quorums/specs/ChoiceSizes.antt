@@ -14,10 +14,10 @@ pub record Largest (f : ℕ → ℕ) (x : ℕ) : Type 0 where
   pub reached : (a : ℕ) × (f a ≡ x)
 
 -- "A done write that stayed with P called at most m + n − 1, a done read n, by the grid": the sizes of the choices in a grid, by kind and name
-pub record Sized (g : Grid) (size : Kind → ℕ → ℕ) : Type 0 where
+pub record ChoicesSized (g : Grid) (size : Kind → ℕ → ℕ) : Type 0 where
   pub read : (a : ℕ) → size Read a ≡ g .cols
   pub write : Largest (size Write) (g .rows + g .cols - 1)
 
 -- the choices over positions, in any grid that fits
 unfoldable pub GridChoiceSizes : Type 0
-GridChoiceSizes = (g : Grid) (N : ℕ) → Fits g N → Sized g (λ kind a. count N (choice kind g N a))
+GridChoiceSizes = (g : Grid) (N : ℕ) → Fits g N → ChoicesSized g (λ kind a. count N (choice kind g N a))

@@ -24,7 +24,7 @@ use Rattle.protocol.proofs.ListLaws.{has-list}
 use Rattle.protocol.proofs.PollLaws.{current-good}
 use Rattle.protocol.proofs.QuestionLaws.{ByCoordinator, refusal-is, called-is, read-yes, write-yes}
 use Rattle.seats.specs.Seats.{ChoiceSizes}
-use Rattle.quorums.specs.ChoiceSizes.{Sized}
+use Rattle.quorums.specs.ChoiceSizes.{ChoicesSized}
 use Rattle.seats.specs.Called.{ownGrid, stayed, CalledFew}
 use Rattle.seats.proofs.HeldLaws.{chosen-in}
 use Rattle.seats.proofs.SizeLaws.{choice-sizes}
@@ -53,7 +53,7 @@ module _ (kind : Kind) (t : List ℕ) (c r : ℕ) (y : ByCoordinator t c r) wher
       rw (← own-said) (has-list l (g .0) (chosen-in kind (l .mark) (orderOf t) (has (l .members)) (nameOf t c) (g .0) (and-l _ _ (g .2 .inside))))
 
 -- the sizes of its choices, by the grid of its own list
-sizes : (t : List ℕ) (c r : ℕ) → ByCoordinator t c r → isEmpty (listOf t c) ≡ false → Sized (ownGrid t c) (λ kind a. count 64 (listChoice kind (orderOf t) (listOf t c) a))
+sizes : (t : List ℕ) (c r : ℕ) → ByCoordinator t c r → isEmpty (listOf t c) ≡ false → ChoicesSized (ownGrid t c) (λ kind a. count 64 (listChoice kind (orderOf t) (listOf t c) a))
 unfolding ownGrid ChoiceSizes listOf list
 sizes t c r y full = choice-sizes t (y .formed) (listOf t c) (formed t (y .formed) .rows c (y .coordinator) .only) full
 

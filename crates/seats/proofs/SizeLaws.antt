@@ -18,7 +18,7 @@ use Rattle.grid.specs.Sizes.{gridBy}
 use Rattle.grid.proofs.SizeLaws.{laid-fits}
 use Rattle.quorums.specs.declared.Kind.{Kind}
 use Rattle.quorums.specs.Quorums.{choice}
-use Rattle.quorums.specs.ChoiceSizes.{Sized, GridChoiceSizes}
+use Rattle.quorums.specs.ChoiceSizes.{ChoicesSized, GridChoiceSizes}
 use Rattle.quorums.proofs.ChoiceLaws.{grid-choice-sizes}
 use Rattle.fields.specs.Layout.{isEmpty, usedOf}
 use Rattle.table.specs.Chain.{orderOf}
@@ -48,9 +48,9 @@ module _ (t : List ℕ) (e : wellFormed t ≡ true) (p : ℕ → Bool) (used : (
   }
 
   -- so the choices over used rows, laid in any mark's grid, have the sizes of that grid
-  pub level-sizes : 1 ≤ count 64 p → (mark : ℕ) → Sized (gridBy mark (count 64 p)) (λ kind a. count 64 (levelChoice kind mark (orderOf t) p a))
+  pub level-sizes : 1 ≤ count 64 p → (mark : ℕ) → ChoicesSized (gridBy mark (count 64 p)) (λ kind a. count 64 (levelChoice kind mark (orderOf t) p a))
   unfolding GridChoiceSizes
-  level-sizes one mark = subst (Sized (gridBy mark N)) (fun-ext (λ kind. fun-ext (λ a. count-pairs N 64 _ _ (rowAt t p) (chosen-pairs kind mark a)))) (grid-choice-sizes (gridBy mark N) N (laid-fits mark N one))
+  level-sizes one mark = subst (ChoicesSized (gridBy mark N)) (fun-ext (λ kind. fun-ext (λ a. count-pairs N 64 _ _ (rowAt t p) (chosen-pairs kind mark a)))) (grid-choice-sizes (gridBy mark N) N (laid-fits mark N one))
     where
       N : ℕ
       N = count 64 p

@@ -14,7 +14,7 @@ use Rattle.grid.specs.Sizes.{gridBy}
 use Rattle.quorums.specs.declared.Kind.{Kind}
 use Rattle.quorums.specs.declared.Kind.the-variants.{Write}
 use Rattle.quorums.specs.Losses.{AllButOne}
-use Rattle.quorums.specs.ChoiceSizes.{Sized}
+use Rattle.quorums.specs.ChoiceSizes.{ChoicesSized}
 use Rattle.protocol.specs.Lists.{laidNow, seats, level, levelChoice, listQuorum, listChoice}
 
 -- the row at position k of those that pass p, counted from 1
@@ -45,4 +45,4 @@ ListBearsLoss = (t : List ℕ) → wellFormed t ≡ true → (tall : Bool) (l : 
 -- "called at most m + n − 1, a done read n, by the grid of the coordinator's own list": the sizes of the choices over a list of used rows
 unfoldable pub ChoiceSizes : Type 0
 ChoiceSizes = (t : List ℕ) → wellFormed t ≡ true → (l : Laid) → l .members < 2 ^ usedOf t → isEmpty l ≡ false
-    → Sized (gridBy (l .mark) (count 64 (has (l .members)))) (λ kind a. count 64 (listChoice kind (orderOf t) l a))
+    → ChoicesSized (gridBy (l .mark) (count 64 (has (l .members)))) (λ kind a. count 64 (listChoice kind (orderOf t) l a))
