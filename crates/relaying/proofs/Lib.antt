@@ -1,1 +1,3 @@
 pub mod RelayLaws
+pub mod EnoughLaws
+pub mod EnoughMet
