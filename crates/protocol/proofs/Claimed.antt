@@ -70,7 +70,7 @@ unfolding Claims.RefusalAltersNothing
 refusal-alters-nothing t k d = let w = when-refused t k d in record { value = w .0; table = w .1; buffer = w .2 }
 
 -- ---- demand 1: a done call alters only rows that answered
-only-none : (r : ℕ) (t : List ℕ) → Claims.OnlyRowsOf r t t
+pub only-none : (r : ℕ) (t : List ℕ) → Claims.OnlyRowsOf r t t
 only-none r t = record { bytes = refl; header = refl; rows = λ i w m. refl; rest = refl }
 
 only-leaves : {t u : List ℕ} {s : ℕ → Bool} (r : ℕ) → ((i : ℕ) → s i ≡ true → has r i ≡ true) → Leaves t u s → Claims.OnlyRowsOf r t u
