@@ -18,8 +18,9 @@ use Rattle.table.specs.Chain.{orderOf}
 use Rattle.asking.specs.Asking.{firstNo, before}
 use Rattle.protocol.specs.Lists.{listQuorum, listChoice}
 use Rattle.protocol.specs.Polls.{polled, current, quorumHeld, ownTry, stays, workedOn}
-use Rattle.protocol.specs.Calls.{Call, read, write, byCoordinator, questions, answers, workSet}
+use Rattle.protocol.specs.Calls.{Call, read, write, byCoordinator, isUsed, questions, answers, workSet}
 use Rattle.protocol.proofs.QuestionLaws.{ByCoordinator, passed-first}
+use Rattle.protocol.proofs.Unanswered.{used-same, order-same}
 use Rattle.seats.specs.Seats.{EveryChoiceHolds}
 use Rattle.seats.proofs.HeldLaws.{chosen-in, every-choice-holds}
 use Rattle.history.specs.Book.{Book, holdsQuorum, someHasAll}
@@ -28,8 +29,17 @@ use Rattle.history.proofs.Invariant.{both-is}
 use Rattle.history.proofs.State.{whole, State, chain-is, few, answered, quorum-whole, current-whole, six-is, seven-is}
 use Rattle.history.proofs.Answers.{right}
 use Rattle.history.proofs.Theorems.{reached}
-use Rattle.choices.specs.Choosing.{firstCalled}
-use Rattle.relaying.specs.Enough.{By, aRead, aWrite, AnswersWhole, StaysWithChoice, ChoiceEnough}
+use Rattle.choices.specs.Choosing.{firstCalled, choiceQuestions, chosen}
+use Rattle.relaying.specs.Relaying.{BlankedEqual}
+use Rattle.relaying.specs.Enough.{ChosenAlike, By, aRead, aWrite, AnswersWhole, StaysWithChoice, ChoiceEnough}
+use Rattle.relaying.proofs.RelayLaws.{blanked-equal}
+
+-- the chain is that of the whole table, and c's row its own
+pub chosen-alike : ChosenAlike
+unfolding ChosenAlike BlankedEqual chosen choiceQuestions firstCalled isUsed nameOf listOf
+chosen-alike t r c kind set e m =
+    let E = blanked-equal t r e in
+    rw (E .formed-too, e, used-same E, order-same E, sym (E .rows c m))
 
 module _ (t : List ℕ) (b : Book) (e : ℕ) (S : State t b e) (kind : Kind) (c r : ℕ) (B : ByCoordinator t c r) (own : b .own c ≡ b .inForce)
     (all : (i : ℕ) → firstCalled kind t c i ≡ true → has r i ≡ true) (cur : someHasAll b (firstCalled kind t c) ≡ true) where

@@ -1,4 +1,4 @@
--- Whom to call: a choice that answers whole is enough.
+-- Whom to call: the coordinator's own row tells, and a choice that answers whole is enough.
 use mathlib.Core.Path.{_≡_}
 use mathlib.Core.Bool.{true, false}
 use mathlib.Core.List.{List}
@@ -6,11 +6,17 @@ use Prim.Native.Nat.{ℕ, _<_}
 use Rattle.sets.specs.Sets.{has}
 use Rattle.quorums.specs.declared.Kind.{Kind}
 use Rattle.quorums.specs.declared.Kind.the-variants.{Read, Write}
+use Rattle.table.specs.WellFormed.{wellFormed}
 use Rattle.asking.specs.Asking.{firstNo, before}
 use Rattle.protocol.specs.Calls.{Reading, Writing, Call, read, write, questions, outcome, workSet}
 use Rattle.history.specs.Book.{Book, someHasAll}
 use Rattle.history.specs.Claims.{Reached}
-use Rattle.choices.specs.Choosing.{firstCalled}
+use Rattle.choices.specs.Choosing.{firstCalled, chosen}
+use Rattle.relaying.specs.Relaying.{blanked}
+
+-- a coordinator that answers itself asks whom to call of the table put together: its own row is enough for that
+unfoldable pub ChosenAlike : Type 0
+ChosenAlike = (t : List ℕ) (r c kind : ℕ) (set : List ℕ) → wellFormed t ≡ true → has r c ≡ true → chosen (blanked r t) c kind set ≡ chosen t c kind set
 
 -- k is a read or a write by c, with the answering set R
 pub data By : Call → Kind → ℕ → ℕ → Type 0 where
