@@ -64,7 +64,8 @@ pub fn page(timings: &[Timing], load: &str, runs: usize) -> String {
          Row 1 coordinates, if nothing else is said. Before each send the receiver is made stale again, which is in the times of both. A refused send\n\
          has a receiver that is not stale. A check with a new list leaves out the last row and takes it in again by turns. A joining comes in the middle\n\
          of the chain, and is undone before the next one, which is in the times of both. A chart is of as many members as there are machines, in the\n\
-         published grid, and looks at no table; the reference puts its sets together from columns.\n\n\
+         published grid, and looks at no table; the reference puts its sets together from columns. A choice is that of row 1, whose own list is of all\n\
+         machines.\n\n\
          {}\n\
          - machine: {}, load {load} when the run began\n- compiler of the reference: {}\n- to measure again: `make bench`\n",
         verdict(timings),
