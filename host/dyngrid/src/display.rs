@@ -42,7 +42,7 @@ impl fmt::Display for Table {
         views.sort_by_key(|view| view.name);
         let in_force = InForce::of(self, &views);
         if let InForce::Malformed = in_force {
-            writeln!(f, "DAMAGED: the table is not well formed, and every call on it is refused by 1")?;
+            writeln!(f, "DAMAGED: not well formed, every call on it is refused by 1; use a good copy of it")?;
         }
         let newest = views.iter().map(|view| view.version.max(view.desired)).max();
         let (used, capacity) = (self.used(), self.capacity());

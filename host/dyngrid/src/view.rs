@@ -28,8 +28,8 @@ pub struct RowView {
 impl Table {
     /// What the row tells; none if it is not in use.
     ///
-    /// A machine's own bytes are looked at by [`Table::assemble`], with the frame and that row alone: it tells where they are
-    /// damaged.
+    /// The bytes that a machine holds are looked at in a table [assembled](Table::assemble) from the frame and that row alone,
+    /// which is refused if they are damaged.
     ///
     /// ```
     /// use dyngrid::{Rows, Shape, Table};

@@ -10,7 +10,7 @@ fn found(capacity: usize, names: &[u16], shape: Shape) -> Table {
     Table::found(capacity, 16, names, shape).expect("a plain founding")
 }
 
-/// The table that README.md and docs/RELAY.md show: 25 has joined, 30 is away, 40 lacks two writes.
+/// The table that README.md and docs/RELAY.md show: 25 has joined, 30 was away, 40 lacks two writes.
 fn shown_in_the_pages() -> Table {
     let mut table = found(6, &[10, 20, 30, 40], Shape::Wide);
     table.write(1, rows(&[1, 2, 3]), 0, b"1-0").expect("a quorum answers");
@@ -113,6 +113,18 @@ fn sends_of_a_known_table() {
     let table = Table::from_bytes(bytes).expect("well formed");
     assert_eq!(table.sends_from_newest(), [(5, 3), (5, 4)]);
     assert_eq!(table.sends(), [3, 4].map(|to| [(1, to), (2, to), (5, to)]).as_flattened());
+}
+
+/// A row that is behind without a mark: a check by the list in force leaves it so, a write with it in its set marks it.
+#[test]
+fn a_row_behind_is_no_receiver_until_it_is_marked() {
+    let mut table = found(4, &[10, 20, 30, 40], Shape::Wide);
+    table.write(4, table.rows(), 0, b"1-0").expect("a quorum answers");
+    assert_eq!(table.check(4, table.rows()), Ok(0));
+    assert!(table.to_string().contains("   40    4        0        0  in force  behind\n"), "{table}");
+    assert_eq!((table.row(4).map(|row| row.stale), table.sends()), (Some(false), vec![]));
+    table.write(4, rows(&[1, 2, 4]), 0, b"0-1").expect("a quorum answers");
+    assert_eq!((table.row(4).map(|row| row.desired), table.sends()), (Some(2), vec![(1, 4), (2, 4)]));
 }
 
 /// Random numbers, the same for each seed.
@@ -236,7 +248,7 @@ fn a_table_that_a_check_left_malformed_is_shown_as_damaged() {
     assert_eq!(
         table.to_string(),
         "\
-DAMAGED: the table is not well formed, and every call on it is refused by 1
+DAMAGED: not well formed, every call on it is refused by 1; use a good copy of it
 4 of 4 rows in use, file length 16
  name  row  version    epoch  list      state
    10    1        0        1  a list    current
