@@ -2,10 +2,9 @@
 use mathlib.Core.Path.{_≡_, refl, sym, _∙_, ap}
 use mathlib.Core.Bool.{Bool, true, false, cond}
 use mathlib.Core.List.{List, [], _∷_}
-use Prim.Native.Nat.{ℕ, zero, suc, _+_, _-_}
+use Prim.Native.Nat.{ℕ, zero, suc}
 use native.Mathlib.Omega.{arith}
-use lib.ListN.{length, drop}
-use lib.Seq.{drop-drop}
+use lib.ListN.{length}
 use Rattle.sets.specs.Upto.{Within}
 use Rattle.sets.specs.Sets.{has}
 use Rattle.blocks.specs.Blocks.{block}
@@ -26,7 +25,7 @@ use Rattle.history.proofs.State.{State}
 use Rattle.history.proofs.Theorems.{next, reached}
 use Rattle.relaying.specs.Relaying.{blanked, BlankedAnswers}
 use Rattle.relaying.specs.Shipping.{shipped, relayedBy, relayed, relayedAfter, RelaySees}
-use Rattle.relaying.proofs.RelayLaws.{blanked-answers}
+use Rattle.relaying.proofs.RelayLaws.{drop-more, blanked-answers}
 
 -- ---- v is t but for rows of R, and u has these
 module _ (r : ℕ) (t u v : List ℕ) (room : Roomy t (usedOf t)) (only : OnlyRowsOf r t v) (same : (i : ℕ) → has r i ≡ true → rowBytes v i ≡ rowBytes u i) where
@@ -47,9 +46,7 @@ module _ (r : ℕ) (t u v : List ℕ) (room : Roomy t (usedOf t)) (only : OnlyRo
     long = only .bytes;
     head = like .header;
     blocks = λ i w. ap (λ (n : ℕ). block 16 n i v) (sym (like-length like)) ∙ row i w (has r i) refl;
-    tail = λ b h.
-        let n : rowsEnd t (usedOf t) + (b - rowsEnd t (usedOf t)) ≡ b = omega arith in
-        rw (← n) (sym (drop-drop (b - rowsEnd t (usedOf t)) (rowsEnd t (usedOf t)) v) ∙ ap (drop (b - rowsEnd t (usedOf t))) (only .rest) ∙ drop-drop (b - rowsEnd t (usedOf t)) (rowsEnd t (usedOf t)) t);
+    tail = λ b h. drop-more (rowsEnd t (usedOf t)) b v t h (only .rest);
   }
 
   long : (i : ℕ) → Within (usedOf t) i → has r i ≡ true → length (rowBytes u i) ≡ rowLength t
