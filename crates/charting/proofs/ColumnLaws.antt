@@ -50,16 +50,16 @@ no-gap : (n N : ℕ) (held : ℕ → Bool) (j : ℕ) → covers n N held j ≡ n
 unfolding touches covers
 no-gap n N held j =
     every-ext N _ (λ k. not (not (held k) && eqb j (columnOf n k))) (λ k w. one (held k) (eqb j (columnOf n k)))
-    ∙ twice-not (every N (λ k. not (not (held k) && eqb j (columnOf n k))))
+    ∙ not-twice (every N (λ k. not (not (held k) && eqb j (columnOf n k))))
     ∙ ap not (not-every N (λ k. not (held k) && eqb j (columnOf n k)))
   where
     one : (a b : Bool) → (a || not b) ≡ not (not a && b)
     one true b = refl
     one false b = refl
 
-    twice-not : (a : Bool) → a ≡ not (not a)
-    twice-not true = refl
-    twice-not false = refl
+    not-twice : (a : Bool) → a ≡ not (not a)
+    not-twice true = refl
+    not-twice false = refl
 
 column-in : (n k : ℕ) → 1 ≤ n → Within n (columnOf n k)
 unfolding columnOf
@@ -74,8 +74,8 @@ column-next : (n k : ℕ) → columnOf n (n + suc k) ≡ columnOf n (suc k)
 unfolding columnOf
 column-next n k = let z : n + suc k - 1 ≡ suc k - 1 + n = omega arith in rw (z, add-mod-right (suc k - 1) n)
 
--- ---- a smallest write quorum: it touches every column, has a whole one, and no other column has two members
-pub record Slim (n N : ℕ) (held : ℕ → Bool) : Type 0 where
+-- ---- a smallest write quorum by its columns: it touches every one, has a whole one, and where a column has two members no other is whole
+pub record Minimal (n N : ℕ) (held : ℕ → Bool) : Type 0 where
   pub all : every n (touches n N held) ≡ true
   pub one : some n (covers n N held) ≡ true
   pub few : (i j : ℕ) → Within n i → Within n j → covers n N held i ≡ true → twice n N held j ≡ true → i ≡ j
@@ -100,9 +100,9 @@ module _ (g : Grid) (N : ℕ) (held : ℕ → Bool) (some-column : 1 ≤ g .cols
   unfolding losing
   stays k i d h = rw (h, ne-eqb i k (λ e. d (ap (columnOf (g .cols)) e)))
 
-  pub slim-smallest : Slim (g .cols) N held → smallest g N held ≡ true
+  pub minimal-smallest : Minimal (g .cols) N held → smallest g N held ≡ true
   unfolding quorum writeQuorum readQuorum
-  slim-smallest s = smallest-of g N held (and-i _ _ (and-i _ _ (le-leb 1 (g .cols) some-column) (s .all)) (s .one)) (λ k w h. same-test _ false (λ q.
+  minimal-smallest s = smallest-of g N held (and-i _ _ (and-i _ _ (le-leb 1 (g .cols) some-column) (s .all)) (s .one)) (λ k w h. same-test _ false (λ q.
       let j = columnOf (g .cols) k in
       let r = some-at (g .cols) _ (and-r (readQuorum g N (losing held k)) _ q) in
       let two : twice (g .cols) N held j ≡ true = sym (loses k w h) ∙ every-at (g .cols) _ (and-r (leb 1 (g .cols)) _ (and-l _ _ q)) j (column-in (g .cols) k some-column) in
@@ -111,9 +111,9 @@ module _ (g : Grid) (N : ℕ) (held : ℕ → Bool) (some-column : 1 ≤ g .cols
       sym (lost held k) ∙ covered g N (losing held k) k w (rw e at (r .2)))
       (λ e. absurd (clash e)))
 
-  pub smallest-slim : smallest g N held ≡ true → Slim (g .cols) N held
+  pub smallest-minimal : smallest g N held ≡ true → Minimal (g .cols) N held
   unfolding quorum writeQuorum readQuorum
-  smallest-slim e = record { all = all; one = and-r (readQuorum g N held) _ q; few = few }
+  smallest-minimal e = record { all = all; one = and-r (readQuorum g N held) _ q; few = few }
     where
       q : quorum Write g N held ≡ true
       q = smallest-writes g N held e
@@ -161,16 +161,19 @@ alone p e i w h = go (ℕ-discrete i (lowest 64 p))
     go (yes q) = q
     go (no d) = absurd (clash (sym (none-at 64 _ e i w) ∙ rw (h, ne-eqb i (lowest 64 p) d)))
 
+-- what the code asks of them: the columns with two members and the whole ones are one column, if there is one with two
+abbrev pub asked : ℕ → (ℕ → Bool) → (ℕ → Bool) → (ℕ → Bool) → Bool
+asked n t w h = every n t && (some 64 h && (not (some 64 w) || not (some 64 (losing (joining w h) (lowest 64 (joining w h))))))
+
 module _ (g : Grid) (N : ℕ) (held : ℕ → Bool) (some-column : 1 ≤ g .cols) (columns : g .cols ≤ 64) (t w h : ℕ → Bool) (c : ColumnsOf t w h (g .cols) N held) where
-  -- a smallest write quorum by its columns
-  pub by-columns : (every (g .cols) t && (some 64 h && (not (some 64 w) || not (some 64 (losing (joining w h) (lowest 64 (joining w h))))))) ≡ smallest g N held
+  pub by-columns : asked (g .cols) t w h ≡ smallest g N held
   unfolding joining
-  by-columns = same-test _ _ (λ e. slim-smallest g N held some-column (to e)) (λ e. from (smallest-slim g N held some-column e))
+  by-columns = same-test _ _ (λ e. minimal-smallest g N held some-column (to e)) (λ e. from (smallest-minimal g N held some-column e))
     where
       both : ℕ → Bool
       both = joining w h
 
-      to : (every (g .cols) t && (some 64 h && (not (some 64 w) || not (some 64 (losing both (lowest 64 both)))))) ≡ true → Slim (g .cols) N held
+      to : asked (g .cols) t w h ≡ true → Minimal (g .cols) N held
       to e = record {
         all = sym (every-ext (g .cols) t _ (c .touched)) ∙ and-l _ _ e;
         one = let r = some-at 64 h (and-l _ _ e′) in let v = c .inside (r .0) (or-r (w (r .0)) _ (r .2)) in some-of (g .cols) _ (r .0) v (sym (c .whole (r .0) v) ∙ r .2);
@@ -183,7 +186,7 @@ module _ (g : Grid) (N : ℕ) (held : ℕ → Bool) (some-column : 1 ≤ g .cols
           e′ : (some 64 h && (not (some 64 w) || not (some 64 (losing both (lowest 64 both))))) ≡ true
           e′ = and-r (every (g .cols) t) _ e
 
-      from : Slim (g .cols) N held → (every (g .cols) t && (some 64 h && (not (some 64 w) || not (some 64 (losing both (lowest 64 both)))))) ≡ true
+      from : Minimal (g .cols) N held → asked (g .cols) t w h ≡ true
       from s = and-i _ _ (every-ext (g .cols) t _ (c .touched) ∙ s .all) (and-i _ _ (some-of 64 h i (omega (arith, r .1)) (c .whole i (r .1) ∙ r .2)) (go (some 64 w) refl))
         where
           r : (i : ℕ) × Within (g .cols) i × (covers (g .cols) N held i ≡ true)
@@ -263,7 +266,7 @@ module _ (n : ℕ) (held rest : ℕ → Bool) (shift : (k : ℕ) → 1 ≤ k →
 
 module _ (n N : ℕ) (held rest : ℕ → Bool) (shift : (k : ℕ) → 1 ≤ k → rest k ≡ held (n + k)) (few : n ≤ 64) (short : N ≤ 64) where
   -- where the first row has a position
-  abbrev pub seats : ℕ → Bool
+  abbrev seats : ℕ → Bool
   seats = cutTo (firstRows N) (firstRows n)
 
   seat-is : (j : ℕ) → Within n j → seats j ≡ leb j N

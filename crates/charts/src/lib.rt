@@ -96,12 +96,8 @@ fn draw_row(list: &mut [u8], from: usize, start: u64, g: Grid, members: usize) -
     let mut at = from;
     let mut set = start;
     while set < end {
-        at = enter(
-            list,
-            at,
-            set,
-            is_smallest(g, members, RowSet { bits: set }, above),
-        );
+        let wanted = is_smallest(g, members, RowSet { bits: set }, above);
+        at = enter(list, at, set, wanted);
         set += 1;
     }
     at

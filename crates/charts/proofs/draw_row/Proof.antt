@@ -44,8 +44,8 @@ loop-holds c = (omega arith, omega arith, ap (λ (m : ℕ). c .before .before .b
 
 is-smallest-requires : tie.Need-is-smallest-requires Inv-loop μ-loop
 is-smallest-requires c κs =
-    let l = c .before .before .loop in
-    let d = c .before .before .before .before in
+    let l = c .before .loop in
+    let d = c .before .before .before in
     let p = d .before .before in
     let e : l .set / 2 ^ p .args .g .cols ≡ p .args .start / 2 ^ p .args .g .cols = same-block _ _ (l .set) (p .pre .4) (l .inv .0) (omega arith) in
     (p .pre .0, omega arith, rw e (d .columns-above .ensures))
@@ -54,7 +54,7 @@ enter-requires : tie.Need-enter-requires Inv-loop μ-loop
 enter-requires c κs w =
     let l = c .before .before .before .loop in
     let p = c .before .before .before .before .before .before .before in
-    omega (arith, draw-room (p .args .g) (p .args .members) (l .set) (l .at) (l .inv .4) (p .pre .2) (omega (arith, p .pre .5)) (sym (c .is-smallest .ensures) ∙ w))
+    omega (arith, draw-room (p .args .g) (p .args .members) (l .set) (l .at) (l .inv .4) (p .pre .2) (omega (arith, p .pre .5)) (sym (c .before .is-smallest .ensures) ∙ w))
 
 add-set : tie.Need-add-set Inv-loop μ-loop
 add-set c =
@@ -66,7 +66,7 @@ loop-less c = search needs
 loop-again : tie.Need-loop-again Inv-loop μ-loop
 loop-again c =
     let e = c .before .before .enter in
-    let w = c .before .before .before .is-smallest .ensures in
+    let w = c .before .before .before .before .is-smallest .ensures in
     let l = c .before .before .before .before .before .before .loop in
     let a = c .before .before .before .before .before .before .before .before .before .before .args in (
       omega arith,

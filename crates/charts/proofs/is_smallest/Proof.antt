@@ -1,21 +1,20 @@
 use mathlib.Core.Path.{_≡_, sym, _∙_, ap}
-use mathlib.Core.Bool.{Bool, true, false, not, _&&_, _||_}
+use mathlib.Core.Bool.{Bool, true, false, not}
 use Prim.Native.Nat.{ℕ}
 use native.Mathlib.Omega.{arith}
 use borrow.Author.Needs.{needs}
 use borrow.Author.Tests.{not-true, not-false}
 use Rattle.sets.specs.Upto.{every, some, lowest}
-use Rattle.sets.specs.Sets.{has, losing, joining}
+use Rattle.sets.specs.Sets.{has, losing}
 use Rattle.charting.specs.Charts.{smallest}
-use Rattle.charting.proofs.ColumnLaws.{by-columns}
+use Rattle.charting.proofs.ColumnLaws.{asked, by-columns}
 use Rattle.charts.proofs.is_smallest.Statement.{statement}
 use Rattle.charts.proofs.is_smallest.Tie as tie
 
 -- what the columns of the set say
-asked : (c : tie.After-with-first) → let a = c .before .before .args in let r = c .with-first .result in let both = joining (has (r .twice .bits)) (has (r .whole .bits)) in
-    (every (a .g .cols) (has (r .touched .bits)) && (some 64 (has (r .whole .bits)) && (not (some 64 (has (r .twice .bits))) || not (some 64 (losing both (lowest 64 both))))))
-    ≡ smallest (a .g) (a .length) (has (a .set .bits))
-asked c =
+said : (c : tie.After-with-first) → let a = c .before .before .args in let r = c .with-first .result in
+    asked (a .g .cols) (has (r .touched .bits)) (has (r .twice .bits)) (has (r .whole .bits)) ≡ smallest (a .g) (a .length) (has (a .set .bits))
+said c =
     let p = c .before .before in
     by-columns (p .args .g) (p .args .length) (has (p .args .set .bits)) (p .pre .0 .some-column) (omega (arith, p .pre .0 .narrow)) _ _ _ (c .with-first .ensures)
 
@@ -40,7 +39,7 @@ fills-requires c κs = search needs
 
 returns : tie.Need-returns
 returns c =
-    let e : every _ _ ≡ false = sym (c .before .fills .ensures) ∙ not-true _ (c .if1 .taken) in rw e at (asked (c .before .before))
+    let e : every _ _ ≡ false = sym (c .before .fills .ensures) ∙ not-true _ (c .if1 .taken) in rw e at (said (c .before .before))
 
 is-empty-requires : tie.Need-is-empty-requires
 is-empty-requires c κs = search needs
@@ -49,7 +48,7 @@ returns-2 : tie.Need-returns-2
 returns-2 c =
     let l = c .before .before in
     let e : some 64 _ ≡ false = not-true _ (sym (c .before .is-empty .ensures) ∙ c .if2 .taken) in
-    rw (all l, e) at (asked (l .before .before))
+    rw (all l, e) at (said (l .before .before))
 
 is-empty-requires-2 : tie.Need-is-empty-requires-2
 is-empty-requires-2 c κs = search needs
@@ -58,7 +57,7 @@ returns-3 : tie.Need-returns-3
 returns-3 c =
     let l = c .before .before in
     let e : some 64 _ ≡ false = not-true _ (sym (c .before .is-empty2 .ensures) ∙ c .if3 .taken) in
-    rw (all (l .before .before), one l, e) at (asked (l .before .before .before .before))
+    rw (all (l .before .before), one l, e) at (said (l .before .before .before .before))
 
 joined-requires : tie.Need-joined-requires
 joined-requires c κs = search needs
@@ -75,7 +74,7 @@ returns-4 c =
     let o = l .before .before in
     c .is-empty3 .ensures
     ∙ ap (λ (s : ℕ → Bool). not (some 64 s)) (c .before .rest .ensures .0 ∙ ap (λ (s : ℕ → Bool). losing s (lowest 64 s)) (c .before .before .joined .ensures))
-    ∙ (rw (all (o .before .before), one o, two l) at (asked (o .before .before .before .before)))
+    ∙ (rw (all (o .before .before), one o, two l) at (said (o .before .before .before .before)))
 
 pub is-smallest-spec : {M : Type 1} → statement M
 is-smallest-spec =
