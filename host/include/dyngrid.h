@@ -1,6 +1,6 @@
 /* The dynamic grid: copies of one file on up to 64 machines, as a C program calls it.
  *
- * Link with libdyngrid.a; it needs nothing but memcpy and memset. Each call is one step over a table that the
+ * Link with libdyngrid.a; it needs nothing but memcpy, memmove and memset. Each call is one step over a table that the
  * caller owns (a chart needs none): it takes no memory, and returns for any bytes and any numbers. Who answered is the
  * caller's business.
  *

@@ -1,3 +1,4 @@
 pub mod Computed
 pub mod SmallestLaws
 pub mod ChartLaws
+pub mod ColumnLaws

@@ -35,11 +35,11 @@ module _ (g : Grid) (N : ℕ) where
   smallest-writes held e = and-l _ _ e
 
   -- and stops being one when any member is taken out
-  stops : (held : ℕ → Bool) → smallest g N held ≡ true → (k : ℕ) → Within N k → held k ≡ true → quorum Write g N (losing held k) ≡ false
+  pub stops : (held : ℕ → Bool) → smallest g N held ≡ true → (k : ℕ) → Within N k → held k ≡ true → quorum Write g N (losing held k) ≡ false
   unfolding smallest
   stops held e k w h = not-true _ (sym (rw h) ∙ every-at N _ (and-r (quorum Write g N held) _ e) k w)
 
-  smallest-of : (held : ℕ → Bool) → quorum Write g N held ≡ true → ((k : ℕ) → Within N k → held k ≡ true → quorum Write g N (losing held k) ≡ false) → smallest g N held ≡ true
+  pub smallest-of : (held : ℕ → Bool) → quorum Write g N held ≡ true → ((k : ℕ) → Within N k → held k ≡ true → quorum Write g N (losing held k) ≡ false) → smallest g N held ≡ true
   unfolding smallest
   smallest-of held q f = and-i (quorum Write g N held) _ q (every-of N _ (λ k w. go k w (held k) refl))
     where
@@ -77,7 +77,7 @@ lose-gain s k i h = go (eqb i k) refl (s i) refl
     go false e true f = rw f
     go false e false f = rw f
 
-lost : (s : ℕ → Bool) (k : ℕ) → losing s k k ≡ false
+pub lost : (s : ℕ → Bool) (k : ℕ) → losing s k k ≡ false
 unfolding losing
 lost s k = rw (eq-eqb k k refl) (go (s k))
   where
@@ -85,7 +85,7 @@ lost s k = rw (eq-eqb k k refl) (go (s k))
     go true = refl
     go false = refl
 
-lose-part : (s : ℕ → Bool) (k i : ℕ) → losing s k i ≡ true → s i ≡ true
+pub lose-part : (s : ℕ → Bool) (k i : ℕ) → losing s k i ≡ true → s i ≡ true
 unfolding losing
 lose-part s k i e = and-l _ _ e
 

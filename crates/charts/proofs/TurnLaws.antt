@@ -1,110 +1,113 @@
 -- One turn of each loop of the code, over plain variables.
 use mathlib.Core.Path.{_≡_, refl, sym, _∙_, ap}
-use mathlib.Core.Bool.{Bool, true, false, not, cond, _&&_, and-false}
+use mathlib.Core.Bool.{Bool, true, false, cond, and-false}
 use mathlib.Core.List.{List, [], _∷_, _++_}
-use Prim.Native.Nat.{ℕ, zero, suc, _+_, _-_, _*_, _/_, _^_, _≤_, _<_}
-use native.Mathlib.Nat.{zero-add, suc-add}
+use Prim.Native.Nat.{ℕ, zero, suc, _+_, _-_, _*_, _/_, _%_, _^_, _≤_, _<_}
+use native.Mathlib.Nat.{zero-add, suc-add, mod-eq-of-lt, mul-mod-left, mul-le-mul-right, add-mod-right, div-add-mod', div-div-eq-div-mul}
 use native.Mathlib.Numerals.{add-one}
+use native.Mathlib.Decide.{decLt}
 use native.Mathlib.Omega.{arith}
 use borrow.Author.Tests.{le-leb, lt-leb}
 use lib.Dec.{leb}
+use lib.Arith.{digits-div}
 use lib.ListN.{length, length-append}
-use Rattle.bools.proofs.BoolLaws.{and-i, clash, same-test}
-use Rattle.sets.specs.Upto.{Within, every, upward, keep}
-use Rattle.sets.specs.Sets.{has, losing}
-use Rattle.sets.proofs.TestLaws.{every-more, every-not}
+use lib.Pow.{pow-add}
+use Rattle.bools.proofs.BoolLaws.{clash, same-test}
+use Rattle.sets.specs.Upto.{upward, keep}
+use Rattle.sets.specs.Sets.{has}
 use Rattle.sets.proofs.KeepLaws.{keep-more}
 use Rattle.sets.proofs.RisingLaws.{upward-more}
 use Rattle.grid.specs.declared.Grid.{Grid}
 use Rattle.grid.specs.Sizes.{markFits}
-use Rattle.quorums.specs.declared.Kind.the-variants.{Write}
-use Rattle.quorums.specs.Quorums.{quorum}
 use Rattle.bytes.specs.Bytes.{bytesOf, put}
 use Rattle.bytes.proofs.ByteLaws.{put-more}
 use Rattle.charting.specs.Charts.{smallest, chart, inPlaces, hasChart}
 use Rattle.charting.proofs.Computed.{chart-mark}
-use Rattle.charting.proofs.ChartLaws.{places-length, places-more}
+use Rattle.charting.proofs.ChartLaws.{chartTo, places-length, places-more}
 
--- ---- is_smallest
--- what `holds` answers for a list of at most 64
-pub held-is : (g : Grid) (N : ℕ) (s : ℕ → Bool) {b : Bool} → N ≤ 64 → b ≡ (leb N 64 && quorum Write g N s) → quorum Write g N s ≡ b
-held-is g N s few e = sym (e ∙ rw (le-leb N 64 few))
+-- ---- columns_above
+-- a set without its first a positions, and without n more
+pub shift-more : (s a n : ℕ) → s / 2 ^ a / 2 ^ n ≡ s / 2 ^ (a + n)
+shift-more s a n = rw (div-div-eq-div-mul s (2 ^ a) (2 ^ n), pow-add 2 a n)
 
-module _ (g : Grid) (N : ℕ) (s : ℕ → Bool) where
-  -- no write quorum is left without k, if k is a member
-  abbrev pub needs-it : ℕ → Bool
-  needs-it k = not (s k && quorum Write g N (losing s k))
+-- a multiple of n, one n less
+pub multiple-less : (n x : ℕ) → n ≤ x → x % n ≡ 0 → (x - n) % n ≡ 0
+multiple-less n x h e = let z : x - n + n ≡ x = omega arith in sym (add-mod-right (x - n) n) ∙ ap (λ (y : ℕ). y % n) z ∙ e
 
-  pub no-quorum : quorum Write g N s ≡ false → false ≡ smallest g N s
-  unfolding smallest
-  no-quorum e = rw e
+pub multiple-last : (n x : ℕ) → x % n ≡ 0 → 1 ≤ x → x ≤ n → x ≡ n
+multiple-last n x e some l = go (decLt x n)
+  where
+    go : Dec (x < n) → x ≡ n
+    go (yes h) = absurd (omega (arith, mod-eq-of-lt h))
+    go (no h) = omega arith
 
-  pub one-spared : (k : ℕ) → Within N k → s k ≡ true → quorum Write g N (losing s k) ≡ true → false ≡ smallest g N s
-  unfolding smallest
-  one-spared k w h q =
-      let e : every N needs-it ≡ false = sym (every-not needs-it N k w (rw (h, q))) in
-      rw e (sym (and-false (quorum Write g N s)))
+-- ---- draw_row: the sets from a multiple of m on, m of them, have the same rows above the first
+pub same-block : (m start x : ℕ) → start % m ≡ 0 → start ≤ x → x < start + m → x / m ≡ start / m
+same-block m start x e l h =
+    let z : x ≡ start / m * m + (x - start) = omega (arith, div-add-mod' start m) in
+    let q : x - start < m = omega arith in ap (λ (y : ℕ). y / m) z ∙ digits-div (start / m) q
 
-  pub no-member : (k : ℕ) → every k needs-it ≡ true → s (k + 1) ≡ false → every (k + 1) needs-it ≡ true
-  no-member k e h = every-more needs-it k e (rw h)
+-- the next multiple of m
+pub next-block : (m x y : ℕ) → x % m ≡ 0 → y % m ≡ 0 → x < y → x + m ≤ y
+next-block m x y e f h = go (decLt (x / m) (y / m))
+  where
+    go : Dec (x / m < y / m) → x + m ≤ y
+    go (yes l) = omega (arith, div-add-mod' x m, div-add-mod' y m, mul-le-mul-right {m = suc (x / m)} {n = y / m} m l)
+    go (no l) = let q : y / m ≤ x / m = omega arith in absurd (omega (arith, div-add-mod' x m, div-add-mod' y m, mul-le-mul-right {m = y / m} {n = x / m} m q))
 
-  pub needed : (k : ℕ) → every k needs-it ≡ true → quorum Write g N (losing s (k + 1)) ≡ false → every (k + 1) needs-it ≡ true
-  needed k e q = every-more needs-it k e (rw (q, and-false (s (k + 1))))
-
-  pub none-spared : quorum Write g N s ≡ true → every N needs-it ≡ true → true ≡ smallest g N s
-  unfolding smallest
-  none-spared q e = sym (and-i (quorum Write g N s) _ q e)
+pub power-multiple : (n N : ℕ) → n ≤ N → 2 ^ N % 2 ^ n ≡ 0
+power-multiple n N h =
+    let z : N ≡ N - n + n = omega arith in ap (λ (x : ℕ). 2 ^ x % 2 ^ n) z ∙ rw (pow-add 2 (N - n) n) (mul-mod-left (2 ^ (N - n)) (2 ^ n))
 
 -- ---- draw: the chart as far as the sets below n
 module _ (g : Grid) (N : ℕ) where
-  pub chartTo : ℕ → List ℕ
-  chartTo n = keep (λ x. smallest g N (has x)) (upward n 0)
-
-  pub chart-turn : (n : ℕ) → chartTo (n + 1) ≡ cond (smallest g N (has n)) (chartTo n ++ (n ∷ [])) (chartTo n)
+  pub chart-turn : (n : ℕ) → chartTo g N (n + 1) ≡ cond (smallest g N (has n)) (chartTo g N n ++ (n ∷ [])) (chartTo g N n)
   unfolding chartTo
   chart-turn n =
       ap (λ (k : ℕ). keep (λ x. smallest g N (has x)) (upward k 0)) (add-one n)
       ∙ ap (keep (λ x. smallest g N (has x))) (upward-more n 0 ∙ rw (zero-add n))
       ∙ keep-more (λ x. smallest g N (has x)) (upward n 0) n
 
-  chart-grows : (n k : ℕ) → length (chartTo n) ≤ length (chartTo (k + n))
+  chart-grows : (n k : ℕ) → length (chartTo g N n) ≤ length (chartTo g N (k + n))
   chart-grows n zero = rw (zero-add n) (omega arith)
   chart-grows n (suc k) = go (smallest g N (has (k + n))) refl (chart-grows n k)
     where
-      next : chartTo (suc k + n) ≡ cond (smallest g N (has (k + n))) (chartTo (k + n) ++ ((k + n) ∷ [])) (chartTo (k + n))
-      next = ap chartTo (suc-add k n ∙ sym (add-one (k + n))) ∙ chart-turn (k + n)
+      next : chartTo g N (suc k + n) ≡ cond (smallest g N (has (k + n))) (chartTo g N (k + n) ++ ((k + n) ∷ [])) (chartTo g N (k + n))
+      next = ap (chartTo g N) (suc-add k n ∙ sym (add-one (k + n))) ∙ chart-turn (k + n)
 
-      go : (b : Bool) → smallest g N (has (k + n)) ≡ b → length (chartTo n) ≤ length (chartTo (k + n)) → length (chartTo n) ≤ length (chartTo (suc k + n))
-      go true e ih = rw (next, e) (omega (arith, length-append (chartTo (k + n)) ((k + n) ∷ [])))
+      go : (b : Bool) → smallest g N (has (k + n)) ≡ b → length (chartTo g N n) ≤ length (chartTo g N (k + n)) → length (chartTo g N n) ≤ length (chartTo g N (suc k + n))
+      go true e ih = rw (next, e) (omega (arith, length-append (chartTo g N (k + n)) ((k + n) ∷ [])))
       go false e ih = rw (next, e) ih
 
   -- a set that is entered is one of the chart, so there is a place for it
-  pub draw-room : (n at : ℕ) → at ≡ 2 * length (chartTo n) → length (chart g N) ≤ 64 → n < 2 ^ N → smallest g N (has n) ≡ true → at + 2 ≤ 128
+  pub draw-room : (n at : ℕ) → at ≡ 2 * length (chartTo g N n) → length (chart g N) ≤ 64 → n < 2 ^ N → smallest g N (has n) ≡ true → at + 2 ≤ 128
   unfolding chart chartTo
   draw-room n at so few h e =
       let l = chart-grows (n + 1) (2 ^ N - (n + 1)) in
       let q : 2 ^ N - (n + 1) + (n + 1) ≡ 2 ^ N = omega arith in
-      let t : chartTo (n + 1) ≡ chartTo n ++ (n ∷ []) = chart-turn n ∙ rw e in
-      omega (arith, ap length t, length-append (chartTo n) (n ∷ []), (rw q at l))
+      let t : chartTo g N (n + 1) ≡ chartTo g N n ++ (n ∷ []) = chart-turn n ∙ rw e in
+      omega (arith, ap length t, length-append (chartTo g N n) (n ∷ []), (rw q at l))
 
-  pub draw-turn : (n at : ℕ) → at ≡ 2 * length (chartTo n) → (xs list : List ℕ) (w : Bool) → w ≡ smallest g N (has n) → list ≡ put 0 (inPlaces (chartTo n)) xs
-      → (cond w (at + 2) at ≡ 2 * length (chartTo (n + 1))) × (cond w (put at (bytesOf 2 n) list) list ≡ put 0 (inPlaces (chartTo (n + 1))) xs)
-  draw-turn n at so xs list true e so-far =
-      let t : chartTo (n + 1) ≡ chartTo n ++ (n ∷ []) = chart-turn n ∙ rw (← e) in
-      let z : at ≡ length (inPlaces (chartTo n)) = so ∙ sym (places-length (chartTo n)) in (
-        omega (arith, ap length t, length-append (chartTo n) (n ∷ [])),
-        rw (z, so-far, t, places-more (chartTo n) n) (put-more (inPlaces (chartTo n)) (bytesOf 2 n) xs),
-      )
-  draw-turn n at so xs list false e so-far = let t : chartTo (n + 1) ≡ chartTo n = chart-turn n ∙ rw (← e) in (rw t so, rw t so-far)
+  pub at-turn : (n at : ℕ) → at ≡ 2 * length (chartTo g N n) → (w : Bool) → w ≡ smallest g N (has n) → cond w (at + 2) at ≡ 2 * length (chartTo g N (n + 1))
+  at-turn n at so true e = let t : chartTo g N (n + 1) ≡ chartTo g N n ++ (n ∷ []) = chart-turn n ∙ rw (← e) in omega (arith, ap length t, length-append (chartTo g N n) (n ∷ []))
+  at-turn n at so false e = let t : chartTo g N (n + 1) ≡ chartTo g N n = chart-turn n ∙ rw (← e) in rw t so
 
-  pub draw-start : (xs : List ℕ) → (0 ≡ 2 * length (chartTo 0)) × (xs ≡ put 0 (inPlaces (chartTo 0)) xs)
+  pub list-turn : (n at : ℕ) → at ≡ 2 * length (chartTo g N n) → (w : Bool) → w ≡ smallest g N (has n) → (xs list : List ℕ) → list ≡ put 0 (inPlaces (chartTo g N n)) xs
+      → cond w (put at (bytesOf 2 n) list) list ≡ put 0 (inPlaces (chartTo g N (n + 1))) xs
+  list-turn n at so true e xs list so-far =
+      let t : chartTo g N (n + 1) ≡ chartTo g N n ++ (n ∷ []) = chart-turn n ∙ rw (← e) in
+      let z : at ≡ length (inPlaces (chartTo g N n)) = so ∙ sym (places-length (chartTo g N n)) in
+      rw (z, so-far, t, places-more (chartTo g N n) n) (put-more (inPlaces (chartTo g N n)) (bytesOf 2 n) xs)
+  list-turn n at so false e xs list so-far = let t : chartTo g N (n + 1) ≡ chartTo g N n = chart-turn n ∙ rw (← e) in rw t so-far
+
+  pub draw-start : (xs : List ℕ) → (0 ≡ 2 * length (chartTo g N 0)) × (xs ≡ put 0 (inPlaces (chartTo g N 0)) xs)
   unfolding chartTo upward keep inPlaces put
   draw-start xs = (refl, refl)
 
-  pub draw-end : (n at : ℕ) → n ≡ 2 ^ N → at ≡ 2 * length (chartTo n) → (xs list : List ℕ) → list ≡ put 0 (inPlaces (chartTo n)) xs
+  pub draw-end : (n at : ℕ) → n ≡ 2 ^ N → at ≡ 2 * length (chartTo g N n) → (xs list : List ℕ) → list ≡ put 0 (inPlaces (chartTo g N n)) xs
       → (at / 2 ≡ length (chart g N)) × (list ≡ put 0 (inPlaces (chart g N)) xs)
   unfolding chart chartTo
-  draw-end n at e so xs list so-far = let t : chartTo n ≡ chart g N = ap chartTo e in (omega (arith, ap length t), so-far ∙ ap (λ (l : List ℕ). put 0 (inPlaces l) xs) t)
+  draw-end n at e so xs list so-far = let t : chartTo g N n ≡ chart g N = ap (chartTo g N) e in (omega (arith, ap length t), so-far ∙ ap (λ (l : List ℕ). put 0 (inPlaces l) xs) t)
 
 -- ---- has_chart: each way out
 module _ (N mark : ℕ) where

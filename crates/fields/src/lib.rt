@@ -211,7 +211,7 @@ pub fn patch(row: &mut [u8], offset: usize, bytes: &[u8])
 {
     let at = HEAD + offset;
     let end = at + bytes.len();
-    bytes::copy(&mut row[at..end], bytes);
+    copying::copy(&mut row[at..end], bytes);
 }
 
 // Bytes of the contents copied out, from an offset on.
@@ -221,5 +221,5 @@ pub fn copy_out(row: &[u8], offset: usize, to: &mut [u8])
 {
     let from = HEAD + offset;
     let end = from + to.len();
-    bytes::copy(to, &row[from..end]);
+    copying::copy(to, &row[from..end]);
 }

@@ -75,13 +75,13 @@ one-lost t b r x a c =
     checks-by-book t b r a (c .passes) ∙ rw (q, c .current, or-true (eqb (a .r) (b .inForce .members)))
 
 -- ---- four machines, just founded: the fourth is lost
-unfoldable fourMachines : Founding
+unfoldable pub fourMachines : Founding
 fourMachines = record { capacity = 4; fileLength = 1; names = 10 ∷ 0 ∷ 20 ∷ 0 ∷ 30 ∷ 0 ∷ 40 ∷ 0 ∷ []; choice = 0 }
 
-blank : List ℕ
+pub blank : List ℕ
 blank = zeros (16 + 4 * stride 1)
 
-founds : outcome blank (founding fourMachines) .refusal ≡ 0
+pub founds : outcome blank (founding fourMachines) .refusal ≡ 0
 unfolding fourMachines blank questions firstNo namesIn namesRising between
 founds = refusal-is blank (founding fourMachines) ∙ rw (eq-eqb (length (zeros (16 + 4 * stride 1))) (16 + 4 * stride 1) (length-zeros (16 + 4 * stride 1)))
 

@@ -5,7 +5,8 @@ use mathlib.Core.List.{List}
 use Prim.Native.Nat.{ℕ, zero, suc, _+_, _^_, _≤_, _<_}
 use native.Mathlib.Omega.{arith}
 use lib.Dec.{eqb, ltb}
-use borrow.Author.Tests.{eqb-true, ltb-true}
+use lib.ListN.{length}
+use borrow.Author.Tests.{eqb-true, ne-eqb, ltb-true}
 use Rattle.sets.specs.Sets.{has}
 use Rattle.bools.proofs.BoolLaws.{clash}
 use Rattle.quorums.specs.declared.Kind.the-variants.{Read, Write}
@@ -26,7 +27,7 @@ use Rattle.protocol.proofs.PollLaws.{worked-in}
 use Rattle.protocol.proofs.QuestionLaws.{refusal-is, when-done, when-refused, join-yes, read-yes, write-yes, send-yes, CheckYes, check-yes}
 use Rattle.protocol.proofs.DoneLaws.{version-small, epoch-small, Leaves, writeTable, write-leaves, sendTable, send-leaves, checkTable, check-leaves}
 use Rattle.protocol.proofs.KeepLaws.{write-formed, send-formed}
-use Rattle.protocol.proofs.FoundedLaws.{founds-of, founded-formed}
+use Rattle.protocol.proofs.FoundedLaws.{founds-of, founded-used, founded-formed}
 
 -- ---- the questions' numbers, in their order
 pub put-in-order : Claims.PutInOrder
@@ -69,8 +70,21 @@ pub refusal-alters-nothing : Claims.RefusalAltersNothing
 unfolding Claims.RefusalAltersNothing
 refusal-alters-nothing t k d = let w = when-refused t k d in record { value = w .0; table = w .1; buffer = w .2 }
 
+pub buffer-stays : Claims.BufferStays
+unfolding Claims.BufferStays Calls.lent
+buffer-stays t a d = when-refused t (read a) d .2
+
+pub other-lengths-stay : Claims.OtherLengthsStay
+unfolding Claims.OtherLengthsStay Calls.noted
+other-lengths-stay bytes n d = rw (ne-eqb (length bytes) 1 d)
+
+-- ---- a founding's value
+pub founding-counts : Claims.FoundingCounts
+unfolding Claims.FoundingCounts done
+founding-counts t a h = rw (when-done t (founding a) h) (sym (founded-used a (founds-of t a (sym (refusal-is t (founding a)) ∙ h))))
+
 -- ---- demand 1: a done call alters only rows that answered
-only-none : (r : ℕ) (t : List ℕ) → Claims.OnlyRowsOf r t t
+pub only-none : (r : ℕ) (t : List ℕ) → Claims.OnlyRowsOf r t t
 only-none r t = record { bytes = refl; header = refl; rows = λ i w m. refl; rest = refl }
 
 only-leaves : {t u : List ℕ} {s : ℕ → Bool} (r : ℕ) → ((i : ℕ) → s i ≡ true → has r i ≡ true) → Leaves t u s → Claims.OnlyRowsOf r t u

@@ -41,7 +41,7 @@ chain-ext n f g h (suc m) (suc i) l =
     ap (λ (x : List ℕ). suc i ∷ x) (chain-ext n f g h m (f (suc i)) (q .1) ∙ ap (chain g m) (q .0))
 
 -- a part of the header is read in the header
-head-part : (a n : ℕ) (xs : List ℕ) → a + n ≤ 16 → part a n (take 16 xs) ≡ part a n xs
+pub head-part : (a n : ℕ) (xs : List ℕ) → a + n ≤ 16 → part a n (take 16 xs) ≡ part a n xs
 unfolding part
 head-part a n xs h = whole ∙ ap (λ (x : ℕ). part x n xs) (zero-add a)
   where

@@ -16,7 +16,7 @@ use Rattle.joining.specs.Claims.{OneMore}
 use Rattle.asking.specs.Asking.{Question}
 use Rattle.protocol.specs.Lists.{seats, listQuorum, listChoice}
 use Rattle.protocol.specs.Polls.{Poll, highestEpoch, inForce, quorumHeld, workedOn}
-use Rattle.protocol.specs.Calls.{Founding, Reading, Writing, Sending, Checking, Joining, Call, founding, join, read, write, send, check, Outcome, resultOf, questions, lent, outcome}
+use Rattle.protocol.specs.Calls.{Founding, Reading, Writing, Sending, Checking, Joining, Call, founding, join, read, write, send, check, Outcome, resultOf, questions, noted, lent, outcome}
 
 -- "In this order, each to the calls it names (2 and 3 to all but founding)" and joining: the numbers of the questions put to a call
 unfoldable pub numbersPut : Call → List ℕ
@@ -47,6 +47,18 @@ pub record Untouched (t : List ℕ) (k : Call) (o : Outcome) : Type 0 where
 
 unfoldable pub RefusalAltersNothing : Type 0
 RefusalAltersNothing = (t : List ℕ) (k : Call) → (outcome t k .refusal ≡ 0 → ⊥) → Untouched t k (outcome t k)
+
+-- ".. alters no byte of .. a read's buffer": as it was lent
+unfoldable pub BufferStays : Type 0
+BufferStays = (t : List ℕ) (a : Reading) → (outcome t (read a) .refusal ≡ 0 → ⊥) → outcome t (read a) .buffer ≡ a .buffer
+
+-- "In C it is a list of one byte; one of another length is left alone"
+unfoldable pub OtherLengthsStay : Type 0
+OtherLengthsStay = (bytes : List ℕ) (n : ℕ) → (length bytes ≡ 1 → ⊥) → noted bytes n ≡ bytes
+
+-- "Founding: value is the rows used."
+unfoldable pub FoundingCounts : Type 0
+FoundingCounts = (t : List ℕ) (a : Founding) → outcome t (founding a) .refusal ≡ 0 → outcome t (founding a) .value ≡ usedOf (outcome t (founding a) .table)
 
 -- the call has an answering set R: every call but founding and joining
 pub data Answering : Call → ℕ → Type 0 where

@@ -1,1 +1,4 @@
 pub mod RelayLaws
+pub mod EnoughLaws
+pub mod EnoughMet
+pub mod ShippingLaws

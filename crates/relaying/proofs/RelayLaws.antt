@@ -1,28 +1,30 @@
 -- The table that a relay puts together says of the rows that answered what the whole table says.
-use mathlib.Core.Path.{_≡_, refl, sym, _∙_, ap}
+use mathlib.Core.Path.{_≡_, refl, sym, _∙_, ap, ap₂}
 use mathlib.Core.Bool.{Bool, true, false, not, cond}
-use mathlib.Core.List.{List, _++_}
-use Prim.Native.Nat.{ℕ, zero, suc, _≤_, _<_}
+use mathlib.Core.List.{List}
+use Prim.Native.Nat.{ℕ, zero, suc, _+_, _-_, _*_, _≤_, _<_}
 use native.Mathlib.Decide.{decLe}
 use native.Mathlib.Omega.{arith}
-use lib.ListN.{length, take}
-use borrow.Author.Tests.{not-true, not-false}
+use lib.ListN.{length, drop, length-drop}
+use lib.Seq.{drop-drop}
+use borrow.Author.Tests.{eqb-true}
 use Rattle.bools.proofs.BoolLaws.{clash}
 use Rattle.sets.specs.Upto.{Within}
 use Rattle.sets.specs.Sets.{has}
 use Rattle.blocks.specs.Blocks.{block}
+use Rattle.blocks.proofs.BlockLaws.{Altered, blocks-changed, alike}
 use Rattle.bytes.specs.Bytes.{bytesOf, part, zeros}
-use Rattle.bytes.proofs.ByteLaws.{length-zeros}
-use Rattle.fields.specs.Layout.{get, link, epoch, list, isEmpty, isTall, bodyLength, stride, fileLengthOf, rowLength, usedOf, nameOf, linkOf, listOf, rowBytes}
-use Rattle.table.specs.WellFormed.{wellFormed}
+use Rattle.bytes.proofs.ByteLaws.{length-zeros, zeros-are}
+use Rattle.fields.specs.Layout.{get, capacity, link, epoch, list, isEmpty, isTall, bodyLength, stride, capacityOf, fileLengthOf, rowLength, rowsEnd, usedOf, nameOf, linkOf, listOf, rowBytes, withRows}
+use Rattle.table.specs.WellFormed.{lengthRight, unusedZero, wellFormed}
 use Rattle.table.proofs.FormLaws.{RowFacts, OneList, OneShape, Formed, formed, well-formed-of, rows-room, header-facts}
-use Rattle.table.proofs.TableLaws.{Changed, behind, many-rows}
+use Rattle.table.proofs.TableLaws.{Changed, behind, like-length, many-rows}
 use Rattle.joining.proofs.RowLaws.{new-name, new-link, new-list, new-facts}
 use Rattle.protocol.proofs.FrameLaws.{Frame, frame-of, same-used, same-header, same-long, same-visits, same-rise, zero-stays}
 use Rattle.protocol.specs.Claims.{EqualIn}
-use Rattle.protocol.proofs.Unanswered.{unanswered-have-no-part}
+use Rattle.protocol.proofs.Unanswered.{header, get-same, used-same, file-same, unanswered-have-no-part}
 use Rattle.protocol.specs.Claims.{UnansweredHaveNoPart}
-use Rattle.relaying.specs.Relaying.{blankRow, blanked, BlankedEqual, OthersBlank, BlankedAnswers}
+use Rattle.relaying.specs.Relaying.{blankRow, blanked, BlankedEqual, OthersBlank, BlankedAlike, BlankedAnswers}
 
 module _ (t : List ℕ) (r : ℕ) (e : wellFormed t ≡ true) where
   w : Formed t
@@ -127,6 +129,54 @@ blanked-equal t r e = record {
 pub others-blank : OthersBlank
 unfolding OthersBlank blankRow body nameOf linkOf
 others-blank t r i e u m = blank t r e i u m
+
+-- ---- two tables that are equal in R
+-- what is the same behind e is so behind any later place
+pub drop-more : (e b : ℕ) (xs ys : List ℕ) → e ≤ b → drop e xs ≡ drop e ys → drop b xs ≡ drop b ys
+drop-more e b xs ys h q =
+    let n : e + (b - e) ≡ b = omega arith in
+    rw (← n) (sym (drop-drop (b - e) e xs) ∙ ap (drop (b - e)) q ∙ drop-drop (b - e) e ys)
+
+module _ {r : ℕ} {t u : List ℕ} (E : EqualIn r t u) where
+  widths : rowLength u ≡ rowLength t
+  unfolding rowLength
+  widths = ap stride (file-same E)
+
+  lengths : length u ≡ length t
+  unfolding lengthRight rowsEnd capacityOf capacity
+  lengths = eqb-true _ _ (formed u (E .formed-too) .long) ∙ ap₂ (λ (k w : ℕ). 16 + k * w) (get-same E capacity (omega arith)) widths ∙ sym (eqb-true _ _ (formed t (E .formed) .long))
+
+  ends : rowsEnd u (usedOf u) ≡ rowsEnd t (usedOf t)
+  unfolding rowsEnd
+  ends = rw (used-same E, widths)
+
+  -- behind the used rows both are zero
+  rest : drop (rowsEnd t (usedOf t)) u ≡ drop (rowsEnd t (usedOf t)) t
+  unfolding unusedZero
+  rest =
+      let e = rowsEnd t (usedOf t) in
+      zeros-are (drop e u) (rw (← ends) (formed u (E .formed-too) .zero)) ∙ ap zeros (length-drop e u ∙ ap (λ (n : ℕ). n - e) lengths ∙ sym (length-drop e t))
+      ∙ sym (zeros-are (drop e t) (formed t (E .formed) .zero))
+
+  row-alike : (i : ℕ) → Within (usedOf t) i → (b : Bool) → has r i ≡ b → rowBytes (blanked r u) i ≡ cond (not b) (blankRow (bodyLength (fileLengthOf t)) (rowBytes t i)) (rowBytes t i)
+  unfolding body blankRow nameOf linkOf
+  row-alike i w true m = kept u r (E .formed-too) i (rw (used-same E) w) m ∙ sym (E .rows i m)
+  row-alike i w false m = blank u r (E .formed-too) i (rw (used-same E) w) m ∙ rw (file-same E, sym (E .names i w), sym (E .links i w))
+
+  altered : Altered 16 (rowLength t) t (blanked r u) (usedOf t) (λ i. not (has r i)) (λ i. blankRow (bodyLength (fileLengthOf t)))
+  unfolding rowBytes rowsEnd
+  altered =
+      let f = frame u r (E .formed-too) in
+      record {
+        long = f .like .long ∙ lengths;
+        head = λ a n h. f .like .header a n h ∙ header E a n h;
+        blocks = λ i w. ap (λ (n : ℕ). block 16 n i (blanked r u)) (sym (like-length (f .like) ∙ widths)) ∙ row-alike i w (has r i) refl;
+        tail = λ b h. change u r (E .formed-too) .tail b (rw ends h) ∙ drop-more (rowsEnd t (usedOf t)) b u t h rest;
+      }
+
+pub blanked-alike : BlankedAlike
+unfolding BlankedAlike blanked withRows rowsEnd rowBytes body
+blanked-alike t u r E = alike 16 (rowLength t) (usedOf t) (blocks-changed 16 (rowLength t) t _ _ (usedOf t) (rows-room t (formed t (E .formed))) (λ i w m. long t r (E .formed) i)) (altered E)
 
 pub blanked-answers : BlankedAnswers
 unfolding BlankedAnswers BlankedEqual UnansweredHaveNoPart

@@ -1,1 +1,3 @@
 pub mod Relaying
+pub mod Enough
+pub mod Shipping

@@ -28,6 +28,10 @@ unfoldable pub OthersBlank : Type 0
 OthersBlank = (t : List ℕ) (r i : ℕ) → wellFormed t ≡ true → Within (usedOf t) i → has r i ≡ false
     → rowBytes (blanked r t) i ≡ bytesOf 2 (nameOf t i) ++ (bytesOf 1 (linkOf t i) ++ (zeros 29 ++ zeros (bodyLength (fileLengthOf t))))
 
--- so every read, write, send and check with that R gives the same result, the same bytes and the same rows of R as on the whole table
+-- so it is put together from header, names, links and the rows of R: two tables that are equal in these give the same bytes
+unfoldable pub BlankedAlike : Type 0
+BlankedAlike = (t u : List ℕ) (r : ℕ) → EqualIn r t u → blanked r t ≡ blanked r u
+
+-- every read, write, send and check with that R gives the same result, the same bytes and the same rows of R as on the whole table
 unfoldable pub BlankedAnswers : Type 0
 BlankedAnswers = (t : List ℕ) (k : Call) (r : ℕ) → Answering k r → wellFormed t ≡ true → SameFor r (outcome t k) (outcome (blanked r t) k)

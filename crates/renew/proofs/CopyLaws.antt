@@ -1,49 +1,23 @@
 -- Bytes copied within a table, over plain variables.
 use mathlib.Core.Path.{_≡_, refl, sym, _∙_, ap, ap₂}
 use mathlib.Core.Logic.{_⊎_, inl, inr, _≢_}
-use mathlib.Core.List.{List, _++_, append-assoc}
+use mathlib.Core.List.{List, _++_}
 use Prim.Native.Nat.{ℕ, zero, suc, _+_, _-_, _*_, _≤_, _<_}
 use native.Mathlib.Nat.{suc-mul}
-use native.Mathlib.Numerals.{add-one}
 use native.Mathlib.Decide.{decLt}
 use native.Mathlib.Omega.{arith}
-use lib.ListN.{length, getD, take, drop, set, length-drop}
-use lib.Seq.{getD-drop, paste, paste-zero, paste-suc}
+use lib.ListN.{length, take, drop}
 use Rattle.sets.specs.Upto.{Within}
 use Rattle.bytes.specs.Bytes.{part, put}
 use Rattle.blocks.specs.Blocks.{withBlock}
 use Rattle.fields.specs.Layout.{get, store, mark, version, desired, contents, storeContents, usedOf, fileLengthOf, rowLength, rowsEnd, rowBytes, withRow}
 use Rattle.table.specs.Contracts.{Sized}
-use Rattle.bytes.proofs.ByteLaws.{length-part, part-part, length-put, put-before, put-after, part-apart, put-put}
+use Rattle.bytes.proofs.ByteLaws.{length-part, part-part, length-put, part-apart, put-put}
 use Rattle.bytes.proofs.CodeLaws.{part-back, part-is, part-length}
 use Rattle.fields.proofs.FieldLaws.{contents-room, contents-part}
-use Rattle.table.proofs.WellFormedLaws.{row-in, row-part, length-row}
+use Rattle.table.proofs.WellFormedLaws.{header, row-in, row-part, length-row}
 use Rattle.protocol.specs.Rows.{refreshedRow}
 use Rattle.table.proofs.TableLaws.{end-le}
-
--- ---- the first j bytes copied
-module _ (d : List ℕ) (from to n : ℕ) (hf : from + n ≤ length d) (ht : to + n ≤ length d) where
-  pasted : (j : ℕ) → j ≤ n → paste d to (drop from d) j ≡ put to (part from j d) d
-  unfolding put part
-  pasted j h = rw (length-part from j d (omega arith)) (append-assoc (take to d) (take j (drop from d)) (drop (to + j) d))
-
-  pub none-copied : d ≡ put to (part from 0 d) d
-  none-copied = paste-zero d to (drop from d) ∙ pasted 0 (omega arith)
-
-  pub copy-more : (from + n ≤ to) ⊎ (to + n ≤ from) → (t : List ℕ) (j : ℕ) → j < n → t ≡ put to (part from j d) d
-      → set t (to + j) (getD t (from + j) 0) ≡ put to (part from (j + 1) d) d
-  copy-more apart t j h e =
-      let old : getD t (from + j) 0 ≡ getD (drop from d) j 0 = ap (λ (l : List ℕ). getD l (from + j) 0) e ∙ side apart ∙ sym (getD-drop from d j 0) in
-      ap₂ (λ (l : List ℕ) (x : ℕ). set l (to + j) x) (e ∙ sym (pasted j (omega arith))) old
-      ∙ paste-suc d to (drop from d) j 0 (omega arith) (omega (arith, length-drop from d))
-      ∙ pasted (suc j) h ∙ ap (λ (k : ℕ). put to (part from k d) d) (sym (add-one j))
-    where
-      long : length (part from j d) ≡ j
-      long = length-part from j d (omega arith)
-
-      side : (from + n ≤ to) ⊎ (to + n ≤ from) → getD (put to (part from j d) d) (from + j) 0 ≡ getD d (from + j) 0
-      side (inl q) = put-before d to (part from j d) (omega (arith, long)) (from + j) 0 (omega arith)
-      side (inr q) = put-after d to (part from j d) (omega (arith, long)) (from + j) 0 (omega (arith, long))
 
 -- ---- a refresh: the fields of row `to` stored, then the contents of row `from` copied
 module _ (t : List ℕ) where
@@ -100,16 +74,14 @@ module _ {t : List ℕ} {from to at size file source : ℕ} (p : Places t from t
         go (yes q) = inl (omega (arith, contents-fit, row-ends t from (p .source-row), end-le t from (to - 1) (omega arith)))
         go (no q) = inr (omega (arith, row-ends t to (p .target-row), end-le t to (from - 1) (omega arith)))
 
-    pub copy-fits : (source + file ≤ length (take at t ++ (new ++ drop ((at + size) - at) (drop at t)))) × (at + 32 + file ≤ length (take at t ++ (new ++ drop ((at + size) - at) (drop at t))))
-        × ((source + file ≤ at + 32) ⊎ (at + 32 + file ≤ source))
+    pub copy-fits : (source + file ≤ length (take at t ++ (new ++ drop ((at + size) - at) (drop at t)))) × (at + 32 + file ≤ length (take at t ++ (new ++ drop ((at + size) - at) (drop at t)))) × (file ≤ 4096)
     unfolding u
     copy-fits =
-        let long : length (take at t ++ (new ++ drop ((at + size) - at) (drop at t))) ≡ length t = ap length stored ∙ length-put t at new room in
-        (omega (arith, long, contents-fit, row-in (p .table) from (p .source-row)), omega (arith, long, contents-fit, target-fits), side apart)
-      where
-        side : (source + file ≤ at) ⊎ (at + size ≤ source) → (source + file ≤ at + 32) ⊎ (at + 32 + file ≤ source)
-        side (inl q) = inl (omega arith)
-        side (inr q) = inr (omega (arith, contents-fit))
+        let long : length (take at t ++ (new ++ drop ((at + size) - at) (drop at t))) ≡ length t = ap length stored ∙ length-put t at new room in (
+          omega (arith, long, contents-fit, row-in (p .table) from (p .source-row)),
+          omega (arith, long, contents-fit, target-fits),
+          omega (arith, p .e-file, header (p .table .header) .file),
+        )
 
     contents-are : part 32 file (rowBytes t from) ≡ contents (rowBytes t from)
     unfolding rowLength

@@ -1,10 +1,9 @@
 // A row made anew by a send.
 ghost use mathlib.Core.Path.{_≡_};
-ghost use mathlib.Core.Logic.{_⊎_, _≢_};
-ghost use Prim.Native.Nat.{_+_, _≤_};
+ghost use mathlib.Core.Logic.{_≢_};
+ghost use Prim.Native.Nat.{_≤_};
 ghost use lib.ListN.{length};
 ghost use Rattle.sets.specs.Upto.{Within};
-ghost use Rattle.bytes.specs.Bytes.{part, put};
 ghost use Rattle.fields.specs.Layout.{store, mark, version, desired, usedOf, rowBytes, withRow};
 ghost use Rattle.table.specs.Contracts.{Sized};
 ghost use Rattle.protocol.specs.Rows.{refreshedRow};
@@ -19,18 +18,6 @@ fn renew_row(row: &mut [u8], v: u32)
     fields::set_desired(row, 0);
 }
 
-// Bytes copied within a slice, between ranges that lie apart.
-fn copy_apart(t: &mut [u8], from: usize, to: usize, n: usize)
-    requires { ⌜ (from + n ≤ length (now t)) × (to + n ≤ length (now t)) × ((from + n ≤ to) ⊎ (to + n ≤ from)) ⌝ }
-    ensures { λ r. ⌜ now (t .exit) ≡ put to (part from n (now (t .entry))) (now (t .entry)) ⌝ }
-{
-    let mut i = 0;
-    while i < n {
-        t[to + i] = t[from + i];
-        i += 1;
-    }
-}
-
 // Row `to` takes the contents and the version of row `from`.
 pub fn refresh(t: &mut [u8], from: usize, to: usize)
     requires { ⌜ Sized (now t) × Within (usedOf (now t)) from × Within (usedOf (now t)) to × (from ≢ to) ⌝ }
@@ -43,5 +30,5 @@ pub fn refresh(t: &mut [u8], from: usize, to: usize)
     let at = table::rows_end(t, to - 1);
     let target = at + fields::HEAD;
     renew_row(&mut t[at..at + size], version);
-    copy_apart(t, source, target, file);
+    copying::copy_within(t, source, target, file);
 }

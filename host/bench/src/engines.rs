@@ -21,6 +21,7 @@ pub trait Calls {
     fn check(&self, table: &mut [u8], coordinator: u64, answering: u64) -> u64;
     fn join(&self, table: &mut [u8], name: u16) -> u64;
     fn chart(&self, length: u64, mark: u64, list: &mut [u8]) -> u64;
+    fn choice(&self, table: &[u8], coordinator: u64, kind: u64, set: &mut [u8]) -> u64;
 }
 
 pub struct Library;
@@ -86,6 +87,11 @@ impl Calls for Library {
     fn chart(&self, length: u64, mark: u64, list: &mut [u8]) -> u64 {
         unsafe { raw::grid_chart(length, mark, list.as_mut_ptr(), list.len()) }
     }
+
+    fn choice(&self, table: &[u8], coordinator: u64, kind: u64, set: &mut [u8]) -> u64 {
+        let (lent, length) = (set.as_mut_ptr(), set.len());
+        unsafe { raw::grid_choice(table.as_ptr(), table.len(), coordinator, kind, lent, length) }
+    }
 }
 
 impl Calls for Engine {
@@ -117,5 +123,9 @@ impl Calls for Engine {
 
     fn chart(&self, length: u64, mark: u64, list: &mut [u8]) -> u64 {
         Engine::chart(self, length, mark, list)
+    }
+
+    fn choice(&self, table: &[u8], coordinator: u64, kind: u64, set: &mut [u8]) -> u64 {
+        Engine::choice(self, table, coordinator, kind, set)
     }
 }

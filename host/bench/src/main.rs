@@ -10,7 +10,7 @@ use engines::Library;
 use reference::Engine;
 use report::Timing;
 use states::State;
-use std::process::ExitCode;
+use std::process::{Command, ExitCode, Stdio};
 use std::time::Duration;
 use tasks::Task;
 
@@ -21,24 +21,58 @@ const RUN_TIME: Duration = Duration::from_millis(1);
 /// Few enough that no version or epoch comes to its limit.
 const MOST_CALLS: u32 = 20_000;
 
+/// Processes that measure; the best one counts: where the code and the bytes of a process lie makes a difference.
+const PROCESSES: usize = 5;
+/// The argument of a process that measures once, and writes its times a line each.
+const ONCE: &str = "--once";
+
 fn main() -> ExitCode {
     dyngrid::raw::assert_interface();
-    let load = report::load();
-    let states = states::all();
-    let mut timings = Vec::new();
-    for (number, state) in (1..).zip(&states) {
-        eprintln!("bench: {number} of {}: {}", states.len(), state.title);
-        timings.extend(state.tasks.iter().map(|&task| time(state, task)));
+    let file = std::env::args().nth(1);
+    if file.as_deref() == Some(ONCE) {
+        let states = states::all();
+        let timings = states.iter().flat_map(|state| state.tasks.iter().map(|&task| time(state, task)));
+        timings.for_each(|timing| println!("{}", timing.line()));
+        return ExitCode::SUCCESS;
     }
-    println!("{}\n{}", report::table(&timings), report::verdict(&timings));
-    if let Some(file) = std::env::args().nth(1) {
-        if let Err(problem) = std::fs::write(&file, report::page(&timings, &load, RUNS)) {
-            eprintln!("bench: cannot write {file}: {problem}");
-            return ExitCode::FAILURE;
+    match measure(file.as_deref()) {
+        Ok(()) => ExitCode::SUCCESS,
+        Err(problem) => {
+            eprintln!("bench: {problem}");
+            ExitCode::FAILURE
         }
+    }
+}
+
+/// Measures in several processes, and tells.
+fn measure(file: Option<&str>) -> Result<(), String> {
+    let load = report::load();
+    let program =
+        std::env::current_exe().map_err(|problem| format!("cannot find this program: {problem}"))?;
+    let mut best: Vec<Timing> = Vec::new();
+    for process in 1..=PROCESSES {
+        eprintln!("bench: process {process} of {PROCESSES}");
+        let output = Command::new(&program).arg(ONCE).stderr(Stdio::inherit()).output();
+        let output = output.map_err(|problem| format!("cannot start a process that measures: {problem}"))?;
+        if !output.status.success() {
+            return Err(format!("a process that measures failed: {}", output.status));
+        }
+        let text = String::from_utf8_lossy(&output.stdout);
+        let timings: Option<Vec<Timing>> = text.lines().map(Timing::of_line).collect();
+        let timings = timings.ok_or("a process that measures wrote something else than times")?;
+        if best.is_empty() {
+            best = timings;
+        } else {
+            best.iter_mut().zip(timings).for_each(|(best, timing)| best.take(timing));
+        }
+    }
+    println!("{}\n{}", report::table(&best), report::verdict(&best));
+    if let Some(file) = file {
+        let page = report::page(&best, &load, RUNS, PROCESSES);
+        std::fs::write(file, page).map_err(|problem| format!("cannot write {file}: {problem}"))?;
         eprintln!("bench: wrote {file}");
     }
-    ExitCode::SUCCESS
+    Ok(())
 }
 
 /// Best of several runs, the engines by turns.

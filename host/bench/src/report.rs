@@ -15,6 +15,24 @@ impl Timing {
     fn ratio(&self) -> f64 {
         self.library / self.reference
     }
+
+    /// As one process tells another: the parts with tabs between them.
+    pub fn line(&self) -> String {
+        format!("{}\t{}\t{}\t{}", self.state, self.call, self.library, self.reference)
+    }
+
+    pub fn of_line(line: &str) -> Option<Timing> {
+        let mut parts = line.split('\t');
+        let (state, call) = (parts.next()?.into(), parts.next()?.into());
+        let (library, reference) = (parts.next()?.parse().ok()?, parts.next()?.parse().ok()?);
+        Some(Timing { state, call, library, reference })
+    }
+
+    /// Takes the better times of two processes.
+    pub fn take(&mut self, other: Timing) {
+        self.library = self.library.min(other.library);
+        self.reference = self.reference.min(other.reference);
+    }
 }
 
 /// The timings as a table.
@@ -36,18 +54,20 @@ pub fn verdict(timings: &[Timing]) -> String {
     let count = ratios.len();
     let above = ratios.iter().filter(|&&ratio| ratio > 1.0).count();
     let (lowest, median, highest) = (ratios[0], ratios[count / 2], ratios[count - 1]);
-    format!(
-        "Of {count} ratios {above} are above 1: there the library is slower. The lowest is {lowest:.2}, the median {median:.2}, \
-         the highest {highest:.2}."
-    )
+    let slower = match above {
+        0 => format!("None of {count} ratios is above 1."),
+        _ => format!("Of {count} ratios {above} are above 1: there the library is slower."),
+    };
+    format!("{slower} The lowest is {lowest:.2}, the median {median:.2}, the highest {highest:.2}.")
 }
 
-/// The whole page; `load` as it was before the run, `runs` as many as there were of each call.
-pub fn page(timings: &[Timing], load: &str, runs: usize) -> String {
+/// The whole page; `load` as it was before the run, `runs` as many as each process made of each call.
+pub fn page(timings: &[Timing], load: &str, runs: usize, processes: usize) -> String {
     format!(
         "# Benchmarks\n\n\
          Each call, the library's and the reference's (plain Rust that takes no memory, `host/reference`), on the same tables in one run, both\n\
-         optimised. A time is the best of {runs} runs of many calls, the two engines by turns, and every run starts from the same table.\n\n\
+         optimised. A time is the best of {runs} runs of many calls, the two engines by turns, in each of {processes} processes; every run starts from the\n\
+         same table.\n\n\
          {}\n\n\
          The tables:\n\n\
          - founded: as a founding leaves it; all machines answer;\n\
@@ -64,7 +84,8 @@ pub fn page(timings: &[Timing], load: &str, runs: usize) -> String {
          Row 1 coordinates, if nothing else is said. Before each send the receiver is made stale again, which is in the times of both. A refused send\n\
          has a receiver that is not stale. A check with a new list leaves out the last row and takes it in again by turns. A joining comes in the middle\n\
          of the chain, and is undone before the next one, which is in the times of both. A chart is of as many members as there are machines, in the\n\
-         published grid, and looks at no table; the reference puts its sets together from columns.\n\n\
+         published grid, and looks at no table; the reference puts its sets together from columns. A choice is that of row 1, whose own list is of all\n\
+         machines.\n\n\
          {}\n\
          - machine: {}, load {load} when the run began\n- compiler of the reference: {}\n- to measure again: `make bench`\n",
         verdict(timings),

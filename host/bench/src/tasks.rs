@@ -2,6 +2,7 @@
 
 use crate::engines::{Asked, Calls};
 use crate::states::{self, State};
+use dyngrid::raw;
 use reference::{rows, CHART_PLACES};
 use std::fmt;
 use std::hint::black_box;
@@ -24,9 +25,11 @@ pub enum Task {
     Join,
     /// Of as many members as there are machines, in the published grid; the table has no part in it.
     Chart,
+    /// Whom to call, for a read or a write.
+    Choice(u64),
 }
 
-pub const EVERY_TASK: [Task; 9] = [
+pub const EVERY_TASK: [Task; 11] = [
     Task::Found,
     Task::Read(16),
     Task::Read(WHOLE),
@@ -36,6 +39,8 @@ pub const EVERY_TASK: [Task; 9] = [
     Task::RefusedSend,
     Task::CheckSame,
     Task::CheckNew,
+    Task::Choice(raw::READ),
+    Task::Choice(raw::WRITE),
 ];
 
 impl fmt::Display for Task {
@@ -52,6 +57,8 @@ impl fmt::Display for Task {
             Task::CheckNew => f.write_str("check, new list"),
             Task::Join => f.write_str("join"),
             Task::Chart => f.write_str("chart"),
+            Task::Choice(raw::READ) => f.write_str("choice, for a read"),
+            Task::Choice(_) => f.write_str("choice, for a write"),
         }
     }
 }
@@ -74,6 +81,7 @@ impl Task {
         let mut bytes = match self {
             Task::Read(length) | Task::Write(length) => vec![7; length.min(size.file_len)],
             Task::Chart => vec![7; 2 * CHART_PLACES],
+            Task::Choice(_) => vec![7; 8],
             _ => Vec::new(),
         };
         let (one, two) = (size.row_at(1), size.row_at(2));
@@ -116,6 +124,9 @@ impl Task {
                     engine.join(black_box(&mut table), name)
                 }
                 Task::Chart => engine.chart(size.used as u64, 0, black_box(&mut bytes)),
+                Task::Choice(kind) => {
+                    engine.choice(black_box(&table), coordinator, kind, black_box(&mut bytes))
+                }
             };
             assert!(black_box(result) >> 32 == self.refusal(), "{}: {self} has another refusal", state.title);
         }

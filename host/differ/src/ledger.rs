@@ -168,9 +168,9 @@ mod tests {
     /// Good rows of a founded history hold the same bytes, so the book cannot tell which of them was read; no history
     /// leads to two marks in one epoch, or to two shapes in one table; the book keeps no charts, and does not look at a list
     /// for the number called that has another length than one byte, nor in which order a write's range and that list are
-    /// asked for, nor at the list of a choice that was refused.
+    /// asked for, nor at the list of a choice that was refused; and it lists no sends.
     #[test]
-    fn the_book_alone_finds_all_blunders_but_eleven() {
+    fn the_book_alone_finds_all_blunders_but_thirteen() {
         let hidden = [
             Blunder::HighestGood,
             Blunder::MarksOfEpoch,
@@ -183,6 +183,8 @@ mod tests {
             Blunder::CalledAtAnyLength,
             Blunder::CalledLengthFirst,
             Blunder::SetAtAnyLength,
+            Blunder::StaleSender,
+            Blunder::BehindReceiver,
         ];
         for blunder in Blunder::ALL {
             assert_eq!(book_finds(Some(blunder), 50_000), !hidden.contains(&blunder), "{}", blunder.name());

@@ -15,6 +15,7 @@ mod report;
 mod shrink;
 mod tables;
 mod trial;
+mod wrapper;
 
 pub use archive::report_faults;
 pub use call::{bytes_shown, Call};

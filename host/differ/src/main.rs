@@ -105,9 +105,10 @@ fn compare(seed: u64, options: &Options) -> bool {
         return false;
     }
     let [own, all] = run.counts.stayed();
+    let [tables, sends] = run.counts.looked();
     println!(
         "differ: {calls} calls ({} by the scope's rules alone too, {} decided by a grid mark, {own} by an own choice, {all} not, \
-         {} through a relay too) and {} twins in {:.1} s, no difference (seed {seed})",
+         {} through a relay too), {} twins, {tables} tables with {sends} sends by the wrapper in {:.1} s, no difference (seed {seed})",
         run.counts.published(),
         run.counts.decided(),
         run.counts.relayed(),

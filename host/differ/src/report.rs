@@ -31,10 +31,16 @@ pub struct Counts {
     chosen: [u64; CHOICES.len()],
     /// For each kind of call, how often a relay made it too.
     relayed: [u64; KINDS],
+    /// How many well-formed tables were looked at through the wrapper, and how many sends would be done there.
+    looked: u64,
+    sends: u64,
 }
 
 /// So many calls must be made by a relay too.
 pub const RELAYED: u64 = 200_000;
+
+/// So many sends must be listed by the wrapper.
+pub const LISTED: u64 = 100_000;
 
 /// The answers that each kind of call can give, 0 for done, in the order of `Call::KINDS`.
 const POSSIBLE: [&[u32]; KINDS] = [
@@ -165,6 +171,8 @@ pub struct Step {
     pub chosen: Option<usize>,
     /// Did a relay make the call too?
     pub relayed: bool,
+    /// How many sends would be done, if the table that the call left was looked at and is well formed.
+    pub sends: Option<usize>,
 }
 
 impl Default for Counts {
@@ -179,6 +187,8 @@ impl Default for Counts {
             stayed: Default::default(),
             chosen: Default::default(),
             relayed: Default::default(),
+            looked: 0,
+            sends: 0,
         }
     }
 }
@@ -197,6 +207,8 @@ impl Counts {
         if let Some(chosen) = step.chosen {
             self.chosen[chosen] += 1;
         }
+        self.looked += u64::from(step.sends.is_some());
+        self.sends += step.sends.unwrap_or(0) as u64;
         self.grounds[call.kind()][step.ground as usize] += 1;
         self.published[call.kind()] += u64::from(step.published && step.ground == Ground::Published);
         if let Some(mark) = step.decided {
@@ -224,6 +236,11 @@ impl Counts {
     /// How often a relay made a call too.
     pub fn relayed(&self) -> u64 {
         self.relayed.iter().sum()
+    }
+
+    /// How many tables were looked at through the wrapper, and how many sends would be done there.
+    pub fn looked(&self) -> [u64; 2] {
+        [self.looked, self.sends]
     }
 
     /// How often the grid of a list judged a call that its other grid would have judged otherwise.
@@ -264,6 +281,9 @@ impl Counts {
         missing.extend(not_relayed.map(|(name, _)| format!("{name} through a relay")));
         if self.relayed() < RELAYED {
             missing.push(format!("{RELAYED} calls through a relay"));
+        }
+        if self.sends < LISTED {
+            missing.push(format!("{LISTED} sends listed by the wrapper"));
         }
         for kind in CALLING {
             let (name, possible) = (Call::KINDS[kind], POSSIBLE[kind]);
@@ -362,6 +382,7 @@ mod tests {
             stayed: None,
             chosen: None,
             relayed: false,
+            sends: None,
         }
     }
 
@@ -371,9 +392,14 @@ mod tests {
         let answers: usize = POSSIBLE.iter().map(|answers| answers.len()).sum();
         let called = (5 * 3 + 2) + (5 * 3 - 1 + 4);
         let choices = (4 * 4 - 1) + 8;
-        let relayed = KINDS + 1;
+        let (relayed, listed) = (KINDS + 1, 1);
         let of_tables = answers + 6 * (64 + Ground::ALL.len()) + 4 + 12;
-        assert_eq!(counts.missing().len(), of_tables + called + choices + relayed);
+        assert_eq!(counts.missing().len(), of_tables + called + choices + relayed + listed);
+        for sends in [Some(0), Some(LISTED as usize - 1), None, Some(1)] {
+            assert!(counts.missing().contains(&format!("{LISTED} sends listed by the wrapper")));
+            counts.add(&calls()[1], Step { sends, ..step(0) });
+        }
+        assert_eq!(counts.looked(), [3, LISTED]);
         for _ in 0..RELAYED - KINDS as u64 {
             counts.add(&calls()[1], Step { relayed: true, ..step(0) });
         }

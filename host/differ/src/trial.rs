@@ -8,7 +8,11 @@ use crate::random::Random;
 use crate::relay::{Relay, Slip};
 use crate::report::{choice_told, Ground, Step};
 use crate::tables::{self, Picture};
+use crate::wrapper;
 use reference::{rows, Engine, Grid, Laid, Layout, Quorum, Rules, Shape, Table, HEADER, TALL};
+
+/// Longer tables have no twin, and are not looked at through the wrapper: both take their time.
+const LONGEST: usize = 6_000;
 
 /// A table and the calls made on it.
 #[derive(Clone, Debug)]
@@ -35,6 +39,8 @@ pub struct Trial<'a> {
     /// Makes every call of a founded history a second time.
     relay: Option<Relay>,
     slip: Option<Slip>,
+    /// How many tables there were to look at through the wrapper.
+    tables: usize,
 }
 
 /// Makes all calls of a case again.
@@ -54,7 +60,7 @@ impl<'a> Trial<'a> {
 
     /// Goes on where a history stopped.
     pub fn resume(archive: &'a mut Archive, reference: Engine, table: Vec<u8>, ledger: Ledger) -> Trial<'a> {
-        Trial { archive, reference, table, ledger, relay: None, slip: None }
+        Trial { archive, reference, table, ledger, relay: None, slip: None, tables: 0 }
     }
 
     /// Lets the relay make a mistake.
@@ -100,6 +106,7 @@ impl<'a> Trial<'a> {
         if let Some(relay) = &mut self.relay {
             relay.call(self.archive, call, &answer, &self.table)?;
         }
+        let sends = self.look(&before)?;
         let called = (answer.called.len() == 1).then(|| answer.called[0]);
         let lent = match call {
             Call::Choice { set, .. } => Some(set.len()),
@@ -107,7 +114,22 @@ impl<'a> Trial<'a> {
         };
         let stayed = judged.as_ref().and_then(|table| stayed(call, called?, table));
         let result = answer.result;
-        Ok(Step { result, ground, twin_of, published, decided, lent, called, stayed, chosen, relayed })
+        Ok(Step { result, ground, twin_of, published, decided, lent, called, stayed, chosen, relayed, sends })
+    }
+
+    /// Looks through the wrapper at the table, if it is the first one or a call altered it: at every small table, and at one in
+    /// eight of the others, for it asks of every two rows. Gives how many sends would be done.
+    fn look(&mut self, before: &[u8]) -> Result<Option<usize>, String> {
+        const SMALL: usize = 8;
+        if self.tables > 0 && self.table == before || self.table.len() > LONGEST {
+            return Ok(None);
+        }
+        self.tables += 1;
+        let judged = Picture::of(&self.table);
+        if self.tables % 8 != 0 && judged.as_ref().is_some_and(|table| table.used > SMALL) {
+            return Ok(None);
+        }
+        wrapper::look(self.reference, &self.table, judged.as_ref())
     }
 
     /// Compares what the archive gave and left with what the engine gives and leaves.
@@ -147,7 +169,6 @@ impl<'a> Trial<'a> {
         before: &[u8],
         table: &Table,
     ) -> Result<Option<usize>, String> {
-        const LONGEST: usize = 6_000;
         let Some(answering) = call.seen() else { return Ok(None) };
         let none_differs = table.all_used() & !answering == 0;
         if before.len() > LONGEST || none_differs {

@@ -91,9 +91,12 @@ impl Relay {
         self.call(up, |table| table.check(by, up))
     }
 
-    /// Is the row marked as stale on its machine?
-    fn is_stale(&self, row: usize) -> bool {
-        self.machines[row - 1][3] == 1
+    /// Brings up the stale rows, from rows of the newest version.
+    fn send_all(&mut self, up: Rows) -> Result<(), Refusal> {
+        for (from, to) in self.gather(up)?.sends_from_newest() {
+            self.send(from, to)?;
+        }
+        Ok(())
     }
 }
 
@@ -108,7 +111,7 @@ fn main() -> Result<(), Refusal> {
     // Machine 30 is away. Too few of the own choice are left, so all four are called. The set is all that answer, and row 4 is
     // marked.
     assert_eq!(relay.write(4, Rows::of(&[1, 2, 4])?, b"0-1")?.called, 4);
-    assert!(relay.is_stale(4));
+    assert_eq!(relay.gather(Rows::of(&[4])?)?.row(4).map(|row| (row.stale, row.desired)), Some((true, 2)));
     relay.send(1, 4)?;
 
     // It stays away: the three that are left become the list, and two of them are enough for a write.
@@ -117,16 +120,15 @@ fn main() -> Result<(), Refusal> {
 
     // It is back: a check takes it in and marks the rows that are behind; sends bring them up.
     relay.check(1, Rows::first(4))?;
-    for row in (1..=4).filter(|&row| relay.is_stale(row)).collect::<Vec<_>>() {
-        relay.send(1, row)?;
-    }
+    relay.send_all(Rows::first(4))?;
     assert_eq!(relay.read(3, Rows::of(&[3, 4])?)?, *b"1/2");
 
     // A fifth machine joins. It reads with a quorum of the others at once; a check takes it into the list.
     let fifth = relay.join(25)?;
     assert_eq!(relay.read(fifth, Rows::of(&[3, 4, fifth])?)?, *b"1/2");
     relay.check(1, Rows::first(5))?;
-    relay.send(1, fifth)?;
+    println!("{}", relay.gather(Rows::first(5))?);
+    relay.send_all(Rows::first(5))?;
     assert_eq!(relay.read(fifth, Rows::first(5))?, *b"1/2");
     // Any one of five may be away: here machine 25, the third in name order.
     relay.write(1, Rows::first(4), b"0-0")?;

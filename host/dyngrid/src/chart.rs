@@ -7,9 +7,9 @@ const LIST: usize = 128;
 /// The wall chart: every smallest write quorum of a list of so many members, 1 to 9, with this grid mark. These are the sets of
 /// members that are enough for a write or a check, and no longer are if any one of them is taken out.
 ///
-/// A set is a number, bit k - 1 for the k-th member in name order. The sets rise. The grid mark of a list is byte 24 of a
-/// [`row`](crate::Table::row_bytes) that has it: 2 in a tall table, and in a wide one 1 for five and 0 for every other length (also
-/// for five in a table taken over from form 1).
+/// A set is a number, bit k - 1 for the k-th member in name order. The sets rise. A row that has a list tells its
+/// [grid mark](crate::RowView::grid_mark): 2 in a tall table, and in a wide one 1 for five and 0 for every other length (also for
+/// five in a table taken over from form 1).
 ///
 /// ```
 /// use dyngrid::{chart, Refusal};

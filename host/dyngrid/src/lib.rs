@@ -2,7 +2,8 @@
 //!
 //! A [`Table`] holds a row for each machine. The caller says which machines answered ([`Rows`]);
 //! each call is one atomic step over the table, and is done with a value or refused by a [`Refusal`].
-//! Rows have numbers of one type, `usize`, from 1 on. A [`chart()`] needs no table.
+//! Rows have numbers of one type, `usize`, from 1 on. What a row tells is a [`RowView`], and `println!("{table}")` shows them
+//! all. A [`chart()`] needs no table.
 //!
 //! ```
 //! use dyngrid::{Rows, Shape, Table};
@@ -21,10 +22,12 @@ mod assembled;
 mod called;
 mod chart;
 mod choice;
+mod display;
 pub mod raw;
 mod refusal;
 mod rows;
 mod table;
+mod view;
 
 pub use assembled::NotAssembled;
 pub use called::{Done, Refused};
@@ -33,3 +36,4 @@ pub use choice::Kind;
 pub use refusal::Refusal;
 pub use rows::{Rows, RowsIter};
 pub use table::{NotATable, Shape, Table};
+pub use view::RowView;

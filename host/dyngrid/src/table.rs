@@ -292,6 +292,49 @@ impl Table {
         })
     }
 
+    /// The sends that would be done now if all machines answered, as pairs of sender and receiver; by receiver, then by sender.
+    /// Any of a receiver's senders may send, and then it needs no other. In an [assembled](Table::assemble) table both ends are
+    /// rows that answered.
+    ///
+    /// The library itself is asked for every two rows, on a copy, which takes some 3 ms for 64 machines; on a malformed table no
+    /// send would be done.
+    ///
+    /// ```
+    /// use dyngrid::{Rows, Shape, Table};
+    ///
+    /// let mut table = Table::found(4, 16, &[10, 20, 30, 40], Shape::Wide)?;
+    /// table.write(1, Rows::of(&[1, 2, 3])?, 0, b"1-0")?;
+    /// table.write(1, Rows::of(&[1, 2, 4])?, 0, b"0-1")?; // marks row 4; row 3 keeps the old score
+    /// assert_eq!(table.sends(), [(1, 4), (2, 4)]);
+    /// for (from, to) in table.sends_from_newest() {
+    ///     table.send(from, to, table.rows())?;
+    /// }
+    /// assert_eq!(table.sends(), []);
+    /// # Ok::<(), dyngrid::Refusal>(())
+    /// ```
+    pub fn sends(&self) -> Vec<(usize, usize)> {
+        let mut sends = Vec::new();
+        let mut copy = self.clone();
+        for (to, place) in self.rows().iter().filter_map(|to| Some((to, self.place(to)?))) {
+            for from in self.rows() {
+                if copy.send(from, to, self.rows()).is_ok() {
+                    copy.bytes[place.clone()].copy_from_slice(&self.bytes[place.clone()]);
+                    sends.push((from, to));
+                }
+            }
+        }
+        sends
+    }
+
+    /// Of the [`sends`](Table::sends) one for each receiver: from a sender of the newest version, the lowest row of these. They
+    /// may be done in any order, and leave no other send to be done.
+    pub fn sends_from_newest(&self) -> Vec<(usize, usize)> {
+        let version = |row| self.row(row).map(|row| row.version);
+        let of_one =
+            |sends: &[(usize, usize)]| sends.iter().rev().copied().max_by_key(|&(from, _)| version(from));
+        self.sends().chunk_by(|one, next| one.1 == next.1).filter_map(of_one).collect()
+    }
+
     /// Makes the rows that answered the list in force; gives the epoch number in force.
     ///
     /// The new list has the shape of the table. A list of five, founded or laid by a check, lies in 3 rows and 2 columns: any

@@ -77,10 +77,14 @@ pub enum Blunder {
     KindOfAByte,
     /// A choice goes into a list of any length, as far as it has room, and is refused all the same.
     SetAtAnyLength,
+    /// A send from a stale row is listed among those that would be done.
+    StaleSender,
+    /// A send to a row that is behind without a mark is listed, too.
+    BehindReceiver,
 }
 
 impl Blunder {
-    pub const ALL: [Blunder; 36] = [
+    pub const ALL: [Blunder; 38] = [
         Blunder::OutsidersCount,
         Blunder::ShortColumnWhole,
         Blunder::DesiredIgnored,
@@ -117,6 +121,8 @@ impl Blunder {
         Blunder::AllChosen,
         Blunder::KindOfAByte,
         Blunder::SetAtAnyLength,
+        Blunder::StaleSender,
+        Blunder::BehindReceiver,
     ];
 
     /// Its name on a command line.
@@ -158,6 +164,8 @@ impl Blunder {
             Blunder::AllChosen => "all-chosen",
             Blunder::KindOfAByte => "kind-of-a-byte",
             Blunder::SetAtAnyLength => "set-at-any-length",
+            Blunder::StaleSender => "stale-sender",
+            Blunder::BehindReceiver => "behind-receiver",
         }
     }
 

@@ -105,6 +105,23 @@ impl Engine {
         result(self.try_choice(bytes, coordinator, kind, set))
     }
 
+    /// The sends that would be done on a well-formed table if all rows answered, by receiver and then by sender: for every two
+    /// rows, questions 9 and 10.
+    pub fn sends(&self, table: &Table, bytes: &[u8]) -> Vec<(usize, usize)> {
+        let rows: Vec<Row> = (1..=table.used).map(|row| table.row(bytes, row)).collect();
+        let mut sends = Vec::new();
+        for (to, receiver) in (1..).zip(&rows) {
+            let fits = |sender: &Row| {
+                let behind = self.makes(Blunder::BehindReceiver) && receiver.version < sender.version;
+                let marked = receiver.stale && receiver.desired <= sender.version;
+                (!sender.stale || self.makes(Blunder::StaleSender)) && (marked || !receiver.stale && behind)
+            };
+            let senders = (1..).zip(&rows).filter(|(from, sender)| *from != to && fits(sender));
+            sends.extend(senders.map(|(from, _)| (from, to)));
+        }
+        sends
+    }
+
     fn try_read(
         &self,
         bytes: &[u8],

@@ -7,6 +7,7 @@ use borrow.Author.Tests.{not-true, not-false, le-leb}
 use lib.ListN.{length}
 use Rattle.grid.specs.declared.Grid.{Grid}
 use Rattle.grid.specs.Sizes.{gridBy}
+use Rattle.grid.proofs.SizeLaws.{laid-fits}
 use Rattle.bytes.specs.Bytes.{put}
 use Rattle.asking.specs.Asking.{result}
 use Rattle.charting.specs.Charts.{chart, inPlaces, hasChart, places, Charted}
@@ -64,7 +65,8 @@ draw-requires : tie.Need-draw-requires
 draw-requires c κs =
     let e = c .before .before .before in
     let a = e .before .before .before .args in
-    (omega (arith, chart-length (a .length) (a .mark) (there-is e)), few (c .before), omega arith)
+    let l = chart-length (a .length) (a .mark) (there-is e) in
+    (rw (the-grid (c .before)) (laid-fits (a .mark) (a .length) (l .0)), l .1, few (c .before), omega arith)
 
 cast-result : tie.Need-cast-result
 cast-result c = omega (arith, c .before .before .draw .ensures .0, few (c .before .before .before .before))

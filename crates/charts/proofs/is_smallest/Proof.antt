@@ -1,103 +1,94 @@
-use mathlib.Core.Path.{_≡_, refl, sym, _∙_}
-use mathlib.Core.Bool.{true}
-use Prim.Native.Nat.{_+_, _-_, _≤_}
+use mathlib.Core.Path.{_≡_, sym, _∙_, ap}
+use mathlib.Core.Bool.{Bool, true, false, not}
+use Prim.Native.Nat.{ℕ}
 use native.Mathlib.Omega.{arith}
 use borrow.Author.Needs.{needs}
 use borrow.Author.Tests.{not-true, not-false}
-use Rattle.sets.specs.Upto.{every}
+use Rattle.sets.specs.Upto.{every, some, lowest}
 use Rattle.sets.specs.Sets.{has, losing}
-use Rattle.quorums.specs.declared.Kind.the-variants.{Write}
-use Rattle.quorums.specs.Quorums.{quorum}
-use Rattle.charts.proofs.TurnLaws.{held-is, needs-it, no-quorum, one-spared, no-member, needed, none-spared}
+use Rattle.charting.specs.Charts.{smallest}
+use Rattle.charting.proofs.ColumnLaws.{asked, by-columns}
 use Rattle.charts.proofs.is_smallest.Statement.{statement}
 use Rattle.charts.proofs.is_smallest.Tie as tie
 
-abbrev Inv-loop : tie.InvT-loop
-Inv-loop g length set k₀ k = (k ≤ length) × (every k (needs-it g length (has (set .bits))) ≡ true)
+-- what the columns of the set say
+said : (c : tie.After-with-first) → let a = c .before .before .args in let r = c .with-first .result in
+    asked (a .g .cols) (has (r .touched .bits)) (has (r .twice .bits)) (has (r .whole .bits)) ≡ smallest (a .g) (a .length) (has (a .set .bits))
+said c =
+    let p = c .before .before in
+    by-columns (p .args .g) (p .args .length) (has (p .args .set .bits)) (p .pre .0 .some-column) (omega (arith, p .pre .0 .narrow)) _ _ _ (c .with-first .ensures)
 
-abbrev μ-loop : tie.MeasureT-loop
-μ-loop g length set k₀ k = length - k
+-- every column is touched; one is whole; one has two members
+all : (c : tie.Else1) → every (c .before .before .before .before .args .g .cols) (has (c .before .before .with-first .result .touched .bits)) ≡ true
+all c = sym (c .before .fills .ensures) ∙ not-false _ (c .if1 .left)
 
--- what is left without k + 1 was asked after
-left : (c : tie.After-holds2 Inv-loop μ-loop) → let i = c .before .before .before .before .before in let s = i .before .before .before in quorum Write (s .args .g) (s .args .length) (losing (has (s .args .set .bits)) (i .loop .k + 1)) ≡ c .holds2 .result
-left c =
-    let s = c .before .before .before .before .before .before .before .before in
-    rw (c .before .without .ensures) at (held-is (s .args .g) (s .args .length) _ (s .pre) (c .holds2 .ensures))
+one : (c : tie.Else2) → some 64 (has (c .before .before .before .before .with-first .result .whole .bits)) ≡ true
+one c = not-false _ (sym (c .before .is-empty .ensures) ∙ c .if2 .left)
 
-holds-requires : tie.Need-holds-requires Inv-loop μ-loop
-holds-requires c κs = search needs
+two : (c : tie.Else3) → some 64 (has (c .before .before .before .before .before .before .with-first .result .twice .bits)) ≡ true
+two c = not-false _ (sym (c .before .is-empty2 .ensures) ∙ c .if3 .left)
 
-returns : tie.Need-returns Inv-loop μ-loop
+cast-columns : tie.Need-cast-columns
+cast-columns c = search needs
+
+with-first-requires : tie.Need-with-first-requires
+with-first-requires c κs = let p = c .before in (omega (arith, p .pre .0 .narrow), p .pre .1, p .pre .2)
+
+fills-requires : tie.Need-fills-requires
+fills-requires c κs = search needs
+
+returns : tie.Need-returns
 returns c =
-    let s = c .before .before in
-    no-quorum (s .args .g) (s .args .length) (has (s .args .set .bits)) (held-is _ _ _ (s .pre) (c .before .holds .ensures) ∙ not-true _ (c .if1 .taken))
+    let e : every _ _ ≡ false = sym (c .before .fills .ensures) ∙ not-true _ (c .if1 .taken) in rw e at (said (c .before .before))
 
-loop-holds : tie.Need-loop-holds Inv-loop μ-loop
-unfolding every
-loop-holds c = (omega arith, refl)
+is-empty-requires : tie.Need-is-empty-requires
+is-empty-requires c κs = search needs
 
-add-k : tie.Need-add-k Inv-loop μ-loop
-add-k c = search needs
-
-has-requires : tie.Need-has-requires Inv-loop μ-loop
-has-requires c κs = search needs
-
-without-requires : tie.Need-without-requires Inv-loop μ-loop
-without-requires c κs = search needs
-
-holds-requires-2 : tie.Need-holds-requires-2 Inv-loop μ-loop
-holds-requires-2 c κs = search needs
-
-returns-2 : tie.Need-returns-2 Inv-loop μ-loop
+returns-2 : tie.Need-returns-2
 returns-2 c =
-    let i = c .before .before .before .before .before .before in
-    let s = i .before .before .before in
-    one-spared (s .args .g) (s .args .length) (has (s .args .set .bits)) (i .loop .k + 1) (omega arith)
-    (sym (c .before .before .before .before .has .ensures) ∙ c .before .before .before .if2 .taken)
-    (left (c .before) ∙ c .if3 .taken)
+    let l = c .before .before in
+    let e : some 64 _ ≡ false = not-true _ (sym (c .before .is-empty .ensures) ∙ c .if2 .taken) in
+    rw (all l, e) at (said (l .before .before))
 
-loop-less : tie.Need-loop-less Inv-loop μ-loop
-loop-less c = search needs
+is-empty-requires-2 : tie.Need-is-empty-requires-2
+is-empty-requires-2 c κs = search needs
 
-loop-again : tie.Need-loop-again Inv-loop μ-loop
-loop-again c =
-    let i = c .before .before .before .before .before .before in
-    let s = i .before .before .before in
-    (omega arith, needed (s .args .g) (s .args .length) (has (s .args .set .bits)) (i .loop .k) (i .loop .inv .1) (left (c .before) ∙ c .if3 .left))
-
-loop-less-2 : tie.Need-loop-less-2 Inv-loop μ-loop
-loop-less-2 c = search needs
-
-loop-again-2 : tie.Need-loop-again-2 Inv-loop μ-loop
-loop-again-2 c =
-    let i = c .before .before .before in
-    let s = i .before .before .before in
-    (omega arith, no-member (s .args .g) (s .args .length) (has (s .args .set .bits)) (i .loop .k) (i .loop .inv .1) (sym (c .before .has .ensures) ∙ c .if2 .left))
-
-returns-3 : tie.Need-returns-3 Inv-loop μ-loop
+returns-3 : tie.Need-returns-3
 returns-3 c =
-    let l = c .before .loop in
-    let s = c .before .before .before .before in
-    let e : l .k ≡ s .args .length = omega arith in
-    none-spared (s .args .g) (s .args .length) (has (s .args .set .bits)) (held-is _ _ _ (s .pre) (c .before .before .before .holds .ensures) ∙ not-false _ (c .before .before .if1 .left))
-    (rw e at (l .inv .1))
+    let l = c .before .before in
+    let e : some 64 _ ≡ false = not-true _ (sym (c .before .is-empty2 .ensures) ∙ c .if3 .taken) in
+    rw (all (l .before .before), one l, e) at (said (l .before .before .before .before))
+
+joined-requires : tie.Need-joined-requires
+joined-requires c κs = search needs
+
+rest-requires : tie.Need-rest-requires
+rest-requires c κs = search needs
+
+is-empty-requires-3 : tie.Need-is-empty-requires-3
+is-empty-requires-3 c κs = search needs
+
+returns-4 : tie.Need-returns-4
+returns-4 c =
+    let l = c .before .before .before in
+    let o = l .before .before in
+    c .is-empty3 .ensures
+    ∙ ap (λ (s : ℕ → Bool). not (some 64 s)) (c .before .rest .ensures .0 ∙ ap (λ (s : ℕ → Bool). losing s (lowest 64 s)) (c .before .before .joined .ensures))
+    ∙ (rw (all (o .before .before), one o, two l) at (said (o .before .before .before .before)))
 
 pub is-smallest-spec : {M : Type 1} → statement M
 is-smallest-spec =
     tie.close
     (tie.spec
-    Inv-loop
-    μ-loop
-    holds-requires
+    cast-columns
+    with-first-requires
+    fills-requires
     returns
-    loop-holds
-    add-k
-    has-requires
-    without-requires
-    holds-requires-2
+    is-empty-requires
     returns-2
-    loop-less
-    loop-again
-    loop-less-2
-    loop-again-2
-    returns-3)
+    is-empty-requires-2
+    returns-3
+    joined-requires
+    rest-requires
+    is-empty-requires-3
+    returns-4)

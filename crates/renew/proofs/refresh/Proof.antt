@@ -71,8 +71,8 @@ part-renew-row-end c = omega (arith, target-fits (places c))
 renew-row-requires : tie.Need-renew-row-requires
 renew-row-requires c κs = target-long (places (c .before))
 
-copy-apart-requires : tie.Need-copy-apart-requires
-copy-apart-requires c κs = copy-fits (places (c .before .before .before .before .before)) (c .before .before .before .renew-row .last .0) (c .before .before .before .renew-row .kept .0)
+copy-within-requires : tie.Need-copy-within-requires
+copy-within-requires c κs = copy-fits (places (c .before .before .before .before .before)) (c .before .before .before .renew-row .last .0) (c .before .before .before .renew-row .kept .0)
 
 same-length : tie.Need-same-length
 same-length c = search needs
@@ -83,7 +83,7 @@ returns c =
     let row = c .before .before .before .before .before .before .renew-row in
     refreshed (places s) _ (row .kept .0) _
     (s .before .before .before .before .before .before .before .before .version .ensures ∙ ap (get version) (s .before .before .before .before .before .before .before .before .before .row-of .ensures .0))
-    (row .ensures) _ (c .before .before .copy-apart .ensures)
+    (row .ensures) _ (c .before .before .copy-within .ensures)
 
 pub refresh-spec : {M : Type 1} → statement M
 refresh-spec =
@@ -104,6 +104,6 @@ refresh-spec =
     part-renew-row-start
     part-renew-row-end
     renew-row-requires
-    copy-apart-requires
+    copy-within-requires
     same-length
     returns)

@@ -1,0 +1,216 @@
+-- Single calls on tables that no founding leads to, and foundings: what the histories do not reach.
+use mathlib.Core.Bool.{Bool, true, not, _&&_}
+use mathlib.Core.List.{List, [], _∷_, _++_}
+use Prim.Native.Nat.{ℕ, _+_, _-_}
+use lib.Dec.{eqb}
+use lib.ListN.{take}
+use Rattle.sets.specs.Upto.{upward}
+use Rattle.bytes.specs.Bytes.{zeros}
+use Rattle.fields.specs.Layout.{Field, get, mark, version, desired, epoch, members, rowBytes, contentsOf}
+use Rattle.protocol.specs.Calls.{outcome}
+use Rattle.protocol.proofs.Histories.{fo, jn, rdc, wrc, rd, wr, ck, same}
+use Rattle.protocol.proofs.Cases.{Case, On, Notes, pair, row1, row2, row3, set, single, third, unlisted, nobody, twoBytes, full, remarked}
+
+-- ---- calls
+-- a check by row 0: refused by 1, or by 2 where question 1 is passed
+unfoldable pub malformed : List ℕ → Case
+malformed t = On t (ck 0 0) 1 0 []
+
+unfoldable pub formed : List ℕ → Case
+formed t = On t (ck 0 0) 2 0 []
+
+-- a founding on so many bytes
+unfoldable pub founds : (length capacity fileLength : ℕ) (names : List ℕ) (refusal value : ℕ) → Case
+founds length capacity fileLength names refusal value = On (zeros length) (fo capacity fileLength names 0) refusal value []
+
+unfoldable pub cases : List Case
+cases =
+    -- ---- question 1: each rule broken, beside what is nearest to it and passes
+    -- form
+    formed pair
+    ∷ malformed (set 0 1 1 pair)
+    ∷ malformed (set 0 1 3 pair)
+    -- capacity
+    ∷ malformed (set 1 1 0 pair)
+    ∷ formed (single 64 1)
+    ∷ malformed (single 65 1)
+    -- rows used
+    ∷ malformed (set 2 1 0 pair)
+    ∷ formed (set 1 1 2 (take 82 pair))
+    ∷ malformed (set 1 1 2 (set 2 1 3 (take 82 pair)))
+    ∷ malformed (set 1 1 1 (take 49 pair))
+    -- first row
+    ∷ malformed (set 3 1 0 pair)
+    ∷ malformed (set 3 1 3 pair)
+    -- file length
+    ∷ malformed (single 1 0)
+    ∷ formed (single 1 1)
+    ∷ formed (single 1 4_096)
+    ∷ malformed (single 1 4_097)
+    -- the rest of the header
+    ∷ malformed (set 6 1 1 pair)
+    ∷ malformed (set 15 1 1 pair)
+    -- the table's length
+    ∷ malformed (pair ++ (0 ∷ []))
+    ∷ malformed (take 114 pair)
+    ∷ malformed (take 16 pair)
+    ∷ malformed []
+    -- names
+    ∷ malformed (set row1 2 0 pair)
+    ∷ formed (set row1 2 1 pair)
+    ∷ formed (set row2 2 65_535 pair)
+    ∷ malformed (set row2 2 9 pair)
+    ∷ malformed (set row2 2 10 pair)
+    ∷ formed (set row2 2 11 pair)
+    -- links: above the used rows, a ring, an end too early; the other way round
+    ∷ malformed (set (row2 + 2) 1 3 pair)
+    ∷ malformed (set (row2 + 2) 1 1 pair)
+    ∷ malformed (set (row2 + 2) 1 2 pair)
+    ∷ malformed (set (row1 + 2) 1 0 pair)
+    ∷ malformed (set 3 1 2 pair)
+    ∷ formed (set 3 1 2 (set (row1 + 2) 1 0 (set row2 2 5 (set (row2 + 2) 1 1 pair))))
+    -- mark and desired version
+    ∷ malformed (set (row2 + 3) 1 2 pair)
+    ∷ malformed (set (row2 + 3) 1 1 pair)
+    ∷ formed (set (row2 + 3) 1 1 (set (row2 + 8) 4 1 pair))
+    ∷ malformed (set (row2 + 8) 4 1 pair)
+    ∷ malformed (set (row2 + 3) 1 1 (set (row2 + 4) 4 2 (set (row2 + 8) 4 2 pair)))
+    ∷ formed (set (row2 + 3) 1 1 (set (row2 + 4) 4 2 (set (row2 + 8) 4 3 pair)))
+    -- the three numbers
+    ∷ formed (set (row2 + 4) 4 1_000_000 pair)
+    ∷ malformed (set (row2 + 4) 4 1_000_001 pair)
+    ∷ formed (set (row2 + 3) 1 1 (set (row2 + 8) 4 1_000_000 pair))
+    ∷ malformed (set (row2 + 3) 1 1 (set (row2 + 8) 4 1_000_001 pair))
+    ∷ formed (set (row1 + 12) 4 1_000_000 pair)
+    ∷ malformed (set (row1 + 12) 4 1_000_001 pair)
+    -- lists: a row that is not used, the own row missing, two lists in one epoch
+    ∷ malformed (set (row2 + 16) 8 7 pair)
+    ∷ malformed (set (row2 + 16) 8 1 pair)
+    ∷ formed (set (row2 + 16) 8 2 pair)
+    ∷ malformed (set (row1 + 12) 4 0 pair)
+    -- an empty list: the own row need not be in it, nor need it be that of its epoch, whichever row comes first; all lists empty
+    ∷ formed (unlisted 0)
+    ∷ formed (unlisted 1)
+    ∷ formed (set (row1 + 12) 4 0 (set (row1 + 16) 8 0 pair))
+    ∷ formed nobody
+    -- grid marks: 1 for five alone, 0 for every length; one mark for an epoch
+    ∷ formed (full 4)
+    ∷ malformed (remarked 4 1 (full 4))
+    ∷ formed (full 5)
+    ∷ formed (remarked 5 0 (full 5))
+    ∷ formed (remarked 5 2 (full 5))
+    ∷ malformed (remarked 5 3 (full 5))
+    ∷ malformed (set (row2 + 24) 1 0 (full 5))
+    ∷ malformed (remarked 6 1 (full 6))
+    ∷ malformed (set (row2 + 24) 1 1 (unlisted 0))
+    -- a tall table: every list has mark 2, whatever its epoch; an empty one has mark 0
+    ∷ formed (remarked 2 2 pair)
+    ∷ malformed (set (row1 + 24) 1 2 pair)
+    ∷ malformed (set (row2 + 24) 1 2 pair)
+    ∷ formed (set (row1 + 24) 1 2 (unlisted 0))
+    ∷ malformed (remarked 2 2 (unlisted 0))
+    -- zeros of a row; its contents; an unused row
+    ∷ malformed (set (row1 + 25) 1 1 pair)
+    ∷ malformed (set (row2 + 31) 1 1 pair)
+    ∷ formed (set (row2 + 32) 1 1 pair)
+    ∷ malformed (set row3 1 1 pair)
+    ∷ malformed (set (row3 + 32) 1 1 pair)
+    -- ---- a row with an empty list is passed over, whatever its epoch; with such rows alone question 6 is no
+    ∷ On (unlisted 900_000) (ck 1 3) 0 2 []
+    ∷ On (unlisted 900_000) (ck 1 1) 0 1 []
+    ∷ On (unlisted 1) (rd 2 3 0 1 (9 ∷ [])) 0 0 (5 ∷ [])
+    ∷ On (unlisted 900_000) (rd 2 2 0 1 (9 ∷ [])) 6 0 (9 ∷ [])
+    ∷ On nobody (rd 1 3 0 1 (9 ∷ [])) 6 0 (9 ∷ [])
+    ∷ On nobody (wr 1 3 0 (7 ∷ [])) 6 0 []
+    ∷ On nobody (ck 1 3) 6 0 []
+    -- ---- how many machines were called: the coordinator's own choice where the call stayed with P, also a P that is R, or lacks a row of the choice
+    ∷ Notes (full 5) (rd 1 31 0 1 (9 ∷ [])) 0 (2 ∷ [])
+    ∷ Notes (full 5) (rd 4 12 0 1 (9 ∷ [])) 0 (2 ∷ [])
+    ∷ Notes (full 5) (wr 2 31 0 (7 ∷ [])) 0 (3 ∷ [])
+    -- all used rows where it went on to R: done, refused by 6, by a coordinator without a list
+    ∷ Notes (full 5) (rd 1 25 0 1 (9 ∷ [])) 0 (5 ∷ [])
+    ∷ Notes (full 5) (rd 1 5 0 1 (9 ∷ [])) 6 (5 ∷ [])
+    ∷ Notes (unlisted 1) (rd 2 3 0 1 (9 ∷ [])) 0 (2 ∷ [])
+    -- what P called where 8 is no; 0 before question 6
+    ∷ Notes (set (row1 + 4) 4 1_000_000 pair) (wr 1 1 0 (7 ∷ [])) 8 (1 ∷ [])
+    ∷ Notes (set 0 1 0 pair) (rdc 2 3 0 1 (9 ∷ []) (9 ∷ [])) 1 (0 ∷ [])
+    ∷ Notes pair (rdc 3 3 0 1 (9 ∷ []) (9 ∷ [])) 2 (0 ∷ [])
+    ∷ Notes pair (wrc 2 1 0 (7 ∷ []) (9 ∷ [])) 3 (0 ∷ [])
+    ∷ Notes pair (wrc 2 3 1 (7 ∷ []) (9 ∷ [])) 4 (0 ∷ [])
+    ∷ Notes pair (rdc 2 3 0 1 [] (9 ∷ [])) 5 (0 ∷ [])
+    -- a list of another length is left alone and refused by 5, after 4
+    ∷ Notes pair (rdc 2 3 0 1 (9 ∷ []) []) 5 []
+    ∷ Notes pair (rdc 2 3 0 1 (9 ∷ []) (9 ∷ 9 ∷ [])) 5 (9 ∷ 9 ∷ [])
+    ∷ Notes pair (wrc 2 3 0 (7 ∷ []) []) 5 []
+    ∷ Notes pair (wrc 2 3 0 (7 ∷ []) (9 ∷ 9 ∷ [])) 5 (9 ∷ 9 ∷ [])
+    ∷ Notes pair (rdc 2 3 1 1 (9 ∷ []) []) 4 []
+    ∷ Notes pair (wrc 2 3 1 (7 ∷ []) []) 4 []
+    -- ---- a published five that was carried over keeps its grid, also through a check of all five; the new five does not need its third row
+    ∷ On (full 5) (rd 1 27 0 1 (9 ∷ [])) 0 0 (0 ∷ [])
+    ∷ On (remarked 5 0 (full 5)) (rd 1 27 0 1 (9 ∷ [])) 6 0 (9 ∷ [])
+    ∷ On (remarked 5 0 (full 5)) (rd 1 7 0 1 (9 ∷ [])) 0 0 (0 ∷ [])
+    ∷ On (full 5) (rd 1 5 0 1 (9 ∷ [])) 6 0 (9 ∷ [])
+    ∷ On (outcome (remarked 5 0 (full 5)) (ck 1 31) .table) (rd 1 27 0 1 (9 ∷ [])) 6 0 (9 ∷ [])
+    ∷ On (outcome (outcome (remarked 5 0 (full 5)) (ck 1 15) .table) (ck 1 31) .table) (rd 1 27 0 1 (9 ∷ [])) 0 0 (0 ∷ [])
+    -- ---- joining: 1, then 13 (name 0, above 65,535, in use), then 14
+    ∷ On pair (jn 15) 0 3 []
+    ∷ On pair (jn 1) 0 3 []
+    ∷ On pair (jn 65_535) 0 3 []
+    ∷ On pair (jn 0) 13 0 []
+    ∷ On pair (jn 65_536) 13 0 []
+    ∷ On pair (jn 20) 13 0 []
+    ∷ On (set 0 1 0 pair) (jn 0) 1 0 []
+    ∷ On (set 1 1 2 (take 82 pair)) (jn 10) 13 0 []
+    ∷ On (set 1 1 2 (take 82 pair)) (jn 15) 14 0 []
+    ∷ formed (outcome pair (jn 15) .table)
+    ∷ formed (outcome nobody (jn 1) .table)
+    -- ---- question 8, of a write and of a check that changes the list; one that does not is done
+    ∷ On (set (row1 + 4) 4 999_999 pair) (wr 1 1 0 (7 ∷ [])) 0 1_000_000 []
+    ∷ On (set (row1 + 4) 4 1_000_000 pair) (wr 1 1 0 (7 ∷ [])) 8 0 []
+    ∷ On (set (row1 + 12) 4 999_999 pair) (ck 1 3) 0 1_000_000 []
+    ∷ On (set (row1 + 12) 4 1_000_000 pair) (ck 1 3) 8 0 []
+    ∷ On (set (row1 + 12) 4 1_000_000 pair) (ck 1 1) 0 1_000_000 []
+    -- ---- a check may leave a table that question 1 turns down: row 3, which did not answer, has the new epoch with another list
+    ∷ formed (third 2)
+    ∷ On (third 2) (ck 1 3) 0 2 []
+    ∷ malformed (outcome (third 2) (ck 1 3) .table)
+    ∷ formed (outcome (third 3) (ck 1 3) .table)
+    -- ---- question 11: 1 to 64 names, strictly rising, none 0, two bytes each
+    ∷ founds 49 1 1 [] 11 0
+    ∷ founds 49 1 1 (10 ∷ []) 11 0
+    ∷ founds 49 1 1 (10 ∷ 0 ∷ []) 0 1
+    ∷ founds 49 1 1 (10 ∷ 0 ∷ 20 ∷ []) 11 0
+    ∷ founds 2_128 64 1 (twoBytes (upward 64 1)) 0 64
+    ∷ founds 2_128 64 1 (twoBytes (upward 65 1)) 11 0
+    ∷ founds 49 1 1 (0 ∷ 0 ∷ []) 11 0
+    ∷ founds 82 2 1 (10 ∷ 0 ∷ 9 ∷ 0 ∷ []) 11 0
+    ∷ founds 82 2 1 (10 ∷ 0 ∷ 10 ∷ 0 ∷ []) 11 0
+    -- ---- question 12; the value is the rows used, not the capacity
+    ∷ founds 82 2 1 (10 ∷ 0 ∷ 11 ∷ 0 ∷ []) 0 2
+    ∷ founds 115 3 1 (10 ∷ 0 ∷ 11 ∷ 0 ∷ []) 0 2
+    ∷ founds 49 1 1 (10 ∷ 0 ∷ 11 ∷ 0 ∷ []) 12 0
+    ∷ founds 16 0 1 (10 ∷ 0 ∷ []) 12 0
+    ∷ founds 2_161 65 1 (10 ∷ 0 ∷ []) 12 0
+    ∷ founds 48 1 0 (10 ∷ 0 ∷ []) 12 0
+    ∷ founds 4_144 1 4_096 (10 ∷ 0 ∷ []) 0 1
+    ∷ founds 4_145 1 4_097 (10 ∷ 0 ∷ []) 12 0
+    ∷ founds 48 1 1 (10 ∷ 0 ∷ []) 12 0
+    ∷ founds 50 1 1 (10 ∷ 0 ∷ []) 12 0
+    -- ---- the choice is 0 or 1
+    ∷ On (zeros 49) (fo 1 1 (10 ∷ 0 ∷ []) 1) 0 1 []
+    ∷ On (zeros 49) (fo 1 1 (10 ∷ 0 ∷ []) 2) 11 0 []
+    -- ---- 11 before 12
+    ∷ founds 0 0 0 [] 11 0
+    ∷ []
+
+-- ---- pair with every field of row 2 changed but name and link
+unfoldable pub other : List ℕ
+other = set (row2 + 3) 1 1 (set (row2 + 4) 4 1 (set (row2 + 8) 4 2 (set (row2 + 12) 4 2 (set (row2 + 16) 8 2 (set (row2 + 32) 1 6 pair)))))
+
+-- the fields differ in row 2
+unfoldable pub differ : List Field → Bool
+differ [] = true
+differ (f ∷ fs) = not (eqb (get f (rowBytes pair 2)) (get f (rowBytes other 2))) && differ fs
+
+unfoldable pub allDiffer : Bool
+allDiffer = differ (mark ∷ version ∷ desired ∷ epoch ∷ members ∷ []) && not (same (contentsOf pair 2) (contentsOf other 2))

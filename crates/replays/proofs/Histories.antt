@@ -1,0 +1,238 @@
+-- Short histories that expose wrong readings.
+use mathlib.Core.List.{List, [], _∷_, _++_}
+use Rattle.bytes.specs.Bytes.{zeros}
+use Rattle.protocol.proofs.Histories.{jn, rd, wr, sn, ck, Made, Called, Head, Contents, History}
+
+unfoldable pub histories : List History
+histories =
+    -- the desired-version test: a read that meets only rows left behind; row bytes
+    record {
+      capacity = 5;
+      fileLength = 3;
+      names = 10 ∷ 0 ∷ 20 ∷ 0 ∷ 30 ∷ 0 ∷ 40 ∷ 0 ∷ [];
+      choice = 0;
+      steps =
+          Made (wr 1 7 1 (7 ∷ 8 ∷ [])) 0 1 [] ∷
+          Made (wr 1 11 0 (9 ∷ [])) 0 2 [] ∷
+          Head 1 (10 ∷ 0 ∷ 2 ∷ 0 ∷ 2 ∷ 0 ∷ 0 ∷ 0 ∷ 0 ∷ 0 ∷ 0 ∷ 0 ∷ 0 ∷ 0 ∷ 0 ∷ 0 ∷ 15 ∷ 0 ∷ 0 ∷ 0 ∷ 0 ∷ 0 ∷ 0 ∷ 0 ∷ 0 ∷ 0 ∷ 0 ∷ 0 ∷ 0 ∷ 0 ∷ 0 ∷ 0 ∷ []) ∷
+          Contents 1 (9 ∷ 7 ∷ 8 ∷ []) ∷
+          Head 3 (30 ∷ 0 ∷ 4 ∷ 0 ∷ 1 ∷ 0 ∷ 0 ∷ 0 ∷ 0 ∷ 0 ∷ 0 ∷ 0 ∷ 0 ∷ 0 ∷ 0 ∷ 0 ∷ 15 ∷ 0 ∷ 0 ∷ 0 ∷ 0 ∷ 0 ∷ 0 ∷ 0 ∷ 0 ∷ 0 ∷ 0 ∷ 0 ∷ 0 ∷ 0 ∷ 0 ∷ 0 ∷ []) ∷
+          Contents 3 (0 ∷ 7 ∷ 8 ∷ []) ∷
+          Head 4 (40 ∷ 0 ∷ 0 ∷ 1 ∷ 0 ∷ 0 ∷ 0 ∷ 0 ∷ 2 ∷ 0 ∷ 0 ∷ 0 ∷ 0 ∷ 0 ∷ 0 ∷ 0 ∷ 15 ∷ 0 ∷ 0 ∷ 0 ∷ 0 ∷ 0 ∷ 0 ∷ 0 ∷ 0 ∷ 0 ∷ 0 ∷ 0 ∷ 0 ∷ 0 ∷ 0 ∷ 0 ∷ []) ∷
+          Contents 4 (0 ∷ 0 ∷ 0 ∷ []) ∷
+          Made (rd 3 12 0 1 (5 ∷ [])) 7 0 (5 ∷ []) ∷
+          Called (rd 3 12 0 1 (5 ∷ [])) 7 (4 ∷ []) ∷
+          Made (rd 2 15 0 3 (0 ∷ 0 ∷ 0 ∷ [])) 0 2 (9 ∷ 7 ∷ 8 ∷ []) ∷
+          [];
+    }
+    -- a check marks the rows that are not good
+    ∷ record {
+      capacity = 4;
+      fileLength = 2;
+      names = 10 ∷ 0 ∷ 20 ∷ 0 ∷ 30 ∷ 0 ∷ 40 ∷ 0 ∷ [];
+      choice = 0;
+      steps =
+          Made (ck 1 7) 0 1 [] ∷
+          Made (wr 1 3 0 (4 ∷ [])) 0 1 [] ∷
+          Made (ck 2 14) 0 2 [] ∷
+          Head 3 (30 ∷ 0 ∷ 4 ∷ 1 ∷ 0 ∷ 0 ∷ 0 ∷ 0 ∷ 1 ∷ 0 ∷ 0 ∷ 0 ∷ 2 ∷ 0 ∷ 0 ∷ 0 ∷ 14 ∷ 0 ∷ 0 ∷ 0 ∷ 0 ∷ 0 ∷ 0 ∷ 0 ∷ 0 ∷ 0 ∷ 0 ∷ 0 ∷ 0 ∷ 0 ∷ 0 ∷ 0 ∷ []) ∷
+          Contents 3 (0 ∷ 0 ∷ []) ∷
+          Head 2 (20 ∷ 0 ∷ 3 ∷ 0 ∷ 1 ∷ 0 ∷ 0 ∷ 0 ∷ 0 ∷ 0 ∷ 0 ∷ 0 ∷ 2 ∷ 0 ∷ 0 ∷ 0 ∷ 14 ∷ 0 ∷ 0 ∷ 0 ∷ 0 ∷ 0 ∷ 0 ∷ 0 ∷ 0 ∷ 0 ∷ 0 ∷ 0 ∷ 0 ∷ 0 ∷ 0 ∷ 0 ∷ []) ∷
+          Contents 2 (4 ∷ 0 ∷ []) ∷
+          Made (rd 3 12 0 1 (0 ∷ [])) 7 0 (0 ∷ []) ∷
+          Made (ck 2 14) 0 2 [] ∷
+          [];
+    }
+    -- m rows are not wanted of a short column
+    ∷ record {
+      capacity = 3;
+      fileLength = 1;
+      names = 10 ∷ 0 ∷ 20 ∷ 0 ∷ 30 ∷ 0 ∷ [];
+      choice = 0;
+      steps =
+          Made (wr 1 3 0 (5 ∷ [])) 0 1 [] ∷
+          Made (rd 1 3 0 1 (0 ∷ [])) 0 1 (5 ∷ []) ∷
+          Made (rd 1 5 0 1 (0 ∷ [])) 6 0 (0 ∷ []) ∷
+          [];
+    }
+    -- the list in force answers, and a read is refused all the same
+    ∷ record {
+      capacity = 4;
+      fileLength = 1;
+      names = 1 ∷ 0 ∷ 2 ∷ 0 ∷ 3 ∷ 0 ∷ 4 ∷ 0 ∷ [];
+      choice = 0;
+      steps =
+          Made (wr 1 7 0 (1 ∷ [])) 0 1 [] ∷
+          Made (wr 1 11 0 (2 ∷ [])) 0 2 [] ∷
+          Made (ck 1 13) 0 1 [] ∷
+          Made (wr 2 14 0 (3 ∷ [])) 0 3 [] ∷
+          Made (rd 1 13 0 1 (0 ∷ [])) 7 0 (0 ∷ []) ∷
+          [];
+    }
+    -- the early questions, in their order; ranges at the end of the file
+    ∷ record {
+      capacity = 2;
+      fileLength = 2;
+      names = 2 ∷ 1 ∷ 3 ∷ 2 ∷ [];
+      choice = 0;
+      steps =
+          Made (rd 3 3 0 1 (0 ∷ [])) 2 0 (0 ∷ []) ∷
+          Made (rd 1 7 0 1 (0 ∷ [])) 2 0 (0 ∷ []) ∷
+          Made (rd 1 2 0 1 (0 ∷ [])) 3 0 (0 ∷ []) ∷
+          Made (rd 1 3 1 2 (0 ∷ [])) 4 0 (0 ∷ []) ∷
+          Made (rd 1 3 0 0 (0 ∷ [])) 4 0 (0 ∷ []) ∷
+          Made (rd 1 3 0 1 (0 ∷ 0 ∷ [])) 5 0 (0 ∷ 0 ∷ []) ∷
+          Made (wr 1 3 2 (1 ∷ [])) 4 0 [] ∷
+          Made (wr 2 3 1 (3 ∷ [])) 0 1 [] ∷
+          Made (rd 2 3 1 1 (0 ∷ [])) 0 1 (3 ∷ []) ∷
+          Head 2 (3 ∷ 2 ∷ 0 ∷ 0 ∷ 1 ∷ 0 ∷ 0 ∷ 0 ∷ 0 ∷ 0 ∷ 0 ∷ 0 ∷ 0 ∷ 0 ∷ 0 ∷ 0 ∷ 3 ∷ 0 ∷ 0 ∷ 0 ∷ 0 ∷ 0 ∷ 0 ∷ 0 ∷ 0 ∷ 0 ∷ 0 ∷ 0 ∷ 0 ∷ 0 ∷ 0 ∷ 0 ∷ []) ∷
+          Contents 2 (0 ∷ 3 ∷ []) ∷
+          Made (wr 1 3 0 []) 4 0 [] ∷
+          Made (ck 1 3) 0 0 [] ∷
+          [];
+    }
+    -- a marked row is no sender
+    ∷ record {
+      capacity = 4;
+      fileLength = 1;
+      names = 10 ∷ 0 ∷ 20 ∷ 0 ∷ 30 ∷ 0 ∷ 40 ∷ 0 ∷ [];
+      choice = 0;
+      steps =
+          Made (wr 4 15 0 (1 ∷ [])) 0 1 [] ∷
+          Made (ck 2 11) 0 1 [] ∷
+          Made (wr 2 7 0 (2 ∷ [])) 0 2 [] ∷
+          Made (wr 3 15 0 (3 ∷ [])) 0 3 [] ∷
+          Head 3 (30 ∷ 0 ∷ 4 ∷ 1 ∷ 1 ∷ 0 ∷ 0 ∷ 0 ∷ 3 ∷ 0 ∷ 0 ∷ 0 ∷ 0 ∷ 0 ∷ 0 ∷ 0 ∷ 15 ∷ 0 ∷ 0 ∷ 0 ∷ 0 ∷ 0 ∷ 0 ∷ 0 ∷ 0 ∷ 0 ∷ 0 ∷ 0 ∷ 0 ∷ 0 ∷ 0 ∷ 0 ∷ []) ∷
+          Contents 3 (1 ∷ []) ∷
+          Head 4 (40 ∷ 0 ∷ 0 ∷ 1 ∷ 0 ∷ 0 ∷ 0 ∷ 0 ∷ 1 ∷ 0 ∷ 0 ∷ 0 ∷ 1 ∷ 0 ∷ 0 ∷ 0 ∷ 11 ∷ 0 ∷ 0 ∷ 0 ∷ 0 ∷ 0 ∷ 0 ∷ 0 ∷ 0 ∷ 0 ∷ 0 ∷ 0 ∷ 0 ∷ 0 ∷ 0 ∷ 0 ∷ []) ∷
+          Contents 4 (0 ∷ []) ∷
+          Made (sn 3 4 12) 9 0 [] ∷
+          [];
+    }
+    -- a check wants a write quorum
+    ∷ record {
+      capacity = 4;
+      fileLength = 1;
+      names = 10 ∷ 0 ∷ 20 ∷ 0 ∷ 30 ∷ 0 ∷ 40 ∷ 0 ∷ [];
+      choice = 0;
+      steps =
+          Made (ck 1 3) 6 0 [] ∷
+          Made (rd 1 3 0 1 (9 ∷ [])) 0 0 (0 ∷ []) ∷
+          Made (ck 1 7) 0 1 [] ∷
+          [];
+    }
+    -- a row joins in the middle of the chain: the list that it is checked into is laid in chain order, and so is a choice made
+    ∷ record {
+      capacity = 5;
+      fileLength = 1;
+      names = 10 ∷ 0 ∷ 30 ∷ 0 ∷ 40 ∷ 0 ∷ [];
+      choice = 0;
+      steps =
+          Made (jn 20) 0 4 [] ∷
+          Head 1 ((10 ∷ 0 ∷ 4 ∷ zeros 13) ++ (7 ∷ zeros 15)) ∷
+          Head 2 ((30 ∷ 0 ∷ 3 ∷ zeros 13) ++ (7 ∷ zeros 15)) ∷
+          Head 4 (20 ∷ 0 ∷ 2 ∷ zeros 29) ∷
+          Made (jn 20) 13 0 [] ∷
+          Made (jn 5) 0 5 [] ∷
+          Head 5 (5 ∷ 0 ∷ 1 ∷ zeros 29) ∷
+          Made (jn 40) 13 0 [] ∷
+          Made (jn 50) 14 0 [] ∷
+          Made (ck 1 15) 0 1 [] ∷
+          Made (rd 1 3 0 1 (0 ∷ [])) 6 0 (0 ∷ []) ∷
+          Made (rd 1 9 0 1 (1 ∷ [])) 0 0 (0 ∷ []) ∷
+          Made (wr 4 15 0 (7 ∷ [])) 0 1 [] ∷
+          Contents 1 (7 ∷ []) ∷
+          Contents 2 (7 ∷ []) ∷
+          Contents 3 (0 ∷ []) ∷
+          Contents 4 (7 ∷ []) ∷
+          Made (rd 5 16 0 1 (0 ∷ [])) 6 0 (0 ∷ []) ∷
+          Made (rd 5 25 0 1 (0 ∷ [])) 0 1 (7 ∷ []) ∷
+          [];
+    }
+    -- a row that joins before the first write takes it, and counts in no quorum
+    ∷ record {
+      capacity = 3;
+      fileLength = 1;
+      names = 10 ∷ 0 ∷ 20 ∷ 0 ∷ [];
+      choice = 0;
+      steps =
+          Made (jn 15) 0 3 [] ∷
+          Made (wr 3 5 0 (6 ∷ [])) 6 0 [] ∷
+          Made (wr 3 7 0 (6 ∷ [])) 0 1 [] ∷
+          Head 3 ((15 ∷ 0 ∷ 2 ∷ 0 ∷ 1 ∷ zeros 11) ++ zeros 16) ∷
+          Contents 3 (6 ∷ []) ∷
+          [];
+    }
+    -- a row that joins later is marked by a write, sent to, and checked in
+    ∷ record {
+      capacity = 3;
+      fileLength = 1;
+      names = 10 ∷ 0 ∷ 20 ∷ 0 ∷ [];
+      choice = 0;
+      steps =
+          Made (wr 1 3 0 (1 ∷ [])) 0 1 [] ∷
+          Made (jn 30) 0 3 [] ∷
+          Made (sn 1 3 5) 10 0 [] ∷
+          Made (wr 3 7 0 (2 ∷ [])) 0 2 [] ∷
+          Head 3 ((30 ∷ 0 ∷ 0 ∷ 1 ∷ 0 ∷ 0 ∷ 0 ∷ 0 ∷ 2 ∷ zeros 7) ++ zeros 16) ∷
+          Contents 3 (0 ∷ []) ∷
+          Made (sn 1 3 5) 0 2 [] ∷
+          Head 3 ((30 ∷ 0 ∷ 0 ∷ 0 ∷ 2 ∷ zeros 11) ++ zeros 16) ∷
+          Contents 3 (2 ∷ []) ∷
+          Made (ck 3 7) 0 1 [] ∷
+          Head 3 ((30 ∷ 0 ∷ 0 ∷ 0 ∷ 2 ∷ zeros 7) ++ ((1 ∷ 0 ∷ 0 ∷ 0 ∷ []) ++ (7 ∷ zeros 15))) ∷
+          [];
+    }
+    -- a list of five is laid in 3 rows and 2 columns: the third machine may be off; a check that takes one out and one that takes it in again lay it anew
+    ∷ record {
+      capacity = 5;
+      fileLength = 1;
+      names = 10 ∷ 0 ∷ 20 ∷ 0 ∷ 30 ∷ 0 ∷ 40 ∷ 0 ∷ 50 ∷ 0 ∷ [];
+      choice = 0;
+      steps =
+          Head 3 ((30 ∷ 0 ∷ 4 ∷ zeros 13) ++ ((31 ∷ zeros 7) ++ (1 ∷ zeros 7))) ∷
+          Made (rd 1 27 0 1 (9 ∷ [])) 0 0 (0 ∷ []) ∷
+          Made (wr 1 27 0 (7 ∷ [])) 0 1 [] ∷
+          Made (rd 1 21 0 1 (9 ∷ [])) 6 0 (9 ∷ []) ∷
+          Made (ck 1 31) 0 0 [] ∷
+          Made (ck 1 27) 0 1 [] ∷
+          Head 4 ((40 ∷ 0 ∷ 5 ∷ 0 ∷ 1 ∷ zeros 7) ++ ((1 ∷ 0 ∷ 0 ∷ 0 ∷ []) ++ ((27 ∷ zeros 7) ++ zeros 8))) ∷
+          Made (ck 1 31) 0 2 [] ∷
+          Head 3 ((30 ∷ 0 ∷ 4 ∷ 1 ∷ 0 ∷ 0 ∷ 0 ∷ 0 ∷ 1 ∷ 0 ∷ 0 ∷ 0 ∷ []) ++ ((2 ∷ 0 ∷ 0 ∷ 0 ∷ []) ++ ((31 ∷ zeros 7) ++ (1 ∷ zeros 7)))) ∷
+          [];
+    }
+    -- a choice over five goes by the grid that the list was laid in
+    ∷ record {
+      capacity = 5;
+      fileLength = 1;
+      names = 10 ∷ 0 ∷ 20 ∷ 0 ∷ 30 ∷ 0 ∷ 40 ∷ 0 ∷ 50 ∷ 0 ∷ [];
+      choice = 0;
+      steps =
+          Made (wr 2 31 0 (5 ∷ [])) 0 1 [] ∷
+          Contents 3 (5 ∷ []) ∷
+          Contents 4 (0 ∷ []) ∷
+          Contents 5 (5 ∷ []) ∷
+          [];
+    }
+    -- a tall table: either of two machines reads, both write; a check lays its list tall again, a list of five too
+    ∷ record {
+      capacity = 5;
+      fileLength = 1;
+      names = 10 ∷ 0 ∷ 20 ∷ 0 ∷ [];
+      choice = 1;
+      steps =
+          Head 2 ((20 ∷ 0 ∷ zeros 14) ++ ((3 ∷ zeros 7) ++ (2 ∷ zeros 7))) ∷
+          Made (rd 1 1 0 1 (9 ∷ [])) 0 0 (0 ∷ []) ∷
+          Made (wr 1 1 0 (7 ∷ [])) 6 0 [] ∷
+          Made (wr 2 3 0 (7 ∷ [])) 0 1 [] ∷
+          Made (rd 2 2 0 1 (9 ∷ [])) 0 1 (7 ∷ []) ∷
+          Made (jn 30) 0 3 [] ∷
+          Made (jn 40) 0 4 [] ∷
+          Made (jn 50) 0 5 [] ∷
+          Made (ck 3 31) 0 1 [] ∷
+          Head 5 ((50 ∷ 0 ∷ 0 ∷ 1 ∷ 0 ∷ 0 ∷ 0 ∷ 0 ∷ 1 ∷ 0 ∷ 0 ∷ 0 ∷ []) ++ ((1 ∷ 0 ∷ 0 ∷ 0 ∷ []) ++ ((31 ∷ zeros 7) ++ (2 ∷ zeros 7)))) ∷
+          Made (rd 1 3 0 1 (9 ∷ [])) 0 1 (7 ∷ []) ∷
+          Made (rd 1 5 0 1 (9 ∷ [])) 6 0 (9 ∷ []) ∷
+          [];
+    }
+    ∷ []

@@ -1,0 +1,3 @@
+pub mod Histories
+pub mod Cases
+pub mod Computed

@@ -1,0 +1,102 @@
+//! What the wrapper tells of a table, against the reference: its rows, and the sends that would be done.
+
+use crate::tables::Picture;
+use dyngrid::Table;
+use reference::Engine;
+
+/// Looks at a table, which is judged by the reference; gives how many sends would be done, or says how the wrapper differs. None
+/// if it is malformed.
+pub fn look(engine: Engine, bytes: &[u8], judged: Option<&Picture>) -> Result<Option<usize>, String> {
+    let (table, picture) = match (Table::from_bytes(bytes.to_vec()), judged) {
+        (Ok(table), Some(picture)) => (table, picture),
+        (Err(_), None) => return Ok(None),
+        (Ok(_), None) => return Err("the wrapper takes a malformed table".into()),
+        (Err(error), Some(_)) => return Err(format!("the wrapper does not take a table: {error}")),
+    };
+    for (row, state) in (1..).zip(&picture.rows) {
+        let told = table.row(row).filter(|view| {
+            let numbers = (view.stale, view.version, view.desired, view.epoch);
+            (view.row, view.name, view.list.bits(), view.grid_mark)
+                == (row, state.name, state.list.members, state.list.mark)
+                && numbers == (state.stale, state.version, state.desired, state.epoch)
+        });
+        if told.is_none() || table.row_named(state.name) != told {
+            return Err(format!("row {row} by the wrapper: {:?}", table.row(row)));
+        }
+    }
+    let (sends, expected) = (table.sends(), engine.sends(picture, bytes));
+    if sends != expected {
+        return Err(format!("sends: by the wrapper {sends:?}, by the reference {expected:?}"));
+    }
+    Ok(Some(sends.len()))
+}
+
+#[cfg(test)]
+mod tests {
+    use super::*;
+    use crate::damage;
+    use crate::random::Random;
+    use crate::tables::{self, Size};
+    use reference::{Blunder, Layout, Shape};
+
+    /// On tables that no founding leads to.
+    #[test]
+    fn the_wrapper_tells_what_the_reference_reads() {
+        let blunders = [Blunder::StaleSender, Blunder::BehindReceiver];
+        let (mut sends, mut found) = (0, [0; 2]);
+        for case in 0..2_000 {
+            let mut random = Random::new(9, case);
+            let size = Size::pick(&mut random);
+            let bytes = tables::well_formed(&mut random, size);
+            let picture = Picture::of(&bytes);
+            let look = |blunder| look(Engine { blunder, ..Engine::default() }, &bytes, picture.as_ref());
+            sends += look(None).unwrap_or_else(|what| panic!("case {case}: {what}")).expect("well formed");
+            for (found, blunder) in found.iter_mut().zip(blunders) {
+                *found += usize::from(look(Some(blunder)).is_err());
+            }
+        }
+        println!("{sends} sends");
+        assert!(sends > 2_000 && found.iter().all(|&found| found > 100), "{sends} {found:?}");
+    }
+
+    /// The last lines draw the list of the highest epoch in its grid; or there is none.
+    #[test]
+    fn the_list_in_force_is_drawn_as_it_lies() {
+        for case in 0..1_000 {
+            let mut random = Random::new(10, case);
+            let size = Size::pick(&mut random);
+            let bytes = tables::well_formed(&mut random, size);
+            let picture = Picture::of(&bytes).expect("well formed");
+            let shown = Table::from_bytes(bytes).expect("well formed").to_string();
+            let layout = Layout::of(picture.newest(picture.all_used()), &picture.chain);
+            let names = layout.members.iter().map(|&row| format!("{:>5}", picture.row(row.into()).name));
+            let names: Vec<String> = names.collect();
+            let drawn: Vec<String> =
+                names.chunks(layout.grid.columns.max(1)).map(|row| row.join("  ")).collect();
+            let lines: Vec<&str> = shown.lines().skip(2 + size.used).collect();
+            match lines[..] {
+                ["no row has a list"] => assert!(names.is_empty(), "case {case}:\n{shown}"),
+                [head, ref grid @ ..] => {
+                    let tall = picture.shape() == Some(Shape::Tall);
+                    assert_eq!(
+                        (head.contains("tall"), grid),
+                        (tall, &drawn.iter().map(String::as_str).collect::<Vec<_>>()[..]),
+                        "case {case}:\n{shown}"
+                    );
+                }
+                [] => panic!("case {case}: no grid in\n{shown}"),
+            }
+        }
+    }
+
+    /// Each rule broken: an error that says so, and never a panic.
+    #[test]
+    fn damaged_tables_are_not_taken() {
+        for case in 0..2_000 {
+            let (_, bytes) = damage::damaged(&mut Random::new(11, case));
+            assert_eq!(look(Engine::default(), &bytes, None), Ok(None), "case {case}");
+            let error = Table::from_bytes(bytes).expect_err("damaged").to_string();
+            assert!(error.contains("no table") || error.contains("of form 1"), "case {case}: {error}");
+        }
+    }
+}
