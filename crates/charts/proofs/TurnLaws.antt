@@ -3,7 +3,7 @@ use mathlib.Core.Path.{_≡_, refl, sym, _∙_, ap}
 use mathlib.Core.Bool.{Bool, true, false, cond, and-false}
 use mathlib.Core.List.{List, [], _∷_, _++_}
 use Prim.Native.Nat.{ℕ, zero, suc, _+_, _-_, _*_, _/_, _%_, _^_, _≤_, _<_}
-use native.Mathlib.Nat.{zero-add, suc-add, mod-eq-of-lt, mul-mod-left, mul-le-mul-right, add-mod-right, div-add-mod', div-div-eq-div-mul}
+use native.Mathlib.Nat.{zero-add, suc-add, mul-mod-left, mul-le-mul-right, div-add-mod'}
 use native.Mathlib.Numerals.{add-one}
 use native.Mathlib.Decide.{decLt}
 use native.Mathlib.Omega.{arith}
@@ -24,22 +24,6 @@ use Rattle.bytes.proofs.ByteLaws.{put-more}
 use Rattle.charting.specs.Charts.{smallest, chart, inPlaces, hasChart}
 use Rattle.charting.proofs.Computed.{chart-mark}
 use Rattle.charting.proofs.ChartLaws.{chartTo, places-length, places-more}
-
--- ---- columns_above
--- a set without its first a positions, and without n more
-pub shift-more : (s a n : ℕ) → s / 2 ^ a / 2 ^ n ≡ s / 2 ^ (a + n)
-shift-more s a n = rw (div-div-eq-div-mul s (2 ^ a) (2 ^ n), pow-add 2 a n)
-
--- a multiple of n, one n less
-pub multiple-less : (n x : ℕ) → n ≤ x → x % n ≡ 0 → (x - n) % n ≡ 0
-multiple-less n x h e = let z : x - n + n ≡ x = omega arith in sym (add-mod-right (x - n) n) ∙ ap (λ (y : ℕ). y % n) z ∙ e
-
-pub multiple-last : (n x : ℕ) → x % n ≡ 0 → 1 ≤ x → x ≤ n → x ≡ n
-multiple-last n x e some l = go (decLt x n)
-  where
-    go : Dec (x < n) → x ≡ n
-    go (yes h) = absurd (omega (arith, mod-eq-of-lt h))
-    go (no h) = omega arith
 
 -- ---- draw_row: the sets from a multiple of m on, m of them, have the same rows above the first
 pub same-block : (m start x : ℕ) → start % m ≡ 0 → start ≤ x → x < start + m → x / m ≡ start / m

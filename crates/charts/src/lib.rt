@@ -7,72 +7,11 @@ ghost use mathlib.Core.Bool.{true, cond};
 ghost use mathlib.Core.List.{List};
 ghost use Prim.Native.Nat.{ℕ, _+_, _-_, _*_, _/_, _%_, _^_, _≤_};
 ghost use lib.ListN.{length};
-ghost use Rattle.sets.specs.Sets.{has};
 ghost use Rattle.bytes.specs.Bytes.{bytesOf, put};
 ghost use Rattle.asking.specs.Asking.{result};
 ghost use Rattle.grid.specs.Sizes.{Fits};
-ghost use Rattle.charting.specs.Charts.{smallest, chart, inPlaces, hasChart, charted};
+ghost use Rattle.charting.specs.Charts.{chart, inPlaces, hasChart, charted};
 ghost use Rattle.charting.proofs.ChartLaws.{chartTo};
-ghost use Rattle.charting.proofs.ColumnLaws.{ColumnsOf};
-
-// Of some rows of the grid: the columns with a member, those with two, and those without a gap.
-struct Columns {
-    touched: RowSet,
-    twice: RowSet,
-    whole: RowSet,
-}
-
-// The columns of a set of positions: those of the rows above the first, and the first row.
-fn with_first(above: Columns, columns: usize, length: usize, set: RowSet) -> Columns
-    requires { ⌜ (columns ≤ 64) × (length ≤ 64) × ColumnsOf (has (above .touched .bits)) (has (above .twice .bits)) (has (above .whole .bits)) columns (length - columns) (has (set .bits / 2 ^ columns)) ⌝ }
-    ensures { λ r. ⌜ ColumnsOf (has (r .touched .bits)) (has (r .twice .bits)) (has (r .whole .bits)) columns length (has (set .bits)) ⌝ }
-{
-    let seats = RowSet::first(length).cut(RowSet::first(columns));
-    let row = seats.cut(set);
-    Columns {
-        touched: above.touched.joined(row),
-        twice: above.twice.joined(above.touched.cut(row)),
-        whole: above.whole.outside(seats.outside(set)),
-    }
-}
-
-// The columns of the rows above the first, from the last row on.
-fn columns_above(g: Grid, length: usize, set: u64) -> Columns
-    requires { ⌜ Fits g length × (length ≤ 64) ⌝ }
-    ensures { λ r. ⌜ ColumnsOf (has (r .touched .bits)) (has (r .twice .bits)) (has (r .whole .bits)) (g .cols) (length - g .cols) (has (set / 2 ^ g .cols)) ⌝ }
-{
-    let columns = g.cols as usize;
-    let mut c = Columns {
-        touched: RowSet::EMPTY,
-        twice: RowSet::EMPTY,
-        whole: RowSet::first(columns),
-    };
-    let mut at = g.rows as usize * columns;
-    while columns < at {
-        at -= columns;
-        c = with_first(c, columns, length - at, RowSet { bits: set >> at });
-    }
-    c
-}
-
-// Is a set a smallest write quorum? It touches every column, has a whole one, and only that can have two members.
-fn is_smallest(g: Grid, length: usize, set: RowSet, above: Columns) -> bool
-    requires { ⌜ Fits g length × (length ≤ 64) × ColumnsOf (has (above .touched .bits)) (has (above .twice .bits)) (has (above .whole .bits)) (g .cols) (length - g .cols) (has (set .bits / 2 ^ g .cols)) ⌝ }
-    ensures { λ r. ⌜ r ≡ smallest g length (has (set .bits)) ⌝ }
-{
-    let columns = g.cols as usize;
-    let c = with_first(above, columns, length, set);
-    if !c.touched.fills(columns) {
-        return false;
-    }
-    if c.whole.is_empty() {
-        return false;
-    }
-    if c.twice.is_empty() {
-        return true;
-    }
-    c.twice.joined(c.whole).rest().is_empty()
-}
 
 // A set entered at a byte of the list, where it is wanted; where the next goes.
 fn enter(list: &mut [u8], at: usize, set: u64, wanted: bool) -> usize
@@ -91,12 +30,12 @@ fn draw_row(list: &mut [u8], from: usize, start: u64, g: Grid, members: usize) -
     requires { ⌜ Fits g members × (members ≤ 9) × (length (chart g members) ≤ 64) × (128 ≤ length (now list)) × (start % 2 ^ g .cols ≡ 0) × (start + 2 ^ g .cols ≤ 2 ^ members) × (from ≡ 2 * length (chartTo g members start)) ⌝ }
     ensures { λ r. ⌜ (r ≡ 2 * length (chartTo g members (start + 2 ^ g .cols))) × ((xs : List ℕ) → now (list .entry) ≡ put 0 (inPlaces (chartTo g members start)) xs → now (list .exit) ≡ put 0 (inPlaces (chartTo g members (start + 2 ^ g .cols))) xs) ⌝ }
 {
-    let above = columns_above(g, members, start);
+    let above = columns::columns_above(g, members, start);
     let end = start + (1 << g.cols as usize);
     let mut at = from;
     let mut set = start;
     while set < end {
-        let wanted = is_smallest(g, members, RowSet { bits: set }, above);
+        let wanted = columns::is_smallest(g, members, RowSet { bits: set }, above);
         at = enter(list, at, set, wanted);
         set += 1;
     }

@@ -2,8 +2,8 @@ use borrow.Author.Needs.{needs}
 use Rattle.sets.specs.Sets.{has}
 use Rattle.sets.proofs.SetLaws.{has-shift}
 use Rattle.charting.proofs.ColumnLaws.{first-row}
-use Rattle.charts.proofs.with_first.Statement.{statement}
-use Rattle.charts.proofs.with_first.Tie as tie
+use Rattle.columns.proofs.with_first.Statement.{statement}
+use Rattle.columns.proofs.with_first.Tie as tie
 
 first-requires : tie.Need-first-requires
 first-requires c κs = search needs

@@ -5,9 +5,9 @@ use native.Mathlib.Omega.{arith}
 use borrow.Author.Needs.{needs}
 use Rattle.sets.specs.Sets.{has}
 use Rattle.charting.proofs.ColumnLaws.{ColumnsOf, no-row}
-use Rattle.charts.proofs.TurnLaws.{shift-more, multiple-less, multiple-last}
-use Rattle.charts.proofs.columns_above.Statement.{statement}
-use Rattle.charts.proofs.columns_above.Tie as tie
+use Rattle.columns.proofs.ShiftLaws.{shift-more, multiple-less, multiple-last}
+use Rattle.columns.proofs.columns_above.Statement.{statement}
+use Rattle.columns.proofs.columns_above.Tie as tie
 
 abbrev Inv-loop : tie.InvT-loop
 Inv-loop length set columns c₀ at₀ c at = (1 ≤ columns) × (columns ≤ 64) × (length ≤ 64) × (at % columns ≡ 0) × (1 ≤ at) × (at < length + columns)

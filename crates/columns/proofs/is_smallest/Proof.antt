@@ -8,8 +8,8 @@ use Rattle.sets.specs.Upto.{every, some, lowest}
 use Rattle.sets.specs.Sets.{has, losing}
 use Rattle.charting.specs.Charts.{smallest}
 use Rattle.charting.proofs.ColumnLaws.{asked, by-columns}
-use Rattle.charts.proofs.is_smallest.Statement.{statement}
-use Rattle.charts.proofs.is_smallest.Tie as tie
+use Rattle.columns.proofs.is_smallest.Statement.{statement}
+use Rattle.columns.proofs.is_smallest.Tie as tie
 
 -- what the columns of the set say
 said : (c : tie.After-with-first) → let a = c .before .before .args in let r = c .with-first .result in
