@@ -10,22 +10,15 @@ use lib.ListN.{length, getD, drop, length-append}
 use lib.Pow.{pow-mono}
 use borrow.Author.Tests.{le-leb, lt-leb, leb-true, leb-false, ltb-true}
 use Rattle.bools.proofs.BoolLaws.{and-l}
-use Rattle.sets.specs.Upto.{upward, keep}
-use Rattle.sets.specs.Sets.{has}
 use Rattle.sets.proofs.RisingLaws.{among-at}
-use Rattle.grid.specs.declared.Grid.{Grid}
 use Rattle.grid.specs.Sizes.{gridBy}
 use Rattle.bytes.specs.Bytes.{number, bytesOf, part, put}
 use Rattle.bytes.proofs.ByteLaws.{length-bytes, number-bytes, part-part, length-put, part-put, drop-put-after}
 use Rattle.asking.specs.Asking.{firstNo}
-use Rattle.charting.specs.Charts.{smallest, chart, inPlaces, hasChart, places, chartQuestions, Charted, charted}
+use Rattle.charting.specs.Charts.{chart, inPlaces, hasChart, places, chartQuestions, Charted, charted}
 use Rattle.charting.specs.Claims.{ChartIs, PlacesSuffice, PlacesHold, UnusedStay}
 use Rattle.charting.proofs.SmallestLaws.{chart-is}
 use Rattle.charting.proofs.Computed.{chart-length, places-suffice}
-
--- the chart as far as the numbers below n
-unfoldable pub chartTo : Grid → ℕ → ℕ → List ℕ
-chartTo g N n = keep (λ x. smallest g N (has x)) (upward n 0)
 
 -- ---- the places
 pub places-length : (xs : List ℕ) → length (inPlaces xs) ≡ 2 * length xs

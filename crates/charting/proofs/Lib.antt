@@ -1,4 +1,3 @@
 pub mod Computed
 pub mod SmallestLaws
 pub mod ChartLaws
-pub mod ColumnLaws

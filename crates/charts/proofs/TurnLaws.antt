@@ -23,7 +23,8 @@ use Rattle.bytes.specs.Bytes.{bytesOf, put}
 use Rattle.bytes.proofs.ByteLaws.{put-more}
 use Rattle.charting.specs.Charts.{smallest, chart, inPlaces, hasChart}
 use Rattle.charting.proofs.Computed.{chart-mark}
-use Rattle.charting.proofs.ChartLaws.{chartTo, places-length, places-more}
+use Rattle.charts.specs.Drawn.{chartTo}
+use Rattle.charting.proofs.ChartLaws.{places-length, places-more}
 
 -- ---- draw_row: the sets from a multiple of m on, m of them, have the same rows above the first
 pub same-block : (m start x : ℕ) → start % m ≡ 0 → start ≤ x → x < start + m → x / m ≡ start / m

@@ -11,7 +11,7 @@ ghost use Rattle.bytes.specs.Bytes.{bytesOf, put};
 ghost use Rattle.asking.specs.Asking.{result};
 ghost use Rattle.grid.specs.Sizes.{Fits};
 ghost use Rattle.charting.specs.Charts.{chart, inPlaces, hasChart, charted};
-ghost use Rattle.charting.proofs.ChartLaws.{chartTo};
+ghost use Rattle.charts.specs.Drawn.{chartTo};
 
 // A set entered at a byte of the list, where it is wanted; where the next goes.
 fn enter(list: &mut [u8], at: usize, set: u64, wanted: bool) -> usize

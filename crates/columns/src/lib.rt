@@ -6,7 +6,7 @@ ghost use Prim.Native.Nat.{_-_, _/_, _^_, _≤_};
 ghost use Rattle.sets.specs.Sets.{has};
 ghost use Rattle.grid.specs.Sizes.{Fits};
 ghost use Rattle.charting.specs.Charts.{smallest};
-ghost use Rattle.charting.proofs.ColumnLaws.{ColumnsOf};
+ghost use Rattle.columns.specs.Columns.{ColumnsOf};
 
 // Of some rows of the grid: the columns with a member, those with two, and those without a gap.
 pub struct Columns {

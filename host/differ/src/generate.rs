@@ -160,15 +160,7 @@ impl Plan {
                 }));
             }
         }
-        Plan {
-            start: Vec::new(),
-            ledger: Ledger::default(),
-            calls: calls.len(),
-            opening: calls.into_iter(),
-            foundings: None,
-            known: None,
-            up: 0,
-        }
+        Plan::of(Vec::new(), calls)
     }
 
     /// Every choice on a well-formed table of a few rows, and every way to be refused one.
@@ -187,6 +179,11 @@ impl Plan {
                 }));
             }
         }
+        Plan::of(start, calls)
+    }
+
+    /// These calls, and no others.
+    fn of(start: Vec<u8>, calls: Vec<Call>) -> Plan {
         Plan {
             start,
             ledger: Ledger::default(),

@@ -8,7 +8,7 @@ use lib.Pow.{pow-mono, pow-pos}
 use Rattle.sets.proofs.DigitLaws.{shl-one}
 use Rattle.bytes.specs.Bytes.{put}
 use Rattle.charting.specs.Charts.{inPlaces}
-use Rattle.charting.proofs.ChartLaws.{chartTo}
+use Rattle.charts.specs.Drawn.{chartTo}
 use Rattle.charts.proofs.TurnLaws.{next-block, power-multiple, draw-start, draw-end}
 use Rattle.charts.proofs.draw.Statement.{statement}
 use Rattle.charts.proofs.draw.Tie as tie

@@ -8,7 +8,7 @@ use lib.Pow.{pow-mono}
 use Rattle.sets.proofs.DigitLaws.{shl-one}
 use Rattle.bytes.specs.Bytes.{put}
 use Rattle.charting.specs.Charts.{inPlaces}
-use Rattle.charting.proofs.ChartLaws.{chartTo}
+use Rattle.charts.specs.Drawn.{chartTo}
 use Rattle.charts.proofs.TurnLaws.{same-block, draw-room, at-turn, list-turn}
 use Rattle.charts.proofs.draw_row.Statement.{statement}
 use Rattle.charts.proofs.draw_row.Tie as tie

@@ -4,7 +4,8 @@ use native.Mathlib.Nat.{mul-mod-left}
 use native.Mathlib.Omega.{arith}
 use borrow.Author.Needs.{needs}
 use Rattle.sets.specs.Sets.{has}
-use Rattle.charting.proofs.ColumnLaws.{ColumnsOf, no-row}
+use Rattle.columns.specs.Columns.{ColumnsOf}
+use Rattle.columns.proofs.ColumnLaws.{no-row}
 use Rattle.columns.proofs.ShiftLaws.{shift-more, multiple-less, multiple-last}
 use Rattle.columns.proofs.columns_above.Statement.{statement}
 use Rattle.columns.proofs.columns_above.Tie as tie

@@ -7,7 +7,7 @@ use borrow.Author.Tests.{not-true, not-false}
 use Rattle.sets.specs.Upto.{every, some, lowest}
 use Rattle.sets.specs.Sets.{has, losing}
 use Rattle.charting.specs.Charts.{smallest}
-use Rattle.charting.proofs.ColumnLaws.{asked, by-columns}
+use Rattle.columns.proofs.ColumnLaws.{asked, by-columns}
 use Rattle.columns.proofs.is_smallest.Statement.{statement}
 use Rattle.columns.proofs.is_smallest.Tie as tie
 

@@ -1,7 +1,7 @@
 use borrow.Author.Needs.{needs}
 use Rattle.sets.specs.Sets.{has}
 use Rattle.sets.proofs.SetLaws.{has-shift}
-use Rattle.charting.proofs.ColumnLaws.{first-row}
+use Rattle.columns.proofs.ColumnLaws.{first-row}
 use Rattle.columns.proofs.with_first.Statement.{statement}
 use Rattle.columns.proofs.with_first.Tie as tie
 

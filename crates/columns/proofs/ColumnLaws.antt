@@ -20,16 +20,9 @@ use Rattle.grid.specs.Sizes.{columnOf}
 use Rattle.quorums.specs.declared.Kind.the-variants.{Write}
 use Rattle.quorums.specs.Quorums.{touches, covers, readQuorum, writeQuorum, quorum}
 use Rattle.quorums.proofs.QuorumLaws.{touched, touch, covered, cover}
 use Rattle.charting.specs.Charts.{smallest}
+use Rattle.columns.specs.Columns.{heldIn, twice, ColumnsOf}
 use Rattle.charting.proofs.SmallestLaws.{smallest-writes, stops, smallest-of, lost, lose-part}
-
--- how many members column j has
-heldIn : ℕ → ℕ → (ℕ → Bool) → ℕ → ℕ
-heldIn n N held j = count N (λ k. held k && eqb j (columnOf n k))
-
--- it has two members in column j
-pub twice : ℕ → ℕ → (ℕ → Bool) → ℕ → Bool
-twice n N held j = leb 2 (heldIn n N held j)
 
 some-count : (N : ℕ) (p : ℕ → Bool) → some N p ≡ leb 1 (count N p)
 unfolding count
@@ -145,13 +138,7 @@ module _ (g : Grid) (N : ℕ) (held : ℕ → Bool) (some-column : 1 ≤ g .cols
               left = and-i _ _ (and-i _ _ (le-leb 1 (g .cols) some-column) (every-of (g .cols) _ (λ x u. each x u (ℕ-discrete x j))))
                   (some-of (g .cols) _ i v (cover g N (losing held k) i (λ x u z. stays k x (λ y. d (sym z ∙ y ∙ r .2)) (covered g N held x u (rw z c)))))
 
--- ---- three sets of columns tell of the positions 1 to N of a grid with n columns: those touched, those with two members, those whole
-pub record ColumnsOf (touched′ two′ whole′ : ℕ → Bool) (n N : ℕ) (held : ℕ → Bool) : Type 0 where
-  pub touched : (j : ℕ) → Within n j → touched′ j ≡ touches n N held j
-  pub two : (j : ℕ) → Within n j → two′ j ≡ twice n N held j
-  pub whole : (j : ℕ) → Within n j → whole′ j ≡ covers n N held j
-  pub inside : (j : ℕ) → joining two′ whole′ j ≡ true → Within n j
-
+-- ---- three sets of columns: what the code asks of them
 -- the last member left is the lowest
 alone : (p : ℕ → Bool) → some 64 (losing p (lowest 64 p)) ≡ false → (i : ℕ) → Within 64 i → p i ≡ true → i ≡ lowest 64 p
 unfolding losing
@@ -161,7 +148,7 @@ alone p e i w h = go (ℕ-discrete i (lowest 64 p))
     go (yes q) = q
     go (no d) = absurd (clash (sym (none-at 64 _ e i w) ∙ rw (h, ne-eqb i (lowest 64 p) d)))
 
--- what the code asks of them: the columns with two members and the whole ones are one column, if there is one with two
+-- the columns with two members and the whole ones are one column, if there is one with two
 abbrev pub asked : ℕ → (ℕ → Bool) → (ℕ → Bool) → (ℕ → Bool) → Bool
 asked n t w h = every n t && (some 64 h && (not (some 64 w) || not (some 64 (losing (joining w h) (lowest 64 (joining w h))))))
 
