@@ -1,17 +1,17 @@
 -- Fields: what was stored is read back; other fields, the reserved bytes and the contents stay; the length stays. And a row's length.
 use mathlib.Core.Path.{_≡_, refl, sym, _∙_, ap, ap₂}
 use mathlib.Core.Logic.{_⊎_, inl, inr}
-use mathlib.Core.List.{List}
+use mathlib.Core.List.{List, _++_, append-nil}
 use Prim.Native.Nat.{ℕ, _+_, _-_, _*_, _^_, _≤_, _<_}
 use native.Mathlib.Nat.{mul-le-mul}
 use native.Mathlib.Omega.{arith}
-use lib.ListN.{length, drop, length-drop}
-use lib.Seq.{take-all}
+use lib.ListN.{length, take, drop}
+use lib.Seq.{drop-at, drop-length, length-take-le}
 use Rattle.bytes.specs.Bytes.{number, bytesOf, part, put}
 use Rattle.fields.specs.declared.Laid.{Laid}
 use Rattle.blocks.specs.Blocks.{block}
-use Rattle.fields.specs.Layout.{Field, get, store, members, gridMark, list, noList, rowBytes, listOf, reserved, contents, storeContents, bodyLength, stride, fileLengthOf, rowLength}
-use Rattle.bytes.proofs.ByteLaws.{length-bytes, number-bytes, length-put, part-put, part-apart, drop-put-after, drop-put-before}
+use Rattle.fields.specs.Layout.{Field, get, store, members, gridMark, list, noList, rowBytes, listOf, reserved, contents, storeContents, records, storeRecords, bodyLength, stride, fileLengthOf, rowLength}
+use Rattle.bytes.proofs.ByteLaws.{length-bytes, number-bytes, length-part, length-put, part-put, part-apart, drop-put-after, part-put-in}
 
 -- the bytes of f end by place n
 abbrev pub Ends : Field → ℕ → Type 0
@@ -49,16 +49,23 @@ module _ (f : Field) (v : ℕ) (xs : List ℕ) (h : Ends f (length xs)) where
   unfolding get
   get-other g q = ap number (part-store (g .place) (g .width) q)
 
-  pub reserved-store : f .place + f .width ≤ 25 → reserved (store f v xs) ≡ reserved xs
+  pub reserved-store : f .place + f .width ≤ 26 → reserved (store f v xs) ≡ reserved xs
   unfolding reserved
-  reserved-store q = part-store 25 7 (inr q)
+  reserved-store q = part-store 26 6 (inr q)
 
   pub contents-store : f .place + f .width ≤ 32 → contents (store f v xs) ≡ contents xs
-  unfolding contents store
-  contents-store q = drop-put-after xs (f .place) (bytesOf (f .width) v) stored-fits 32 (rw (length-bytes (f .width) v) q)
+  unfolding contents
+  contents-store q = ap (λ (n : ℕ). part 32 (n - 608) (store f v xs)) length-store ∙ part-store 32 (length xs - 608) (inr q)
+
+  pub records-store : f .place + f .width ≤ 32 → 608 ≤ length xs → records (store f v xs) ≡ records xs
+  unfolding records store
+  records-store q l = ap (λ (n : ℕ). drop (n - 576) (store f v xs)) length-store ∙ drop-put-after xs (f .place) (bytesOf (f .width) v) stored-fits (length xs - 576) (rw (length-bytes (f .width) v) (omega arith))
 
 -- ---- bytes stored in the contents
-module _ (offset : ℕ) (p xs : List ℕ) (h : 32 + offset + length p ≤ length xs) where
+module _ (offset : ℕ) (p xs : List ℕ) (room : 608 + offset + length p ≤ length xs) where
+  h : 32 + offset + length p ≤ length xs
+  h = omega arith
+
   pub length-contents : length (storeContents offset p xs) ≡ length xs
   unfolding storeContents
   length-contents = length-put xs (32 + offset) p h
@@ -73,19 +80,55 @@ module _ (offset : ℕ) (p xs : List ℕ) (h : 32 + offset + length p ≤ length
 
   pub reserved-contents : reserved (storeContents offset p xs) ≡ reserved xs
   unfolding reserved
-  reserved-contents = part-contents 25 7 (omega arith)
+  reserved-contents = part-contents 26 6 (omega arith)
 
   -- the patch is laid over the contents
   pub contents-contents : contents (storeContents offset p xs) ≡ put offset p (contents xs)
   unfolding contents storeContents
-  contents-contents =
-      let n : 32 + offset - 32 ≡ offset = omega arith in
-      drop-put-before xs (32 + offset) p h 32 (omega arith) ∙ ap (λ (n : ℕ). put n p (drop 32 xs)) n
+  contents-contents = ap (λ (n : ℕ). part 32 (n - 608) (storeContents offset p xs)) length-contents ∙ part-put-in 32 (length xs - 608) offset p xs (omega arith) (omega arith)
+
+  pub records-contents : records (storeContents offset p xs) ≡ records xs
+  unfolding records storeContents
+  records-contents = ap (λ (n : ℕ). drop (n - 576) (storeContents offset p xs)) length-contents ∙ drop-put-after xs (32 + offset) p h (length xs - 576) (omega arith)
+
+-- ---- other records
+module _ (b xs : List ℕ) (l : length b ≡ 576) (room : 608 ≤ length xs) where
+  records-fit : length xs - 576 + length b ≤ length xs
+  records-fit = omega arith
+
+  pub length-records : length (storeRecords b xs) ≡ length xs
+  unfolding storeRecords
+  length-records = length-put xs (length xs - 576) b records-fit
+
+  pub part-records : (a n : ℕ) → a + n ≤ length xs - 576 → part a n (storeRecords b xs) ≡ part a n xs
+  unfolding storeRecords
+  part-records a n q = part-apart xs (length xs - 576) b records-fit a n (inl q)
+
+  pub get-records : (g : Field) → Ends g 32 → get g (storeRecords b xs) ≡ get g xs
+  unfolding get
+  get-records g q = ap number (part-records (g .place) (g .width) (omega arith))
+
+  pub reserved-records : reserved (storeRecords b xs) ≡ reserved xs
+  unfolding reserved
+  reserved-records = part-records 26 6 (omega arith)
+
+  pub contents-records : contents (storeRecords b xs) ≡ contents xs
+  unfolding contents
+  contents-records = ap (λ (n : ℕ). part 32 (n - 608) (storeRecords b xs)) length-records ∙ part-records 32 (length xs - 608) (omega arith)
+
+  pub records-records : records (storeRecords b xs) ≡ b
+  unfolding records storeRecords put
+  records-records = ap (λ (n : ℕ). drop (n - 576) (storeRecords b xs)) length-records
+      ∙ drop-at (take (length xs - 576) xs) (b ++ drop (length xs - 576 + length b) xs) (length xs - 576) (length-take-le (length xs - 576) xs (omega arith))
+      ∙ ap (λ (n : ℕ). b ++ drop n xs) e ∙ ap (λ (l : List ℕ). b ++ l) (drop-length xs) ∙ append-nil b
+    where
+      e : length xs - 576 + length b ≡ length xs
+      e = omega arith
 
 -- ---- a row's length and what it has room for: no other law opens a row's body
 -- the longest row
 abbrev pub widest : ℕ
-widest = 4_128
+widest = 4_704
 
 stride-most : {file : ℕ} → file ≤ 4_096 → stride file ≤ widest
 unfolding stride bodyLength
@@ -99,14 +142,30 @@ pub body-room : (file : ℕ) → file ≤ bodyLength file
 unfolding bodyLength
 body-room file = omega arith
 
+pub records-room : (file : ℕ) → 576 ≤ bodyLength file
+unfolding bodyLength
+records-room file = omega arith
+
 pub contents-room : (t : List ℕ) → 32 + fileLengthOf t ≤ rowLength t
 unfolding rowLength stride
 contents-room t = omega (arith, body-room (fileLengthOf t))
 
+-- a row has room for head, contents and records
+pub body-is : (file : ℕ) → stride file ≡ 608 + file
+unfolding stride bodyLength
+body-is file = omega arith
+
+pub row-room : (t : List ℕ) → rowLength t ≡ 608 + fileLengthOf t
+unfolding rowLength
+row-room t = body-is (fileLengthOf t)
+
 -- the contents are as long as the file
 pub contents-part : (row : List ℕ) (file : ℕ) → length row ≡ stride file → contents row ≡ part 32 file row
-unfolding contents part stride bodyLength
-contents-part row file e = sym (take-all file (drop 32 row) (omega (arith, length-drop 32 row)))
+unfolding contents
+contents-part row file e = let n : length row - 608 ≡ file = omega (arith, body-is file) in rw n
+
+pub contents-long : (row : List ℕ) (file : ℕ) → length row ≡ stride file → length (contents row) ≡ file
+contents-long row file e = ap length (contents-part row file e) ∙ length-part 32 file row (omega (arith, body-is file))
 
 -- ---- lists
 laid : ℕ → ℕ → Laid

@@ -1,9 +1,9 @@
 -- The table in memory: the only places where offsets stand. A table is its bytes; every reading of it is total.
 use mathlib.Core.Bool.{Bool}
 use mathlib.Core.List.{List}
-use Prim.Native.Nat.{ℕ, zero, _+_, _*_}
+use Prim.Native.Nat.{ℕ, zero, _+_, _-_, _*_}
 use lib.Dec.{eqb}
-use lib.ListN.{drop}
+use lib.ListN.{length, drop}
 use Rattle.blocks.specs.Blocks.{block, withBlock, withBlocks}
 use Rattle.bytes.specs.Bytes.{number, bytesOf, part, put}
 use Rattle.fields.specs.declared.Laid.{Laid}
@@ -23,9 +23,9 @@ store f v xs = put (f .place) (bytesOf (f .width) v) xs
 unfoldable pub form : Field
 form = record { place = 0; width = 1 }
 
--- byte 0: "Header form becomes 2"
+-- byte 0: "Header form 3"
 unfoldable pub formValue : ℕ
-formValue = 2
+formValue = 3
 
 unfoldable pub capacity : Field
 capacity = record { place = 1; width = 1 }
@@ -83,21 +83,33 @@ version = record { place = 4; width = 4 }
 unfoldable pub desired : Field
 desired = record { place = 8; width = 4 }
 
-unfoldable pub reserved : List ℕ → List ℕ
-reserved row = part 25 7 row
+-- "Row byte 25 is the oldest record's index"
+unfoldable pub oldest : Field
+oldest = record { place = 25; width = 1 }
 
+unfoldable pub reserved : List ℕ → List ℕ
+reserved row = part 26 6 row
+
+-- "After the contents come 16 records of 36 bytes": the contents, between the 32 bytes of the head and the last 576 of the row
 unfoldable pub contents : List ℕ → List ℕ
-contents row = drop 32 row
+contents row = part 32 (length row - 608) row
+
+unfoldable pub records : List ℕ → List ℕ
+records row = drop (length row - 576) row
+
+-- the row with other records
+unfoldable pub storeRecords : List ℕ → List ℕ → List ℕ
+storeRecords bytes row = put (length row - 576) bytes row
 
 -- the row with bytes put into its contents
 unfoldable pub storeContents : ℕ → List ℕ → List ℕ → List ℕ
 storeContents offset p row = put (32 + offset) p row
 
--- a row's body, all that stands behind its 32 bytes: the contents
+-- a row's body, all that stands behind its 32 bytes: the contents and the records
 unfoldable pub bodyLength : ℕ → ℕ
-bodyLength fileLength = fileLength
+bodyLength fileLength = fileLength + 576
 
--- "Then each row takes 32 + L bytes": a row's length from the file's
+-- "Then each row takes 32 + L bytes", and the records: a row's length from the file's
 unfoldable pub stride : ℕ → ℕ
 stride fileLength = 32 + bodyLength fileLength
 

@@ -4,7 +4,7 @@ ghost use mathlib.Core.Bool.{true};
 ghost use Prim.Native.Nat.{_+_, _≤_};
 ghost use lib.Dec.{eqb};
 ghost use lib.ListN.{length};
-ghost use Rattle.fields.specs.Layout.{get, store, name, link, mark, version, desired, epoch, members, gridMark, list, storeList, isEmpty, isTall, contents, storeContents};
+ghost use Rattle.fields.specs.Layout.{get, store, name, link, mark, version, desired, epoch, members, gridMark, oldest, list, storeList, isEmpty, isTall, contents, storeContents};
 ghost use Rattle.bytes.specs.Bytes.{part};
 
 // A list of rows as it was laid: bit i − 1 of `members` for row i; the mark of its grid.
@@ -48,6 +48,9 @@ impl Laid {
 // A row's head; the contents stand behind it.
 pub const HEAD: usize = 32;
 
+// The records of its window, the last bytes of the row.
+pub const RECORDS: usize = 576;
+
 const NAME_AT: usize = 0;
 
 const LINK_AT: usize = 2;
@@ -62,8 +65,10 @@ const EPOCH_AT: usize = 12;
 
 const MEMBERS_AT: usize = 16;
 
-// behind the grid mark the head is 0
+// behind it and the byte behind it the head is 0
 pub const GRID_MARK_AT: usize = 24;
+
+const OLDEST_AT: usize = 25;
 
 pub fn name(row: &[u8]) -> u16
     requires { ⌜ 32 ≤ length (now row) ⌝ }
@@ -127,6 +132,14 @@ pub fn grid_mark(row: &[u8]) -> u8
     ensures { λ r. ⌜ r ≡ get gridMark (now (row .entry)) ⌝ }
 {
     bytes::u8_at(row, GRID_MARK_AT)
+}
+
+// The oldest record of the row's window.
+pub fn oldest(row: &[u8]) -> u8
+    requires { ⌜ 32 ≤ length (now row) ⌝ }
+    ensures { λ r. ⌜ r ≡ get oldest (now (row .entry)) ⌝ }
+{
+    bytes::u8_at(row, OLDEST_AT)
 }
 
 // A row's list.
@@ -196,6 +209,13 @@ fn set_grid_mark(row: &mut [u8], v: u8)
     bytes::store_at(row, GRID_MARK_AT, 1, v as u64);
 }
 
+pub fn set_oldest(row: &mut [u8], v: u8)
+    requires { ⌜ 32 ≤ length (now row) ⌝ }
+    ensures { λ r. ⌜ now (row .exit) ≡ store oldest v (now (row .entry)) ⌝ }
+{
+    bytes::store_at(row, OLDEST_AT, 1, v as u64);
+}
+
 pub fn set_list(row: &mut [u8], l: Laid)
     requires { ⌜ 32 ≤ length (now row) ⌝ }
     ensures { λ r. ⌜ now (row .exit) ≡ storeList l (now (row .entry)) ⌝ }
@@ -216,7 +236,7 @@ pub fn patch(row: &mut [u8], offset: usize, bytes: &[u8])
 
 // Bytes of the contents copied out, from an offset on.
 pub fn copy_out(row: &[u8], offset: usize, to: &mut [u8])
-    requires { ⌜ 32 + offset + length (now to) ≤ length (now row) ⌝ }
+    requires { ⌜ 608 + offset + length (now to) ≤ length (now row) ⌝ }
     ensures { λ r. ⌜ now (to .exit) ≡ part offset (length (now (to .entry))) (contents (now (row .entry))) ⌝ }
 {
     let from = HEAD + offset;

@@ -7,7 +7,7 @@ ghost use Rattle.fields.specs.Layout.{get, store, form, formValue, capacity, us
 pub const HEADER: usize = 16;
 
 // the form of every table
-pub const FORM: u8 = 2;
+pub const FORM: u8 = 3;
 
 const FORM_AT: usize = 0;
 

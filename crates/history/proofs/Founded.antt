@@ -1,5 +1,5 @@
 -- A done founding opens the book that its table stands against.
-use mathlib.Core.Path.{_≡_, sym, _∙_, ap}
+use mathlib.Core.Path.{_≡_, refl, sym, _∙_, ap}
 use mathlib.Core.Bool.{false}
 use mathlib.Core.List.{List}
 use Prim.Native.Nat.{ℕ, _-_, _^_}
@@ -12,14 +12,16 @@ use Rattle.sets.specs.Upto.{Within}
 use Rattle.bools.proofs.BoolLaws.{clash}
 use Rattle.sets.proofs.SetLaws.{has-within}
 use Rattle.quorums.specs.declared.Kind.the-variants.{Read}
-use Rattle.fields.specs.Layout.{get, mark, version, epoch, list, contents, epochOf, listOf, staleOf, versionOf, contentsOf}
+use Rattle.fields.specs.Layout.{get, mark, version, epoch, list, contents, rowBytes, epochOf, listOf, staleOf, versionOf, contentsOf}
 use Rattle.protocol.specs.Lists.{laidNow}
 use Rattle.protocol.specs.Polls.{polled}
 use Rattle.bytes.specs.Bytes.{zeros}
 use Rattle.bytes.proofs.ByteLaws.{length-zeros}
 use Rattle.protocol.specs.Calls.{Founding, namesIn, foundedList, founded}
 use Rattle.protocol.proofs.ListLaws.{inhabited}
-use Rattle.protocol.proofs.FoundedLaws.{Founds, founded-used, founded-file, founded-name, founded-formed, at-row, row-list, zero-mark, zero-version, zero-epoch, row-contents}
+use Rattle.window.specs.Windows.{windowOf, emptied}
+use Rattle.history.specs.Claims.{keptOf}
+use Rattle.protocol.proofs.FoundedLaws.{Founds, founded-used, founded-file, founded-name, founded-formed, at-row, row-list, row-window, zero-mark, zero-version, zero-epoch, row-contents}
 use Rattle.history.specs.Book.{order, nameIn, opened}
 use Rattle.history.proofs.Invariant.{aim, Inv}
 use Rattle.history.proofs.State.{whole, State}
@@ -52,6 +54,10 @@ module _ (a : Founding) (f : Founds a) where
   unfolding contentsOf t
   zero-contents = at-row a f (λ i r. contents r ≡ zeros (a .fileLength)) (row-contents a f)
 
+  zero-window : (i : ℕ) → Within (length names) i → windowOf (rowBytes t i) ≡ emptied
+  unfolding t
+  zero-window = at-row a f (λ i r. windowOf r ≡ emptied) (row-window a f)
+
   start : Inv (length names) (whole t) (contentsOf t) (opened a) 0
   unfolding opened aim whole polled foundedList laidNow
   start = record {
@@ -77,7 +83,7 @@ module _ (a : Founding) (f : Founds a) where
   }
 
   pub founded-state : State (founded (a .choice) (a .capacity) (a .fileLength) (namesIn (a .names))) (opened a) 0
-  unfolding opened nameIn t
+  unfolding opened nameIn t keptOf
   founded-state = record {
     formed = founded-formed a f;
     used = founded-used a f;
@@ -85,4 +91,9 @@ module _ (a : Founding) (f : Founds a) where
     blank = λ z. ap zeros (sym (length-zeros (a .fileLength)));
     file = length-zeros (a .fileLength) ∙ sym (founded-file a f);
     inv = rw (founded-used a f) start;
+    trail = record {
+      kept = λ v. record { contents = zeros (a .fileLength); window = emptied };
+      grown = rw (founded-file a f) (record { first = refl; grows = λ v h. absurd (omega arith) });
+      held = rw (founded-used a f) (λ i v. λ j. record { contents = zero-contents i v j; window = zero-window i v j });
+    };
   }

@@ -1,5 +1,6 @@
 pub mod Invariant
 pub mod Steps
+pub mod Trail
 pub mod State
 pub mod Answers
 pub mod Joined
@@ -8,3 +9,4 @@ pub mod Founded
 pub mod Theorems
 pub mod Reach
 pub mod Lost
+pub mod Sends

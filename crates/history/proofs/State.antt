@@ -17,11 +17,13 @@ use Rattle.protocol.specs.Calls.{answers, workSet}
 use Rattle.bytes.specs.Bytes.{zeros}
 use Rattle.bools.proofs.BoolLaws.{and-l}
 use Rattle.linking.specs.Linking.{byName}
-use Rattle.linking.proofs.NameLaws.{by-name-same, chain-by-name}
+use Rattle.linking.proofs.NameLaws.{by-name-same}
+use Rattle.table.proofs.RisingLaws.{chain-by-name}
 use Rattle.protocol.proofs.ListLaws.{reads}
 use Rattle.protocol.proofs.PollLaws.{Agree, agree-less, epoch-same, list-same, version-same, good-same, current-same, quorum-same, worked-same, worked-in}
 use Rattle.protocol.proofs.QuestionLaws.{ByCoordinator, answered-used}
 use Rattle.history.specs.Book.{Book, order, nameIn, holdsQuorum, someHasAll}
+use Rattle.history.proofs.Trail.{Trail}
 use Rattle.history.proofs.Invariant.{Inv, in-force, quorum-is, current-is, answers-are}
 
 -- what all rows say
@@ -36,6 +38,7 @@ pub record State (t : List ℕ) (b : Book) (e : ℕ) : Type 0 where
   -- before the first write the file is as the founding left it
   pub blank : b .writes ≡ 0 → b .file ≡ zeros (length (b .file))
   pub inv : Inv (usedOf t) (whole t) (contentsOf t) b e
+  pub trail : Trail t (b .writes)
 
 -- the chain order is that of the names, and so is the book's
 pub chain-is : (t : List ℕ) (b : Book) (e : ℕ) → State t b e → orderOf t ≡ order b

@@ -1,16 +1,18 @@
 -- Beyond demand 3: what else is claimed of every founded history.
 use mathlib.Core.Path.{_≡_}
-use mathlib.Core.Bool.{true, cond, _||_}
+use mathlib.Core.Bool.{true, false, cond, _||_}
 use mathlib.Core.List.{List, [], _∷_}
 use Prim.Native.Nat.{ℕ, _≤_}
 use lib.Dec.{eqb}
-use Rattle.sets.specs.Upto.{count}
+use Rattle.sets.specs.Upto.{Within, count}
 use Rattle.sets.specs.Sets.{has, losing}
 use Rattle.quorums.specs.declared.Kind.{Kind}
 use Rattle.quorums.specs.declared.Kind.the-variants.{Read, Write}
+use Rattle.fields.specs.Layout.{usedOf, rowBytes, staleOf, versionOf, desiredOf, contentsOf}
+use Rattle.window.specs.Windows.{Kept, windowOf}
 use Rattle.table.specs.WellFormed.{wellFormed}
 use Rattle.asking.specs.Asking.{firstNo, before}
-use Rattle.protocol.specs.Calls.{Founding, Reading, Writing, Checking, Call, founding, read, write, check, questions, outcome}
+use Rattle.protocol.specs.Calls.{Founding, Reading, Writing, Sending, Checking, Call, founding, read, write, send, check, questions, outcome}
 use Rattle.history.specs.Book.{Book, opened, holdsQuorum, someHasAll, entered}
 use Rattle.history.specs.Demand3.{verdict, Right}
 
@@ -36,6 +38,26 @@ AlwaysWellFormed = (t : List ℕ) (b : Book) → Reached t b → wellFormed t �
 unfoldable pub ChecksByBook : Type 0
 ChecksByBook = (t : List ℕ) (b : Book) → Reached t b → (a : Checking) → firstNo (before 6 (questions t (check a))) ≡ 0
     → firstNo (before 8 (questions t (check a))) ≡ cond (holdsQuorum b Write (has (a .r))) (cond (eqb (a .r) (b .inForce .members) || someHasAll b (has (a .r))) 0 7) 6
+
+-- ---- "Send the last results only"
+-- what row i keeps: its contents and its window
+unfoldable pub keptOf : List ℕ → ℕ → Kept
+keptOf t i = record { contents = contentsOf t i; window = windowOf (rowBytes t i) }
+
+-- u is t after a send of the whole contents
+pub record WholeSend (t u : List ℕ) (a : Sending) : Type 0 where
+  pub contents : contentsOf u (a .t) ≡ contentsOf t (a .f)
+  pub version : versionOf u (a .t) ≡ versionOf t (a .f)
+  pub mark : staleOf u (a .t) ≡ false
+  pub desired : desiredOf u (a .t) ≡ 0
+
+-- "In a founded history, contents, version and marks come out as from a whole send"
+unfoldable pub SendsAreWhole : Type 0
+SendsAreWhole = (t : List ℕ) (b : Book) → Reached t b → (a : Sending) → outcome t (send a) .refusal ≡ 0 → WholeSend t (outcome t (send a) .table) a
+
+-- there, rows of one version keep the same, window bytes and all
+unfoldable pub KeptByVersion : Type 0
+KeptByVersion = (t : List ℕ) (b : Book) → Reached t b → (i j : ℕ) → Within (usedOf t) i → Within (usedOf t) j → versionOf t i ≡ versionOf t j → keptOf t i ≡ keptOf t j
 
 -- ---- "One machine lost"
 -- "a list of four or more .. in force, a check by all its members but one, some one of them having every done write": x is not there, and 1 to 3 are passed

@@ -12,11 +12,11 @@ use Rattle.bools.proofs.BoolLaws.{or-l, or-r}
 use Rattle.sets.specs.Upto.{Within, among}
 use Rattle.sets.proofs.UptoLaws.{last, every-of}
 use Rattle.fields.specs.Layout.{usedOf, firstOf, nameOf, linkOf}
-use Rattle.table.specs.Chain.{chain, orderOf}
+use Rattle.table.specs.Chain.{orderOf}
 use Rattle.table.specs.WellFormed.{visitsEach, namesRise, wellFormed}
 use Rattle.table.proofs.ChainLaws.{order-path, order-length, order-each, order-rises}
 use Rattle.table.proofs.RisingLaws.{order-within}
-use Rattle.linking.specs.Linking.{lastOf, inserted}
+use Rattle.linking.specs.Linking.{chain, lastOf, inserted}
 use Rattle.linking.proofs.PathLaws.{rises-same}
 use Rattle.linking.proofs.InsertLaws.{inserted-length, inserted-among, inserted-same, inserted-rises, Relinked, chain-inserted}
 

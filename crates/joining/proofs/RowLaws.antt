@@ -15,13 +15,16 @@ use Rattle.bools.proofs.BoolLaws.{and-l, and-r, clash}
 use Rattle.sets.specs.Upto.{Within}
 use Rattle.sets.proofs.UptoLaws.{last}
 use Rattle.bytes.specs.Bytes.{number, bytesOf, part, zeros, allZero}
-use Rattle.bytes.proofs.ByteLaws.{number-bytes, part-part, length-zeros, first-zeros, zero-drop}
+use Rattle.bytes.proofs.ByteLaws.{number-bytes, part-part, length-zeros, first-zeros, zeros-zero, zero-drop}
 use Rattle.grid.specs.Sizes.{markFits}
+use Rattle.window.specs.Windows.{windowOf, emptied}
+use Rattle.window.proofs.AddLaws.{emptied-right}
+use Rattle.window.proofs.RowLaws.{window-blank, window-store}
 use Rattle.fields.specs.Layout.{Field, get, store, form, formValue, capacity, used, first, fileLength, name, link, mark, version, desired, epoch, members, gridMark, list, noList, isEmpty, isTall, reserved, contents, bodyLength, stride, capacityOf, usedOf, firstOf, fileLengthOf, rowLength, rowsEnd, rowBytes, nameOf, linkOf, listOf}
-use Rattle.fields.proofs.FieldLaws.{Apart, get-store, get-other, reserved-store, contents-store, body-room, contents-part, list-is}
+use Rattle.fields.proofs.FieldLaws.{Apart, get-store, get-other, reserved-store, contents-store, body-room, records-room, row-room, contents-part, list-is}
 use Rattle.table.specs.WellFormed.{between, limit, wellFormed, headerValues, lengthRight, unusedZero}
 use Rattle.table.proofs.FormLaws.{is-between, RowFacts, OneList, OneShape, Formed, formed}
-use Rattle.table.proofs.WellFormedLaws.{sized, header, linked, length-is, row-long}
+use Rattle.table.proofs.WellFormedLaws.{sized, header, linked, length-is, length-row, row-long}
 use Rattle.table.proofs.RisingLaws.{order-within}
 use Rattle.linking.specs.Linking.{behind}
 use Rattle.joining.specs.Joining.{rowBefore}
@@ -30,6 +33,11 @@ use Rattle.joining.proofs.FrameLaws.{before-used, behind-used}
 use Rattle.joining.proofs.OrderLaws.{Joined, joined-visits, joined-rise}
 
 -- ---- the new row
+-- its window is empty
+new-window : (x next body : ℕ) → 576 ≤ body → windowOf (bytesOf 2 x ++ (bytesOf 1 next ++ (zeros 29 ++ zeros body))) ≡ emptied
+unfolding zeros bytesOf allZero
+new-window x next body r = window-blank (bytesOf 2 x ++ (bytesOf 1 next ++ (zeros 29 ++ zeros body))) (simp length-zeros (omega arith)) (zeros-zero body)
+
 module _ (x next body : ℕ) (h : Within 65_535 x) (l : next < 256) where
   abbrev new : List ℕ
   new = bytesOf 2 x ++ (bytesOf 1 next ++ (zeros 29 ++ zeros body))
@@ -46,9 +54,9 @@ module _ (x next body : ℕ) (h : Within 65_535 x) (l : next < 256) where
   unfolding isEmpty list get members part number zeros bytesOf
   new-list = refl
 
-  pub new-facts : (n i : ℕ) → next ≤ n → RowFacts n i new
+  pub new-facts : 576 ≤ body → (n i : ℕ) → next ≤ n → RowFacts n i new
   unfolding isEmpty list reserved get mark version desired epoch members gridMark markFits part number zeros bytesOf limit allZero
-  new-facts n i b = record {
+  new-facts r n i b = record {
     named = rw new-name h;
     linked = rw new-link b;
     flag = omega arith;
@@ -61,6 +69,7 @@ module _ (x next body : ℕ) (h : Within 65_535 x) (l : next < 256) where
     only = omega (arith, pow-pos n);
     own = λ e. absurd (clash (sym e));
     grid = refl;
+    kept = rw (new-window x next body r) (emptied-right (length (contents new)) (get version new));
   }
 
 new-contents : (x next file : ℕ) → contents (bytesOf 2 x ++ (bytesOf 1 next ++ (zeros 29 ++ zeros (bodyLength file)))) ≡ zeros file
@@ -79,6 +88,7 @@ pub record Blank (file : ℕ) (row : List ℕ) : Type 0 where
   pub epoch : get epoch row ≡ 0
   pub list : list row ≡ noList
   pub contents : contents row ≡ zeros file
+  pub window : windowOf row ≡ emptied
 
 new-blank : (x next file : ℕ) → Blank file (bytesOf 2 x ++ (bytesOf 1 next ++ (zeros 29 ++ zeros (bodyLength file))))
 unfolding list noList get mark version desired epoch members gridMark part number zeros bytesOf
@@ -89,6 +99,7 @@ new-blank x next file = record {
   epoch = refl;
   list = refl;
   contents = new-contents x next file;
+  window = new-window x next (bodyLength file) (records-room file);
 }
 
 module _ (t u : List ℕ) (x : ℕ) (e : wellFormed t ≡ true) (room : usedOf t < capacityOf t) (o : OneMore t u x) where
@@ -200,6 +211,15 @@ module _ (t u : List ℕ) (x : ℕ) (e : wellFormed t ≡ true) (room : usedOf t
   pub new-says : Blank (fileLengthOf t) (rowBytes u (suc (usedOf t)))
   new-says = rw (o .new) (new-blank x (behind (firstOf t) (linkOf t) (rowBefore t x)) (fileLengthOf t))
 
+  -- and the window
+  pub window-kept : (i : ℕ) → Within (usedOf t) i → windowOf (rowBytes u i) ≡ windowOf (rowBytes t i)
+  unfolding link
+  window-kept i v = ap windowOf (o .rows i v) ∙ go (eqb (rowBefore t x) i)
+    where
+      go : (b : Bool) → windowOf (cond b (store link (suc (usedOf t)) (rowBytes t i)) (rowBytes t i)) ≡ windowOf (rowBytes t i)
+      go true = window-store link (suc (usedOf t)) (rowBytes t i) (omega arith) (omega (arith, length-row (sized e) i v, row-room t))
+      go false = refl
+
   -- a row's list stays
   pub list-kept : (i : ℕ) → Within (usedOf t) i → list (rowBytes u i) ≡ list (rowBytes t i)
   unfolding list members gridMark
@@ -222,6 +242,7 @@ module _ (t u : List ℕ) (x : ℕ) (e : wellFormed t ≡ true) (room : usedOf t
         only = rw (kept members (inr (omega arith)) i v) (lt-of-lt-of-le (f .only) (pow-mono (omega arith)));
         own = rw (list-kept i v, kept members (inr (omega arith)) i v) (f .own);
         grid = rw (kept gridMark (inr (omega arith)) i v, kept members (inr (omega arith)) i v) (f .grid);
+        kept = rw (contents-kept i v, kept version (inr (omega arith)) i v, window-kept i v) (f .kept);
       }
 
   module _ (h : Within 65_535 x) (free : (i : ℕ) → Within (usedOf t) i → nameOf t i ≡ x → ⊥) where
@@ -252,7 +273,7 @@ module _ (t u : List ℕ) (x : ℕ) (e : wellFormed t ≡ true) (room : usedOf t
     row-facts : (i : ℕ) → Within (suc (usedOf t)) i → RowFacts (suc (usedOf t)) i (rowBytes u i)
     row-facts i v = ⊎-elim
         (λ q. subst (λ (k : ℕ). RowFacts (suc (usedOf t)) k (rowBytes u k)) (sym q)
-        (rw (o .new) (new-facts x next body h (omega (arith, few, small)) (suc (usedOf t)) (suc (usedOf t)) (omega (arith, small)))))
+        (rw (o .new) (new-facts x next body h (omega (arith, few, small)) (records-room (fileLengthOf t)) (suc (usedOf t)) (suc (usedOf t)) (omega (arith, small)))))
         (old-facts i)
         (last (usedOf t) i v)
 

@@ -11,8 +11,7 @@ use borrow.Author.Tests.{ltb-true, ltb-false, lt-ltb, le-ltb, ne-eqb}
 use Rattle.bools.proofs.BoolLaws.{and-i}
 use Rattle.sets.specs.Upto.{keep, among, risesFrom}
 use Rattle.sets.proofs.RisingLaws.{among-head, among-tail, among-e, rises-head, rises-tail, rises-above, rises-once}
-use Rattle.table.specs.Chain.{chain}
-use Rattle.linking.specs.Linking.{lastOf, behind, inserted}
+use Rattle.linking.specs.Linking.{chain, lastOf, behind, inserted}
 use Rattle.linking.proofs.PathLaws.{Path, path-rows, path-same, behind-row, path-of, chain-of}
 
 -- ---- the last that passes

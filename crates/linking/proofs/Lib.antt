@@ -1,3 +1,5 @@
 pub mod PathLaws
 pub mod InsertLaws
+pub mod EndLaws
+pub mod EachLaws
 pub mod NameLaws

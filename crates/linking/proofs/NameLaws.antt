@@ -1,4 +1,4 @@
--- Rows in the order of their names: there is one such order, and the chain of a well-formed table is in it.
+-- 1 to n in the order of their names: there is one such order.
 use mathlib.Core.Path.{_≡_, refl, sym, _∙_, ap, ap₂}
 use mathlib.Core.Bool.{Bool, true, false, _||_, or-false}
 use mathlib.Core.Logic.{_⊎_, ⊎-elim, inl, inr}
@@ -11,11 +11,6 @@ use Rattle.bools.proofs.BoolLaws.{or-l, or-r, or-e, clash, same-test}
 use Rattle.sets.specs.Upto.{Within, among, risesFrom}
 use Rattle.sets.proofs.UptoLaws.{last}
 use Rattle.sets.proofs.RisingLaws.{among-head, among-e, rises-tail, rises-above, rises-once}
-use Rattle.fields.specs.Layout.{usedOf, nameOf}
-use Rattle.table.specs.Chain.{orderOf}
-use Rattle.table.specs.WellFormed.{wellFormed}
-use Rattle.table.proofs.ChainLaws.{order-each, order-rises}
-use Rattle.table.proofs.RisingLaws.{order-within}
 use Rattle.linking.specs.Linking.{inserted, byName}
 use Rattle.linking.proofs.InsertLaws.{inserted-among, inserted-same, inserted-rises}
 
@@ -98,10 +93,11 @@ by-name-same f g (suc n) e =
     ap₂ (λ (x : ℕ) (l : List ℕ). inserted g x (suc n) l) (e (suc n) (omega arith)) (by-name-same f g n (λ j w. e j (omega arith)))
     ∙ inserted-same f g (f (suc n)) (suc n) (byName f n) (λ j m. let w = by-name-within f n j m in e j (omega arith))
 
--- the chain of a well-formed table has its rows in the order of their names
-pub chain-by-name : (t : List ℕ) → wellFormed t ≡ true → orderOf t ≡ byName (nameOf t) (usedOf t)
-chain-by-name t e = one-order (nameOf t) 0 0 (orderOf t) (byName (nameOf t) (usedOf t)) (order-rises t e)
-    (by-name-rises (nameOf t) (usedOf t)
-    (λ j w. rises-above (nameOf t) 0 (orderOf t) (order-rises t e) j (order-each t e j w))
-    (λ i j v w. rises-apart (nameOf t) 0 (orderOf t) (order-rises t e) i j (order-each t e i v) (order-each t e j w)))
-    (λ j. same-test _ _ (λ m. by-name-each (nameOf t) (usedOf t) j (order-within t e j m)) (λ m. order-each t e j (by-name-within (nameOf t) (usedOf t) j m)))
+-- a list of 1 to n along which the names rise is the list in their order
+pub rising-by-name : (f : ℕ → ℕ) (n : ℕ) (xs : List ℕ) → risesFrom 0 f xs ≡ true → ((j : ℕ) → Within n j → among xs j ≡ true) → ((j : ℕ) → among xs j ≡ true → Within n j)
+    → xs ≡ byName f n
+rising-by-name f n xs h each only = one-order f 0 0 xs (byName f n) h
+    (by-name-rises f n
+    (λ j w. rises-above f 0 xs h j (each j w))
+    (λ i j v w. rises-apart f 0 xs h i j (each i v) (each j w)))
+    (λ j. same-test _ _ (λ m. by-name-each f n j (only j m)) (λ m. each j (by-name-within f n j m)))

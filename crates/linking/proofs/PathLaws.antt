@@ -11,15 +11,23 @@ use borrow.Author.Tests.{ne-eqb}
 use Rattle.bools.proofs.BoolLaws.{clash}
 use Rattle.sets.specs.Upto.{among, risesFrom}
 use Rattle.sets.proofs.RisingLaws.{among-head, among-tail, among-e}
-use Rattle.table.specs.Chain.{chain}
-use Rattle.table.proofs.ChainLaws.{chain-zero, chain-suc}
-use Rattle.linking.specs.Linking.{behind}
+use Rattle.linking.specs.Linking.{chain, behind}
 
 -- it goes by the names of the rows on the list alone
 pub rises-same : (f g : ℕ → ℕ) (a : ℕ) (xs : List ℕ) → ((j : ℕ) → among xs j ≡ true → g j ≡ f j) → risesFrom a g xs ≡ risesFrom a f xs
 unfolding risesFrom
 rises-same f g a [] e = refl
 rises-same f g a (x ∷ xs) e = rw (e x (among-head x xs)) (ap (λ (b : Bool). ltb a (f x) && b) (rises-same f g (f x) xs (λ j m. e j (among-tail x xs j m))))
+
+pub chain-zero : (next : ℕ → ℕ) (m : ℕ) → chain next m 0 ≡ []
+unfolding chain
+chain-zero next zero = refl
+chain-zero next (suc m) = refl
+
+pub chain-suc : (next : ℕ → ℕ) (m i : ℕ) → 1 ≤ i → chain next (suc m) i ≡ i ∷ chain next m (next i)
+unfolding chain
+chain-suc next m zero h = absurd (omega arith)
+chain-suc next m (suc i) h = refl
 
 -- ---- paths: along `step`, xs is all that follows a
 unfoldable pub Path : (ℕ → ℕ) → ℕ → List ℕ → Type 0

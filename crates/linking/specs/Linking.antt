@@ -1,8 +1,14 @@
--- A chain of links, and one put in: rows in the order of their names.
+-- A chain of links, and one put in: what stands in a row by links from one to the next.
 use mathlib.Core.Bool.{Bool, cond}
 use mathlib.Core.List.{List, [], _∷_}
 use Prim.Native.Nat.{ℕ, zero, suc}
 use lib.Dec.{eqb, ltb}
+
+-- those from i on along the links, at most n of them; 0 ends the chain
+unfoldable pub chain : (ℕ → ℕ) → ℕ → ℕ → List ℕ
+chain next zero i = []
+chain next (suc n) zero = []
+chain next (suc n) (suc k) = suc k ∷ chain next n (next (suc k))
 
 -- the last of the list that passes; a where none does
 unfoldable pub lastOf : (ℕ → Bool) → ℕ → List ℕ → ℕ

@@ -5,6 +5,7 @@ use Prim.Native.Nat.{ℕ, zero, suc, _+_, _-_, _*_}
 use lib.ListN.{replicate}
 use Rattle.sets.specs.Upto.{upward}
 use Rattle.bytes.specs.Bytes.{bytesOf, put, zeros}
+use Rattle.fields.specs.Layout.{stride}
 use Rattle.protocol.specs.Calls.{Call, outcome}
 use Rattle.protocol.proofs.Histories.{fo, rd, wr, Made, Called, stepsHold}
 
@@ -23,20 +24,20 @@ allHold (Notes t k refusal called ∷ cs) = stepsHold t (Called k refusal called
 -- two used rows of three; row 1 alone is the list in force
 unfoldable pub pair : List ℕ
 pair =
-    (2 ∷ 3 ∷ 2 ∷ 1 ∷ 1 ∷ 0 ∷ zeros 10)
-    ++ ((10 ∷ 0 ∷ 2 ∷ 0 ∷ 0 ∷ 0 ∷ 0 ∷ 0 ∷ 0 ∷ 0 ∷ 0 ∷ 0 ∷ 1 ∷ 0 ∷ 0 ∷ 0 ∷ 1 ∷ 0 ∷ 0 ∷ 0 ∷ 0 ∷ 0 ∷ 0 ∷ 0 ∷ 0 ∷ 0 ∷ 0 ∷ 0 ∷ 0 ∷ 0 ∷ 0 ∷ 0 ∷ 5 ∷ [])
-    ++ ((20 ∷ 0 ∷ 0 ∷ 0 ∷ 0 ∷ 0 ∷ 0 ∷ 0 ∷ 0 ∷ 0 ∷ 0 ∷ 0 ∷ 0 ∷ 0 ∷ 0 ∷ 0 ∷ 3 ∷ 0 ∷ 0 ∷ 0 ∷ 0 ∷ 0 ∷ 0 ∷ 0 ∷ 0 ∷ 0 ∷ 0 ∷ 0 ∷ 0 ∷ 0 ∷ 0 ∷ 0 ∷ 5 ∷ [])
-    ++ zeros 33))
+    (3 ∷ 3 ∷ 2 ∷ 1 ∷ 1 ∷ 0 ∷ zeros 10)
+    ++ ((10 ∷ 0 ∷ 2 ∷ 0 ∷ 0 ∷ 0 ∷ 0 ∷ 0 ∷ 0 ∷ 0 ∷ 0 ∷ 0 ∷ 1 ∷ 0 ∷ 0 ∷ 0 ∷ 1 ∷ 0 ∷ 0 ∷ 0 ∷ 0 ∷ 0 ∷ 0 ∷ 0 ∷ 0 ∷ 0 ∷ 0 ∷ 0 ∷ 0 ∷ 0 ∷ 0 ∷ 0 ∷ 5 ∷ zeros 576)
+    ++ ((20 ∷ 0 ∷ 0 ∷ 0 ∷ 0 ∷ 0 ∷ 0 ∷ 0 ∷ 0 ∷ 0 ∷ 0 ∷ 0 ∷ 0 ∷ 0 ∷ 0 ∷ 0 ∷ 3 ∷ 0 ∷ 0 ∷ 0 ∷ 0 ∷ 0 ∷ 0 ∷ 0 ∷ 0 ∷ 0 ∷ 0 ∷ 0 ∷ 0 ∷ 0 ∷ 0 ∷ 0 ∷ 5 ∷ zeros 576)
+    ++ zeros (stride 1)))
 
 -- where its rows start
 unfoldable pub row1 : ℕ
 row1 = 16
 
 unfoldable pub row2 : ℕ
-row2 = 49
+row2 = row1 + stride 1
 
 unfoldable pub row3 : ℕ
-row3 = 82
+row3 = row2 + stride 1
 
 -- a table with the bytes from a place on put to a number, so many bytes wide
 unfoldable pub set : (place width value : ℕ) → List ℕ → List ℕ
@@ -45,8 +46,8 @@ set place width value t = put place (bytesOf width value) t
 -- one used row, of a capacity and a file length
 unfoldable pub single : (capacity fileLength : ℕ) → List ℕ
 single capacity fileLength =
-    (2 ∷ capacity ∷ 1 ∷ 1 ∷ bytesOf 2 fileLength) ++ (zeros 10
-    ++ ((10 ∷ 0 ∷ zeros 14) ++ ((1 ∷ zeros 15) ++ (replicate fileLength 5 ++ zeros ((capacity - 1) * (32 + fileLength))))))
+    (3 ∷ capacity ∷ 1 ∷ 1 ∷ bytesOf 2 fileLength) ++ (zeros 10
+    ++ ((10 ∷ 0 ∷ zeros 14) ++ ((1 ∷ zeros 15) ++ (replicate fileLength 5 ++ zeros (576 + (capacity - 1) * stride fileLength)))))
 
 -- pair with a third row, at an epoch; its list is itself
 unfoldable pub third : ℕ → List ℕ
@@ -71,11 +72,11 @@ twoBytes (x ∷ xs) = x ∷ 0 ∷ twoBytes xs
 
 -- n rows founded, named 10, 11, ..; and with the grid mark of each put to a number
 unfoldable pub full : ℕ → List ℕ
-full n = outcome (zeros (16 + n * 33)) (fo n 1 (twoBytes (upward n 10)) 0) .table
+full n = outcome (zeros (16 + n * stride 1)) (fo n 1 (twoBytes (upward n 10)) 0) .table
 
 unfoldable pub remarked : (n mark : ℕ) → List ℕ → List ℕ
 remarked zero mark t = t
-remarked (suc n) mark t = remarked n mark (set (16 + n * 33 + 24) 1 mark t)
+remarked (suc n) mark t = remarked n mark (set (16 + n * stride 1 + 24) 1 mark t)
 
 unfoldable pub cases : List Case
 cases =

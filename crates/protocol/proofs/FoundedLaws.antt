@@ -25,10 +25,13 @@ use Rattle.bytes.specs.Bytes.{number, bytesOf, part, zeros, allZero}
 use Rattle.blocks.specs.Blocks.{block}
 use Rattle.fields.specs.declared.Laid.{Laid}
 use Rattle.fields.specs.Layout.{isTall, get, form, formValue, capacity, used, first, fileLength, name, link, mark, version, desired, epoch, members, gridMark, list, reserved, contents, bodyLength, stride, rowLength, rowsEnd, rowBytes, capacityOf, usedOf, firstOf, fileLengthOf, nameOf, linkOf, listOf}
-use Rattle.table.specs.Chain.{chain}
+use Rattle.linking.specs.Linking.{chain}
 use Rattle.table.specs.WellFormed.{between, limit, headerValues, lengthRight, visitsEach, namesRise, unusedZero}
 use Rattle.bytes.proofs.ByteLaws.{length-bytes, number-bytes, length-zeros, zeros-zero, first-zeros}
-use Rattle.fields.proofs.FieldLaws.{body-room, contents-part, list-is}
+use Rattle.fields.proofs.FieldLaws.{body-room, records-room, contents-part, list-is}
+use Rattle.window.specs.Windows.{windowOf, emptied}
+use Rattle.window.proofs.AddLaws.{emptied-right}
+use Rattle.window.proofs.RowLaws.{window-blank}
 use Rattle.table.proofs.FormLaws.{between-is, is-between, RowFacts, Formed}
 use Rattle.protocol.specs.Lists.{laidNow}
 use Rattle.protocol.specs.Calls
@@ -244,6 +247,10 @@ module _ (a : Calls.Founding) (f : Founds a) where
     unfolding Calls.foundedRow part zeros bytesOf stride
     row-contents = contents-part (Calls.foundedRow (length names) all body i x) file (length-row (length names) all body i x) ∙ first-zeros file body (body-room file)
 
+    pub row-window : windowOf (Calls.foundedRow (length names) all body i x) ≡ emptied
+    unfolding Calls.foundedRow zeros bytesOf allZero
+    row-window = window-blank (Calls.foundedRow (length names) all body i x) (omega (arith, length-row (length names) all body i x, records-room file)) (zeros-zero body)
+
     row-facts : RowFacts (length names) i (Calls.foundedRow (length names) all body i x)
     unfolding limit
     row-facts = record {
@@ -259,6 +266,7 @@ module _ (a : Calls.Founding) (f : Founds a) where
       only = rw row-members (ones-lt (length names));
       own = λ e. rw row-members (has-all (length names) i w);
       grid = rw (row-grid, row-members) (new-mark-fits (eqb choice 1) (count 64 (has (2 ^ length names - 1))) (count-one 64 (has (2 ^ length names - 1)) i (omega (arith, w, f .room, f .most)) (has-all (length names) i w)));
+      kept = rw row-window (emptied-right _ _);
     }
       where
         go : Dec (i ≡ length names) → cond (eqb i (length names)) 0 (i + 1) ≤ length names

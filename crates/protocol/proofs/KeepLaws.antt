@@ -2,10 +2,11 @@
 use mathlib.Core.Path.{_≡_, refl, sym, _∙_, ap, subst}
 use mathlib.Core.Bool.{Bool, true, false, cond}
 use mathlib.Core.List.{List, []}
-use Prim.Native.Nat.{ℕ, zero, _+_, _^_, _≤_, _<_}
+use Prim.Native.Nat.{ℕ, zero, suc, _+_, _^_, _≤_, _<_}
 use native.Mathlib.Decide.{ℕ-discrete}
 use native.Mathlib.Omega.{arith}
 use lib.Dec.{eqb}
+use lib.ListN.{length}
 use borrow.Author.Tests.{eqb-true}
 use Rattle.sets.specs.Upto.{Within, count}
 use Rattle.grid.specs.Sizes.{markFits}
@@ -15,8 +16,17 @@ use Rattle.bools.proofs.BoolLaws.{and-l, clash}
 use Rattle.sets.proofs.CountLaws.{count-one}
 use Rattle.quorums.specs.declared.Kind.the-variants.{Write}
 use Rattle.fields.specs.declared.Laid.{Laid}
-use Rattle.fields.specs.Layout.{get, name, link, desired, epoch, list, isEmpty, isTall, rowBytes, usedOf, epochOf, listOf, staleOf, versionOf, desiredOf}
+use Rattle.fields.specs.Layout.{get, name, link, version, desired, epoch, contents, list, isEmpty, isTall, rowBytes, usedOf, epochOf, listOf, staleOf, versionOf, desiredOf}
+use Rattle.bytes.specs.Bytes.{put}
+use Rattle.bytes.proofs.ByteLaws.{length-put}
+use Rattle.fields.proofs.FieldLaws.{row-room}
+use Rattle.window.specs.Windows.{Window, windowRight, windowOf, added}
+use Rattle.window.specs.Claims.{StaysRight}
+use Rattle.window.proofs.AddLaws.{added-right}
+use Rattle.window.proofs.SentLaws.{sent-long}
+use Rattle.window.proofs.RowLaws.{window-whole}
 use Rattle.protocol.specs.Lists.{laidNow}
+use Rattle.protocol.specs.Rows.{sentContents}
 use Rattle.table.specs.WellFormed.{limit}
 use Rattle.table.proofs.FormLaws.{RowFacts, OneShape, Formed, formed, header-facts}
 use Rattle.protocol.specs.Polls.{polled, highestEpoch, inForce, goodVersion, good, current, quorumHeld}
@@ -26,7 +36,7 @@ use Rattle.protocol.proofs.ListLaws.{laid-shape}
 use Rattle.protocol.proofs.PollLaws.{leads, good-at, good-of, version-le, current-desired, worked-in}
 use Rattle.protocol.proofs.FrameLaws.{same-used, same-header, same-long, same-visits, same-rise, zero-stays}
 use Rattle.protocol.proofs.QuestionLaws.{answered-used, WriteYes, SendYes, CheckYes}
-use Rattle.protocol.proofs.DoneLaws.{Leaves, write-used, writeTable, write-leaves, write-taken, write-marked, sendTable, send-leaves, send-target, checkTable, check-version, check-leaves, check-taken, check-marked}
+use Rattle.protocol.proofs.DoneLaws.{row-length, file-is, file-low, Leaves, write-used, patch-fits, writeTable, write-leaves, write-taken, write-marked, sendTable, send-leaves, send-target, checkTable, check-version, check-leaves, check-taken, check-marked}
 
 -- what is asked of a row, in terms of its eight fields
 record Fields (n i : ℕ) (f : ℕ → ℕ) : Type 0 where
@@ -40,9 +50,10 @@ record Fields (n i : ℕ) (f : ℕ → ℕ) : Type 0 where
   own : eqb (f 7) 0 ≡ false → has (f 7) i ≡ true
   grid : markFits (f 8) (count 64 (has (f 7))) ≡ true
 
-facts-after : {n i : ℕ} {row new c : List ℕ} {f : ℕ → ℕ} → RowFacts n i row → Becomes row new f c → f 1 ≡ get name row → f 2 ≡ get link row → Fields n i f → RowFacts n i new
+facts-after : {n i : ℕ} {row new c : List ℕ} {w : Window} {f : ℕ → ℕ} → RowFacts n i row → Becomes row new f c w → f 1 ≡ get name row → f 2 ≡ get link row → Fields n i f
+    → windowRight (length c) (f 4) w ≡ true → RowFacts n i new
 unfolding fieldAt isEmpty list
-facts-after {n} {i} {row} {new} {c} {f} r b e1 e2 g = record {
+facts-after {n} {i} {row} {new} {c} {w} {f} r b e1 e2 g k = record {
   named = rw (b .fields 1 (omega arith), e1) (r .named);
   linked = rw (b .fields 2 (omega arith), e2) (r .linked);
   flag = rw (b .fields 3 (omega arith)) (g .flag);
@@ -55,6 +66,7 @@ facts-after {n} {i} {row} {new} {c} {f} r b e1 e2 g = record {
   only = rw (b .fields 7 (omega arith)) (g .only);
   own = rw (b .fields 7 (omega arith)) (g .own);
   grid = rw (b .fields 8 (omega arith), b .fields 7 (omega arith)) (g .grid);
+  kept = rw (b .bytes, b .fields 4 (omega arith), b .window) k;
 }
 
 -- those of rows 1 to n that have a list, and one epoch, have one list
@@ -144,6 +156,24 @@ module _ (t : List ℕ) (a : Writing) (y : WriteYes t a) where
   unfolding workSet
   write-sub i m = worked-in Write _ (answers t (a .r)) (a .c) _ (has (a .r)) i m
 
+  -- a good row has the good version, and its window takes the patch
+  newest : (i : ℕ) → workSet Write t (a .c) (a .r) i ≡ true → good (answers t (a .r)) (workSet Write t (a .c) (a .r)) i ≡ true → goodVersion (answers t (a .r)) (workSet Write t (a .c) (a .r)) ≡ versionOf t i
+  unfolding answers polled
+  newest i m g = sym (rw (write-sub i m) at (good-at (answers t (a .r)) (workSet Write t (a .c) (a .r)) i g .newest))
+
+  pub good-newest : (i : ℕ) → workSet Write t (a .c) (a .r) i ≡ true → good (answers t (a .r)) (workSet Write t (a .c) (a .r)) i ≡ true → versionOf t i ≡ goodVersion (answers t (a .r)) (workSet Write t (a .c) (a .r))
+  good-newest i m g = sym (newest i m g)
+
+  grown-kept : (i : ℕ) → Within (usedOf t) i → goodVersion (answers t (a .r)) (workSet Write t (a .c) (a .r)) ≡ versionOf t i
+      → windowRight (length (put (a .offset) (a .patch) (contents (rowBytes t i)))) (goodVersion (answers t (a .r)) (workSet Write t (a .c) (a .r)) + 1) (added (record { offset = a .offset; bytes = a .patch }) (windowOf (rowBytes t i))) ≡ true
+  unfolding StaysRight versionOf
+  grown-kept i u e =
+      let fits = patch-fits t a y i u in
+      let long = length-put (contents (rowBytes t i)) (a .offset) (a .patch) (fits .inside) in
+      let more : goodVersion (answers t (a .r)) (workSet Write t (a .c) (a .r)) + 1 ≡ suc (versionOf t i) = omega (arith, e) in
+      rw (long, more) (added-right (length (contents (rowBytes t i))) (versionOf t i) (omega (arith, file-is t ww i u, file-low t ww)) (windowOf (rowBytes t i))
+      (window-whole (rowBytes t i) (omega (arith, row-length t ww i u, row-room t))) (ww .rows i u .kept) (record { offset = a .offset; bytes = a .patch }) fits .1)
+
   write-facts : (i : ℕ) → Within (usedOf t) i → workSet Write t (a .c) (a .r) i ≡ true → RowFacts (usedOf t) i (rowBytes (writeTable t a y) i)
   unfolding changed fieldsOf fieldAt staleOf versionOf isEmpty list
   write-facts i u m = go (good (answers t (a .r)) (workSet Write t (a .c) (a .r)) i) refl
@@ -164,7 +194,7 @@ module _ (t : List ℕ) (a : Writing) (y : WriteYes t a) where
             only = f .only;
             own = f .own;
             grid = f .grid;
-          })
+          }) (grown-kept i u (newest i m g))
       go false g =
           let l = version-at t (a .r) (workSet Write t (a .c) (a .r)) ww write-sub (write-used t a y) (y .current) i m in
           facts-after f (write-marked t a y i u m g) refl refl (record {
@@ -177,7 +207,7 @@ module _ (t : List ℕ) (a : Writing) (y : WriteYes t a) where
             only = f .only;
             own = f .own;
             grid = f .grid;
-          })
+          }) (f .kept)
 
   -- epochs and lists stay
   pub write-membership : (i : ℕ) → Within (usedOf t) i
@@ -202,6 +232,13 @@ module _ (t : List ℕ) (a : Sending) (y : SendYes t a) where
   sw : Formed t
   sw = formed t (y .formed)
 
+  -- what is sent is as long as the sender's contents
+  sent-size : length (sentContents (rowBytes t (a .f)) (rowBytes t (a .t))) ≡ length (contents (rowBytes t (a .f)))
+  unfolding sentContents
+  sent-size = sent-long (length (contents (rowBytes t (a .f)))) (get version (rowBytes t (a .f))) (windowOf (rowBytes t (a .f)))
+      (window-whole (rowBytes t (a .f)) (omega (arith, row-length t sw (a .f) (y .from-used), row-room t))) (sw .rows (a .f) (y .from-used) .kept) _ (contents (rowBytes t (a .f))) (contents (rowBytes t (a .t))) refl
+      (file-is t sw (a .t) (y .to-used) ∙ sym (file-is t sw (a .f) (y .from-used)))
+
   send-facts : (i : ℕ) → Within (usedOf t) i → eqb (a .t) i ≡ true → RowFacts (usedOf t) i (rowBytes (sendTable t a y) i)
   unfolding changed fieldsOf fieldAt versionOf limit isEmpty list
   send-facts i u m = subst (λ (x : ℕ). RowFacts (usedOf t) x (rowBytes (sendTable t a y) x)) (eqb-true (a .t) i m)
@@ -215,7 +252,7 @@ module _ (t : List ℕ) (a : Sending) (y : SendYes t a) where
         only = sw .rows (a .t) (y .to-used) .only;
         own = sw .rows (a .t) (y .to-used) .own;
         grid = sw .rows (a .t) (y .to-used) .grid;
-      }))
+      }) (rw (sent-size) (sw .rows (a .f) (y .from-used) .kept)))
 
   pub send-membership : (i : ℕ) → Within (usedOf t) i
       → (epochOf (sendTable t a y) i ≡ epochOf t i) × (listOf (sendTable t a y) i ≡ listOf t i)
@@ -272,7 +309,7 @@ module _ (t : List ℕ) (a : Checking) (y : CheckYes t a) (room : highestEpoch (
         only = y .first .rows;
         own = λ e. m;
         grid = new-mark-fits _ _ some;
-      })
+      }) (f .kept)
       go false g =
           let l = version-less t (a .r) (has (a .r)) chw (λ j h. h) check-used cur i m g in
           facts-after f (check-marked t a y room i u m g) refl refl (record {
@@ -285,7 +322,7 @@ module _ (t : List ℕ) (a : Checking) (y : CheckYes t a) (room : highestEpoch (
             only = y .first .rows;
             own = λ e. m;
             grid = new-mark-fits _ _ some;
-          })
+          }) (f .kept)
 
   -- rows that answered have the new epoch and list, the others keep theirs
   pub check-membership : (i : ℕ) → Within (usedOf t) i

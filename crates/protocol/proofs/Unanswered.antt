@@ -16,7 +16,8 @@ use Rattle.quorums.specs.declared.Kind.the-variants.{Read, Write}
 use Rattle.bytes.specs.Bytes.{number, part}
 use Rattle.fields.specs.Layout
 use Rattle.fields.specs.Layout.{isTall, get, mark, version, desired, epoch, list, noList, usedOf, firstOf, fileLengthOf, nameOf, linkOf, staleOf, versionOf, desiredOf, epochOf, listOf, contentsOf, rowBytes}
-use Rattle.table.specs.Chain.{chain, orderOf}
+use Rattle.linking.specs.Linking.{chain}
+use Rattle.table.specs.Chain.{orderOf}
 use Rattle.table.specs.WellFormed.{between, limit, onlyRows}
 use Rattle.bytes.proofs.ByteLaws.{part-part}
 use Rattle.table.proofs.FormLaws.{Formed, formed, header-facts}

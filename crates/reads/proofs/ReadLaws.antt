@@ -14,7 +14,7 @@ use Rattle.sets.proofs.SetLaws.{has-within}
 use Rattle.quorums.specs.declared.Kind.the-variants.{Read}
 use Rattle.bytes.specs.Bytes.{part}
 use Rattle.fields.specs.Layout.{usedOf, nameOf, rowBytes, contents, contentsOf}
-use Rattle.fields.proofs.FieldLaws.{contents-room}
+use Rattle.fields.proofs.FieldLaws.{row-room}
 use Rattle.table.specs.Chain.{orderOf}
 use Rattle.table.proofs.WellFormedLaws.{sized, length-row}
 use Rattle.protocol.specs.Polls.{good, current, quorumHeld}
@@ -94,10 +94,10 @@ module _ (t : List ℕ) (a : Reading) where
             let g = lowest-good (answers t (a .r)) (workSet Read t (a .c) (a .r)) (y .current) in
             rw good-is (has-within (usedOf t) (a .r) _ (y .first .rows) (worked-in Read (orderOf t) (answers t (a .r)) (a .c) (nameOf t (a .c)) (has (a .r)) _ (g .1 .inside)))
 
-        pub range-in : 32 + a .offset + length (a .buffer) ≤ length (rowBytes t (lowest 64 (has (v .good .bits))))
+        pub range-in : 608 + a .offset + length (a .buffer) ≤ length (rowBytes t (lowest 64 (has (v .good .bits))))
         range-in =
             let y = read-yes t a (after-poll ∙ z) in
-            omega (arith, length-row (sized (y .first .formed)) (lowest 64 (has (v .good .bits))) source-used, contents-room t, y .range, whole)
+            omega (arith, length-row (sized (y .first .formed)) (lowest 64 (has (v .good .bits))) source-used, row-room t, y .range, whole)
 
         pub read-done : (0 * 2 ^ 32 + v .version ≡ resultOf (outcome t (read a))) × (t ≡ outcome t (read a) .table)
             × (part (a .offset) (length (a .buffer)) (contents (rowBytes t (lowest 64 (has (v .good .bits))))) ≡ outcome t (read a) .buffer)

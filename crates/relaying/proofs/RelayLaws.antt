@@ -17,6 +17,7 @@ use Rattle.bytes.specs.Bytes.{bytesOf, part, zeros}
 use Rattle.bytes.proofs.ByteLaws.{length-zeros, zeros-are}
 use Rattle.fields.specs.Layout.{get, capacity, link, epoch, list, isEmpty, isTall, bodyLength, stride, capacityOf, fileLengthOf, rowLength, rowsEnd, usedOf, nameOf, linkOf, listOf, rowBytes, withRows}
 use Rattle.table.specs.WellFormed.{lengthRight, unusedZero, wellFormed}
+use Rattle.fields.proofs.FieldLaws.{records-room}
 use Rattle.table.proofs.FormLaws.{RowFacts, OneList, OneShape, Formed, formed, well-formed-of, rows-room, header-facts}
 use Rattle.table.proofs.TableLaws.{Changed, behind, like-length, many-rows}
 use Rattle.joining.proofs.RowLaws.{new-name, new-link, new-list, new-facts}
@@ -35,6 +36,10 @@ module _ (t : List ℕ) (r : ℕ) (e : wellFormed t ≡ true) where
 
   body : ℕ
   body = bodyLength (fileLengthOf t)
+
+  records-room-here : 576 ≤ body
+  unfolding body
+  records-room-here = records-room (fileLengthOf t)
 
   facts : (i : ℕ) → Within (usedOf t) i → RowFacts (usedOf t) i (rowBytes t i)
   facts i u = w .rows i u
@@ -78,7 +83,7 @@ module _ (t : List ℕ) (r : ℕ) (e : wellFormed t ≡ true) where
     where
       go : (b : Bool) → has r i ≡ b → RowFacts (usedOf t) i (rowBytes (blanked r t) i)
       go true m = rw (kept i u m) (facts i u)
-      go false m = rw (blank i u m) (new-facts _ _ body (facts i u .named) (link-small i u) (usedOf t) i (facts i u .linked))
+      go false m = rw (blank i u m) (new-facts _ _ body (facts i u .named) (link-small i u) records-room-here (usedOf t) i (facts i u .linked))
 
   agree : (i j : ℕ) → Within (usedOf t) i → Within (usedOf t) j → OneList (rowBytes (blanked r t) i) (rowBytes (blanked r t) j)
   agree i j u v a b q =

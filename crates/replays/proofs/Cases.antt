@@ -6,7 +6,7 @@ use lib.Dec.{eqb}
 use lib.ListN.{take}
 use Rattle.sets.specs.Upto.{upward}
 use Rattle.bytes.specs.Bytes.{zeros}
-use Rattle.fields.specs.Layout.{Field, get, mark, version, desired, epoch, members, rowBytes, contentsOf}
+use Rattle.fields.specs.Layout.{Field, get, stride, mark, version, desired, epoch, members, rowBytes, contentsOf}
 use Rattle.protocol.specs.Calls.{outcome}
 use Rattle.protocol.proofs.Histories.{fo, jn, rdc, wrc, rd, wr, ck, same}
 use Rattle.protocol.proofs.Cases.{Case, On, Notes, pair, row1, row2, row3, set, single, third, unlisted, nobody, twoBytes, full, remarked}
@@ -29,16 +29,16 @@ cases =
     -- form
     formed pair
     ∷ malformed (set 0 1 1 pair)
-    ∷ malformed (set 0 1 3 pair)
+    ∷ malformed (set 0 1 2 pair)
     -- capacity
     ∷ malformed (set 1 1 0 pair)
     ∷ formed (single 64 1)
     ∷ malformed (single 65 1)
     -- rows used
     ∷ malformed (set 2 1 0 pair)
-    ∷ formed (set 1 1 2 (take 82 pair))
-    ∷ malformed (set 1 1 2 (set 2 1 3 (take 82 pair)))
-    ∷ malformed (set 1 1 1 (take 49 pair))
+    ∷ formed (set 1 1 2 (take row3 pair))
+    ∷ malformed (set 1 1 2 (set 2 1 3 (take row3 pair)))
+    ∷ malformed (set 1 1 1 (take row2 pair))
     -- first row
     ∷ malformed (set 3 1 0 pair)
     ∷ malformed (set 3 1 3 pair)
@@ -52,7 +52,7 @@ cases =
     ∷ malformed (set 15 1 1 pair)
     -- the table's length
     ∷ malformed (pair ++ (0 ∷ []))
-    ∷ malformed (take 114 pair)
+    ∷ malformed (take (row3 + stride 1 - 1) pair)
     ∷ malformed (take 16 pair)
     ∷ malformed []
     -- names
@@ -111,6 +111,7 @@ cases =
     ∷ malformed (remarked 2 2 (unlisted 0))
     -- zeros of a row; its contents; an unused row
     ∷ malformed (set (row1 + 25) 1 1 pair)
+    ∷ malformed (set (row1 + 26) 1 1 pair)
     ∷ malformed (set (row2 + 31) 1 1 pair)
     ∷ formed (set (row2 + 32) 1 1 pair)
     ∷ malformed (set row3 1 1 pair)
@@ -160,8 +161,8 @@ cases =
     ∷ On pair (jn 65_536) 13 0 []
     ∷ On pair (jn 20) 13 0 []
     ∷ On (set 0 1 0 pair) (jn 0) 1 0 []
-    ∷ On (set 1 1 2 (take 82 pair)) (jn 10) 13 0 []
-    ∷ On (set 1 1 2 (take 82 pair)) (jn 15) 14 0 []
+    ∷ On (set 1 1 2 (take row3 pair)) (jn 10) 13 0 []
+    ∷ On (set 1 1 2 (take row3 pair)) (jn 15) 14 0 []
     ∷ formed (outcome pair (jn 15) .table)
     ∷ formed (outcome nobody (jn 1) .table)
     -- ---- question 8, of a write and of a check that changes the list; one that does not is done
@@ -176,29 +177,29 @@ cases =
     ∷ malformed (outcome (third 2) (ck 1 3) .table)
     ∷ formed (outcome (third 3) (ck 1 3) .table)
     -- ---- question 11: 1 to 64 names, strictly rising, none 0, two bytes each
-    ∷ founds 49 1 1 [] 11 0
-    ∷ founds 49 1 1 (10 ∷ []) 11 0
-    ∷ founds 49 1 1 (10 ∷ 0 ∷ []) 0 1
-    ∷ founds 49 1 1 (10 ∷ 0 ∷ 20 ∷ []) 11 0
-    ∷ founds 2_128 64 1 (twoBytes (upward 64 1)) 0 64
-    ∷ founds 2_128 64 1 (twoBytes (upward 65 1)) 11 0
-    ∷ founds 49 1 1 (0 ∷ 0 ∷ []) 11 0
-    ∷ founds 82 2 1 (10 ∷ 0 ∷ 9 ∷ 0 ∷ []) 11 0
-    ∷ founds 82 2 1 (10 ∷ 0 ∷ 10 ∷ 0 ∷ []) 11 0
+    ∷ founds 625 1 1 [] 11 0
+    ∷ founds 625 1 1 (10 ∷ []) 11 0
+    ∷ founds 625 1 1 (10 ∷ 0 ∷ []) 0 1
+    ∷ founds 625 1 1 (10 ∷ 0 ∷ 20 ∷ []) 11 0
+    ∷ founds 38_992 64 1 (twoBytes (upward 64 1)) 0 64
+    ∷ founds 38_992 64 1 (twoBytes (upward 65 1)) 11 0
+    ∷ founds 625 1 1 (0 ∷ 0 ∷ []) 11 0
+    ∷ founds 1_234 2 1 (10 ∷ 0 ∷ 9 ∷ 0 ∷ []) 11 0
+    ∷ founds 1_234 2 1 (10 ∷ 0 ∷ 10 ∷ 0 ∷ []) 11 0
     -- ---- question 12; the value is the rows used, not the capacity
-    ∷ founds 82 2 1 (10 ∷ 0 ∷ 11 ∷ 0 ∷ []) 0 2
-    ∷ founds 115 3 1 (10 ∷ 0 ∷ 11 ∷ 0 ∷ []) 0 2
-    ∷ founds 49 1 1 (10 ∷ 0 ∷ 11 ∷ 0 ∷ []) 12 0
+    ∷ founds 1_234 2 1 (10 ∷ 0 ∷ 11 ∷ 0 ∷ []) 0 2
+    ∷ founds 1_843 3 1 (10 ∷ 0 ∷ 11 ∷ 0 ∷ []) 0 2
+    ∷ founds 625 1 1 (10 ∷ 0 ∷ 11 ∷ 0 ∷ []) 12 0
     ∷ founds 16 0 1 (10 ∷ 0 ∷ []) 12 0
-    ∷ founds 2_161 65 1 (10 ∷ 0 ∷ []) 12 0
-    ∷ founds 48 1 0 (10 ∷ 0 ∷ []) 12 0
-    ∷ founds 4_144 1 4_096 (10 ∷ 0 ∷ []) 0 1
-    ∷ founds 4_145 1 4_097 (10 ∷ 0 ∷ []) 12 0
-    ∷ founds 48 1 1 (10 ∷ 0 ∷ []) 12 0
-    ∷ founds 50 1 1 (10 ∷ 0 ∷ []) 12 0
+    ∷ founds 39_601 65 1 (10 ∷ 0 ∷ []) 12 0
+    ∷ founds 624 1 0 (10 ∷ 0 ∷ []) 12 0
+    ∷ founds 4_720 1 4_096 (10 ∷ 0 ∷ []) 0 1
+    ∷ founds 4_721 1 4_097 (10 ∷ 0 ∷ []) 12 0
+    ∷ founds 624 1 1 (10 ∷ 0 ∷ []) 12 0
+    ∷ founds 626 1 1 (10 ∷ 0 ∷ []) 12 0
     -- ---- the choice is 0 or 1
-    ∷ On (zeros 49) (fo 1 1 (10 ∷ 0 ∷ []) 1) 0 1 []
-    ∷ On (zeros 49) (fo 1 1 (10 ∷ 0 ∷ []) 2) 11 0 []
+    ∷ On (zeros 625) (fo 1 1 (10 ∷ 0 ∷ []) 1) 0 1 []
+    ∷ On (zeros 625) (fo 1 1 (10 ∷ 0 ∷ []) 2) 11 0 []
     -- ---- 11 before 12
     ∷ founds 0 0 0 [] 11 0
     ∷ []

@@ -93,6 +93,10 @@ module _ {t : List ℕ} {f : ℕ → List ℕ → List ℕ} {size : ℕ} {p : �
   pub turn-long : length (take ((16 + (i - 1) * size + size) - (16 + (i - 1) * size)) (drop (16 + (i - 1) * size) u)) ≡ rowLength t
   turn-long = long-lent d (i - 1) inside (ap p row ∙ new)
 
+  -- what is lent is the row as it was
+  pub turn-row : take ((16 + (i - 1) * size + size) - (16 + (i - 1) * size)) (drop (16 + (i - 1) * size) u) ≡ rowBytes t i
+  turn-row = lent d (i - 1) inside (ap p row ∙ new) ∙ ap (rowBytes t) row
+
   pub turn-done : (x : List ℕ) → length x ≡ length (take ((16 + (i - 1) * size + size) - (16 + (i - 1) * size)) (drop (16 + (i - 1) * size) u))
       → x ≡ f i (take ((16 + (i - 1) * size + size) - (16 + (i - 1) * size)) (drop (16 + (i - 1) * size) u))
       → Done t f size (joining p (only i)) (take (16 + (i - 1) * size) u ++ (x ++ drop ((16 + (i - 1) * size + size) - (16 + (i - 1) * size)) (drop (16 + (i - 1) * size) u)))

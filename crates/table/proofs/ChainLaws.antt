@@ -18,21 +18,13 @@ use Rattle.bools.proofs.BoolLaws.{and-l, and-r}
 use Rattle.sets.proofs.UptoLaws.{every-at}
 use Rattle.sets.proofs.SetLaws.{empty-at, gain-where}
 use Rattle.fields.specs.Layout.{usedOf, firstOf, linkOf, nameOf}
-use Rattle.table.specs.Chain.{chain, orderOf}
+use Rattle.linking.specs.Linking.{chain}
+use Rattle.linking.proofs.PathLaws.{chain-zero, chain-suc}
+use Rattle.table.specs.Chain.{orderOf}
 use Rattle.table.specs.WellFormed.{visitsEach, namesRise, wellFormed}
 use Rattle.table.specs.Contracts.{Linked, Listed, Ordered}
 use Rattle.sets.proofs.TestLaws.{eqb-swap}
 use Rattle.table.proofs.WellFormedLaws.{header, few-rows, link-in}
-
-pub chain-zero : (next : ℕ → ℕ) (m : ℕ) → chain next m 0 ≡ []
-unfolding chain
-chain-zero next zero = refl
-chain-zero next (suc m) = refl
-
-pub chain-suc : (next : ℕ → ℕ) (m i : ℕ) → 1 ≤ i → chain next (suc m) i ≡ i ∷ chain next m (next i)
-unfolding chain
-chain-suc next m zero h = absurd (omega arith)
-chain-suc next m (suc i) h = refl
 
 -- ---- the order of a well-formed table
 -- a shorter walk is the start of a longer one

@@ -8,8 +8,11 @@ use native.Mathlib.Omega.{arith}
 use Rattle.bools.proofs.BoolLaws.{clash}
 use Rattle.sets.specs.Upto.{Within, among}
 use Rattle.sets.proofs.RisingLaws.{among-e}
-use Rattle.fields.specs.Layout.{usedOf, firstOf, linkOf}
-use Rattle.table.specs.Chain.{chain, orderOf}
+use Rattle.fields.specs.Layout.{usedOf, firstOf, linkOf, nameOf}
+use Rattle.linking.specs.Linking.{chain, byName}
+use Rattle.linking.proofs.NameLaws.{rising-by-name}
+use Rattle.table.specs.Chain.{orderOf}
+use Rattle.table.proofs.ChainLaws.{order-each, order-rises}
 use Rattle.table.specs.WellFormed.{wellFormed}
 use Rattle.table.proofs.WellFormedLaws.{header, linked, link-in}
 
@@ -27,3 +30,7 @@ chain-within next n links (suc m) (suc k) h j e = ⊎-elim
 pub order-within : (t : List ℕ) → wellFormed t ≡ true → (j : ℕ) → among (orderOf t) j ≡ true → Within (usedOf t) j
 unfolding orderOf
 order-within t e = chain-within (linkOf t) (usedOf t) (link-in (linked e)) (usedOf t) (firstOf t) (header (linked e .sized .header) .first .1)
+
+-- and its rows in the order of their names
+pub chain-by-name : (t : List ℕ) → wellFormed t ≡ true → orderOf t ≡ byName (nameOf t) (usedOf t)
+chain-by-name t e = rising-by-name (nameOf t) (usedOf t) (orderOf t) (order-rises t e) (order-each t e) (order-within t e)

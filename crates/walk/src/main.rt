@@ -14,7 +14,7 @@ fn line(step: u64, call: &[u8], result: u64) {
 
 // Rows in answering sets count from the right: row 1 is the last digit.
 fn main() {
-    let mut table = [0u8; 160];
+    let mut table = [0u8; 2464];
     let mut byte = [0u8; 1];
     let mut called = [0u8; 1];
     founding::found(&mut table, 4, 4, b"\x01\x00\x02\x00\x03\x00\x04\x00", 0);

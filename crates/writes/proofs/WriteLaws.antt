@@ -10,8 +10,11 @@ use Rattle.sets.specs.Upto.{Within}
 use Rattle.sets.specs.Sets.{has}
 use Rattle.sets.proofs.SetLaws.{has-within}
 use Rattle.quorums.specs.declared.Kind.the-variants.{Write}
-use Rattle.fields.specs.Layout.{usedOf, nameOf, rowLength, withRows}
-use Rattle.fields.proofs.FieldLaws.{contents-room}
+use Rattle.fields.specs.Layout.{get, version, contents, usedOf, nameOf, rowLength, rowBytes, withRows}
+use Rattle.fields.proofs.FieldLaws.{row-room}
+use Rattle.window.specs.Windows.{windowOf}
+use Rattle.windows.specs.Visits.{IsRight}
+use Rattle.table.proofs.FormLaws.{formed}
 use Rattle.table.specs.Chain.{orderOf}
 use Rattle.table.specs.WellFormed.{limit}
 use Rattle.protocol.specs.Polls.{goodVersion, good, current, quorumHeld}
@@ -81,14 +84,18 @@ module _ (t : List ℕ) (a : Writing) where
         all-yes : firstNo (questions t (write a)) ≡ 0
         all-yes = after-seven ∙ ap (λ (b : Bool). cond b 0 8) room
 
-        pub patch-in : 32 + a .offset + length (a .patch) ≤ rowLength t
-        patch-in = omega (arith, contents-room t, write-yes t a all-yes .range)
+        pub patch-in : 608 + a .offset + length (a .patch) ≤ rowLength t
+        patch-in = omega (arith, row-room t, write-yes t a all-yes .range)
 
         -- the rows worked on answered, and are used
         pub works-used : (i : ℕ) → has (v .rows .bits) i ≡ true → Within (usedOf t) i
         unfolding workSet
         works-used i h = has-within (usedOf t) (a .r) i (write-yes t a all-yes .first .rows)
             (worked-in Write (orderOf t) (answers t (a .r)) (a .c) (nameOf t (a .c)) (has (a .r)) i (ap (λ (f : ℕ → Bool). f i) (sym (j .rows)) ∙ h))
+
+        -- their windows are right
+        pub works-right : (i : ℕ) → has (v .rows .bits) i ≡ true → IsRight (windowOf (rowBytes t i))
+        works-right i h = record { file = length (contents (rowBytes t i)); version = get version (rowBytes t i); right = formed t (write-yes t a all-yes .first .formed) .rows i (works-used i h) .kept }
 
         pub write-done : (0 * 2 ^ 32 + (v .version + 1) ≡ resultOf (outcome t (write a)))
             × (withRows t (has (v .rows .bits)) (wroteRow (has (v .good .bits)) (v .version + 1) (a .offset) (a .patch)) (usedOf t) ≡ outcome t (write a) .table)

@@ -1,9 +1,9 @@
-use mathlib.Core.Path.{refl, sym, _∙_, ap}
-use Prim.Native.Nat.{_+_}
-use lib.ListN.{length, take}
-use lib.Seq.{drop-drop}
-use Rattle.bytes.specs.Bytes.{part}
+use mathlib.Core.Path.{refl, sym, _∙_}
+use Prim.Native.Nat.{_+_, _-_}
+use native.Mathlib.Omega.{arith}
+use lib.ListN.{length}
 use Rattle.fields.specs.Layout.{contents}
+use Rattle.bytes.proofs.ByteLaws.{part-part}
 use Rattle.bytes.proofs.CodeLaws.{part-is}
 use borrow.Author.Needs.{needs}
 use Rattle.fields.proofs.copy_out.Statement.{statement}
@@ -31,11 +31,11 @@ same-length : tie.Need-same-length
 same-length c = search needs
 
 returns : tie.Need-returns
-unfolding part contents
+unfolding contents
 returns c =
     let a = c .before .before .before .before .before .before .before .args in
     c .before .before .copy .ensures ∙ part-is (a .row .now) (32 + a .offset) (length (a .to .now)) (32 + a .offset) (length (a .to .now)) refl refl
-    ∙ ap (take (length (a .to .now))) (sym (drop-drop (a .offset) 32 (a .row .now)))
+    ∙ sym (part-part 32 (length (a .row .now) - 608) (a .offset) (length (a .to .now)) (a .row .now) (omega (arith, c .before .before .before .before .before .before .before .pre)))
 
 pub copy-out-spec : {M : Type 1} → statement M
 copy-out-spec =

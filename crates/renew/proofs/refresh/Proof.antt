@@ -1,109 +1,160 @@
-use mathlib.Core.Path.{_∙_, ap}
-use Prim.Native.Nat.{ℕ, _+_}
+use mathlib.Core.Path.{_≡_, refl, sym, _∙_, ap, subst, subst₂}
+use mathlib.Core.List.{List}
 use native.Mathlib.Omega.{arith}
+use Prim.Native.Nat.{ℕ, _+_, _-_, _≤_}
+use lib.ListN.{length, take, drop}
+use Rattle.fields.specs.Layout.{rowBytes}
+use Rattle.table.proofs.WellFormedLaws.{header, long, length-row}
+use Rattle.window.specs.Windows.{windowOf}
+use Rattle.windows.specs.Visits.{RightFor}
+use Rattle.protocol.specs.Rows.{refreshedRow}
+use Rattle.copying.proofs.CopyLaws.{front-long, front-is}
+use Rattle.renew.proofs.PageLaws.{page-is, row-fits, size-small, row-cut, cut-length, row-back}
 use borrow.Author.Needs.{needs}
-use Rattle.renew.proofs.CopyLaws.{Places, target-fits, contents-fit, target-long, copy-fits, refreshed}
-use Rattle.table.proofs.WellFormedLaws.{header, long, row-in}
-use Rattle.fields.specs.Layout.{get, version}
-use Rattle.fields.proofs.FieldLaws.{contents-room}
 use Rattle.renew.proofs.refresh.Statement.{statement}
 use Rattle.renew.proofs.refresh.Tie as tie
 
-places : (c : tie.After-rows-end2) → let a = c .before .before .before .before .before .before .before .before .before .before .before .before .args in
-    Places (a .t .now) (a .from) (a .to) (c .rows-end2 .result) (c .before .before .row-length .result) (c .before .before .before .before .before .before .file-length .result) (c .before .before .before .before .rows-end .result + 32)
-places c =
-    let s = c .before .before .before .before .before .before .before .before .before .before .before .before in
-    record {
-      table = s .pre .0;
-      source-row = s .pre .1;
-      target-row = s .pre .2;
-      other = s .pre .3;
-      e-at = c .rows-end2 .ensures;
-      e-size = c .before .before .row-length .ensures;
-      e-file = c .before .before .before .before .before .before .file-length .ensures;
-      e-source = ap (λ (x : ℕ). x + 32) (c .before .before .before .before .rows-end .ensures);
-    }
+-- what was found of the two rows
+target-fits : (c : tie.After-rows-end2) → c .rows-end2 .result + c .before .before .before .before .row-length .result ≤ length (c .before .before .before .before .before .before .before .args .t .now)
+target-fits c =
+    let s = c .before .before .before .before .before .before .before in
+    row-fits (s .pre .0) (s .args .to) (s .pre .2) _ _ (c .before .before .before .before .row-length .ensures) (c .rows-end2 .ensures)
 
-row-of-requires : tie.Need-row-of-requires
-row-of-requires c κs = search needs
+source-fits : (c : tie.After-rows-end2) → c .before .before .rows-end .result + c .before .before .before .before .row-length .result ≤ length (c .before .before .before .before .before .before .before .args .t .now)
+source-fits c =
+    let s = c .before .before .before .before .before .before .before in
+    row-fits (s .pre .0) (s .args .from) (s .pre .1) _ _ (c .before .before .before .before .row-length .ensures) (c .before .before .rows-end .ensures)
 
-version-requires : tie.Need-version-requires
-version-requires c κs = search needs
+small : (c : tie.After-rows-end2) → (608 ≤ c .before .before .before .before .row-length .result) × (c .before .before .before .before .row-length .result ≤ 4_704)
+small c =
+    let s = c .before .before .before .before .before .before .before in
+    size-small (s .pre .0) (s .args .to) (s .pre .2) _ _ (c .before .before .before .before .row-length .ensures) (c .rows-end2 .ensures)
 
-file-length-requires : tie.Need-file-length-requires
-file-length-requires c κs = long (c .before .before .before .before .before .pre .0)
+row-length-requires : tie.Need-row-length-requires
+row-length-requires c κs = let p = c .before .before .pre in (long (p .0), p .0 .header)
 
 sub-rows-end : tie.Need-sub-rows-end
 sub-rows-end c = search needs
 
 rows-end-requires : tie.Need-rows-end-requires
-rows-end-requires c κs = let p = c .before .before .before .before .before .before .before .pre in (long (p .0), p .0 .header, omega (arith, p .1, header (p .0 .header) .used))
-
-add-source : tie.Need-add-source
-add-source c =
-    let s = c .before .before .before .before .before .before .before .before in
-    omega (arith, c .rows-end .ensures, row-in (s .pre .0) (s .args .from) (s .pre .1), contents-room (s .args .t .now))
-
-row-length-requires : tie.Need-row-length-requires
-row-length-requires c κs = let p = c .before .before .before .before .before .before .before .before .before .pre in (long (p .0), p .0 .header)
+rows-end-requires c κs = let p = c .before .before .before .before .pre in (long (p .0), p .0 .header, omega (arith, p .1, header (p .0 .header) .used))
 
 sub-rows-end-2 : tie.Need-sub-rows-end-2
 sub-rows-end-2 c = search needs
 
 rows-end-requires-2 : tie.Need-rows-end-requires-2
-rows-end-requires-2 c κs = let p = c .before .before .before .before .before .before .before .before .before .before .before .pre in (long (p .0), p .0 .header, omega (arith, p .2, header (p .0 .header) .used))
+rows-end-requires-2 c κs = let p = c .before .before .before .before .before .before .pre in (long (p .0), p .0 .header, omega (arith, p .2, header (p .0 .header) .used))
 
-add-target : tie.Need-add-target
-add-target c = omega (arith, target-fits (places c), contents-fit (places c))
+new-page-requires : tie.Need-new-page-requires
+new-page-requires c κs = search needs
 
-add-renew-row : tie.Need-add-renew-row
-add-renew-row c = omega (arith, target-fits (places c))
+sub-copy : tie.Need-sub-copy
+sub-copy c = search needs
 
-sub-renew-row : tie.Need-sub-renew-row
-sub-renew-row c = search needs
+part-page-start : tie.Need-part-page-start
+part-page-start c = search needs
 
-part-renew-row-start : tie.Need-part-renew-row-start
-part-renew-row-start c = search needs
+part-page-end : tie.Need-part-page-end
+part-page-end c = omega (arith, small (c .before))
 
-part-renew-row-end : tie.Need-part-renew-row-end
-part-renew-row-end c = omega (arith, target-fits (places c))
+add-copy : tie.Need-add-copy
+add-copy c = omega (arith, source-fits (c .before .before))
 
-renew-row-requires : tie.Need-renew-row-requires
-renew-row-requires c κs = target-long (places (c .before))
+sub-copy-2 : tie.Need-sub-copy-2
+sub-copy-2 c = search needs
 
-copy-within-requires : tie.Need-copy-within-requires
-copy-within-requires c κs = copy-fits (places (c .before .before .before .before .before)) (c .before .before .before .renew-row .last .0) (c .before .before .before .renew-row .kept .0)
+part-copy-start : tie.Need-part-copy-start
+part-copy-start c = search needs
+
+part-copy-end : tie.Need-part-copy-end
+part-copy-end c = omega (arith, source-fits (c .before .before .before))
+
+copy-requires : tie.Need-copy-requires
+copy-requires c κs = search needs
+
+add-refresh-row : tie.Need-add-refresh-row
+add-refresh-row c = omega (arith, target-fits (c .before .before .before .before .before .before))
+
+sub-refresh-row : tie.Need-sub-refresh-row
+sub-refresh-row c = search needs
+
+part-refresh-row-start : tie.Need-part-refresh-row-start
+part-refresh-row-start c = search needs
+
+part-refresh-row-end : tie.Need-part-refresh-row-end
+part-refresh-row-end c = omega (arith, target-fits (c .before .before .before .before .before .before))
+
+sub-refresh-row-2 : tie.Need-sub-refresh-row-2
+sub-refresh-row-2 c = search needs
+
+part-refresh-row-start-2 : tie.Need-part-refresh-row-start-2
+part-refresh-row-start-2 c = search needs
+
+part-refresh-row-end-2 : tie.Need-part-refresh-row-end-2
+part-refresh-row-end-2 c =
+    let k = c .before .before .before in
+    let r = k .before .before .before .before .before in
+    let s = r .before .before .before .before .before .before .before in
+    front-long _ _ (take ((r .before .before .rows-end .result + r .before .before .before .before .row-length .result) - r .before .before .rows-end .result) (drop (r .before .before .rows-end .result) (s .args .t .now))) _ (k .copy .ensures) (cut-length (s .pre .0) (s .args .from) (s .pre .1) _ _ (r .before .before .before .before .row-length .ensures) (r .before .before .rows-end .ensures))
+
+refresh-row-requires : tie.Need-refresh-row-requires
+refresh-row-requires c κs =
+    let k = c .before .before .before .before in
+    let r = k .before .before .before .before .before in
+    let s = r .before .before .before .before .before .before .before in
+    let z = s .pre .0 in
+    let esize = r .before .before .before .before .row-length .ensures in
+    let from-long = cut-length z (s .args .from) (s .pre .1) _ _ esize (r .before .before .rows-end .ensures) in
+    let to-long = cut-length z (s .args .to) (s .pre .2) _ _ esize (r .rows-end2 .ensures) in
+    let page = front-is _ _ _ _ (k .copy .ensures) from-long ∙ row-cut z (s .args .from) (s .pre .1) _ _ esize (r .before .before .rows-end .ensures) in (
+      omega (arith, to-long, small r),
+      to-long ∙ esize ∙ sym (length-row z (s .args .from) (s .pre .1)) ∙ ap length (sym page),
+      subst₂ (λ (n : ℕ) (l : List ℕ). RightFor (n - 608) (windowOf l)) (ap length (sym (row-cut z (s .args .to) (s .pre .2) _ _ esize (r .rows-end2 .ensures)))) (sym page) (s .pre .4),
+    )
 
 same-length : tie.Need-same-length
 same-length c = search needs
 
 returns : tie.Need-returns
 returns c =
-    let s = c .before .before .before .before .before .before .before .before in
-    let row = c .before .before .before .before .before .before .renew-row in
-    refreshed (places s) _ (row .kept .0) _
-    (s .before .before .before .before .before .before .before .before .version .ensures ∙ ap (get version) (s .before .before .before .before .before .before .before .before .before .row-of .ensures .0))
-    (row .ensures) _ (c .before .before .copy-within .ensures)
+    let f = c .before .before in
+    let k = f .before .before .before .before .before in
+    let r = k .before .before .before .before .before in
+    let s = r .before .before .before .before .before .before .before in
+    let z = s .pre .0 in
+    let esize = r .before .before .before .before .row-length .ensures in
+    let from-long = cut-length z (s .args .from) (s .pre .1) _ _ esize (r .before .before .rows-end .ensures) in
+    let at : ℕ = r .rows-end2 .result in
+    let size : ℕ = r .before .before .before .before .row-length .result in
+    let page = front-is _ _ _ _ (k .copy .ensures) from-long ∙ row-cut z (s .args .from) (s .pre .1) _ _ esize (r .before .before .rows-end .ensures) in
+    row-back z (s .args .to) (s .pre .2) _ _ esize (r .rows-end2 .ensures) (refreshedRow (rowBytes (s .args .t .now) (s .args .from))) _ (f .refresh-row .kept .0)
+    (f .refresh-row .ensures ∙ ap (λ (l : List ℕ). refreshedRow l (take ((at + size) - at) (drop at (s .args .t .now)))) page)
 
 pub refresh-spec : {M : Type 1} → statement M
 refresh-spec =
     tie.close
     (tie.spec
-    row-of-requires
-    version-requires
-    file-length-requires
+    row-length-requires
     sub-rows-end
     rows-end-requires
-    add-source
-    row-length-requires
     sub-rows-end-2
     rows-end-requires-2
-    add-target
-    add-renew-row
-    sub-renew-row
-    part-renew-row-start
-    part-renew-row-end
-    renew-row-requires
-    copy-within-requires
+    new-page-requires
+    sub-copy
+    part-page-start
+    part-page-end
+    add-copy
+    sub-copy-2
+    part-copy-start
+    part-copy-end
+    copy-requires
+    add-refresh-row
+    sub-refresh-row
+    part-refresh-row-start
+    part-refresh-row-end
+    sub-refresh-row-2
+    part-refresh-row-start-2
+    part-refresh-row-end-2
+    refresh-row-requires
     same-length
     returns)

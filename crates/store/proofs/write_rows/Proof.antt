@@ -1,10 +1,13 @@
 use mathlib.Core.Bool.{Bool, true, false}
-use mathlib.Core.Path.{_≡_, sym, _∙_}
+use mathlib.Core.Path.{_≡_, sym, _∙_, subst}
+use mathlib.Core.List.{List}
+use Rattle.window.specs.Windows.{windowOf}
+use Rattle.windows.specs.Visits.{IsRight}
 use Prim.Native.Nat.{ℕ}
 use native.Mathlib.Omega.{arith}
 use borrow.Author.Needs.{needs}
 use borrow.Author.Tests.{not-true, not-false}
-use Rattle.store.proofs.RowsLaws.{Done, none-done, turn-fits, turn-long, turn-done, done-long, done-all}
+use Rattle.store.proofs.RowsLaws.{Done, none-done, turn-fits, turn-long, turn-row, turn-done, done-long, done-all}
 use Rattle.protocol.specs.Rows.{wroteRow}
 use Rattle.table.proofs.WellFormedLaws.{long}
 use Rattle.fields.specs.Layout.{usedOf}
@@ -74,7 +77,10 @@ write-row-requires : tie.Need-write-row-requires Inv-loop μ-loop
 write-row-requires c κs =
     let w = c .before .before in
     let z = w .before .before .before .before .before .before .before .before in
-    omega (arith, turn-long (w .before .before .before .loop .inv .2) (used w) (new w), z .pre .2)
+    let l = w .before .before .before .loop .inv in (
+      omega (arith, turn-long (l .2) (used w) (new w), z .pre .2),
+      subst (λ (row : List ℕ). IsRight (windowOf row)) (sym (turn-row (l .2) (used w) (new w))) (z .pre .3 _ (in-set (l .1) (some-left (w .before)) (w .lowest .ensures))),
+    )
 
 rest-requires : tie.Need-rest-requires Inv-loop μ-loop
 rest-requires c κs = search needs

@@ -15,7 +15,7 @@ use Rattle.protocol.proofs.QuestionLaws.{ByCoordinator}
 use Rattle.questions.specs.Stages.{toRange}
 use Rattle.questions.specs.declared.Answered.{Answered}
 use Rattle.questions.proofs.QuestionLaws.{range-passed}
-use Rattle.writes.proofs.WriteLaws.{write-early, called-early, write-long, called-long, write-no, called-by, write-full, works-used, patch-in, write-done}
+use Rattle.writes.proofs.WriteLaws.{write-early, called-early, write-long, called-long, write-no, called-by, write-full, works-used, works-right, patch-in, write-done}
 use Rattle.writes.proofs.answer.Statement.{statement}
 use Rattle.writes.proofs.answer.Tie as tie
 
@@ -143,6 +143,7 @@ write-rows-requires c κs =
       sized (asked u .formed),
       works-used (start .args .t .now) (writing start (0 ∷ [])) (passed u) refl (s .settle .result) (s .settle .ensures) (settled-here (b .before)) (room l),
       patch-in (start .args .t .now) (writing start (0 ∷ [])) (passed u) refl (s .settle .result) (s .settle .ensures) (settled-here (b .before)) (room l),
+      works-right (start .args .t .now) (writing start (0 ∷ [])) (passed u) refl (s .settle .result) (s .settle .ensures) (settled-here (b .before)) (room l),
     )
 
 answer-of-requires-5 : tie.Need-answer-of-requires-5

@@ -1,0 +1,45 @@
+-- The sender's row on a page, and the target's row lent.
+use mathlib.Core.Path.{_≡_, refl, sym, _∙_, ap, ap₂, subst}
+use mathlib.Core.List.{List, [], _++_}
+use Prim.Native.Nat.{ℕ, zero, suc, _+_, _-_, _*_, _≤_, _<_}
+use native.Mathlib.Omega.{arith}
+use lib.ListN.{length, take, drop}
+use lib.Seq.{take-at}
+use Rattle.sets.specs.Upto.{Within}
+use Rattle.bytes.specs.Bytes.{part, put}
+use Rattle.bytes.proofs.CodeLaws.{part-back, part-is, part-length}
+use Rattle.blocks.specs.Blocks.{block, withBlock}
+use Rattle.fields.specs.Layout.{usedOf, fileLengthOf, rowLength, rowsEnd, rowBytes, withRow}
+use Rattle.fields.proofs.FieldLaws.{row-room}
+use Rattle.table.specs.Contracts.{Sized}
+use Rattle.table.proofs.WellFormedLaws.{header, row-in, row-part, length-row}
+use Rattle.window.specs.Windows.{Window, windowOf}
+use Rattle.windows.specs.Visits.{RightFor}
+
+with-row : (t : List ℕ) (i : ℕ) → 1 ≤ i → (f : List ℕ → List ℕ) → withRow t i f ≡ put (rowsEnd t (i - 1)) (f (rowBytes t i)) t
+unfolding withRow withBlock rowsEnd rowBytes
+with-row t zero w f = absurd (omega arith)
+with-row t (suc k) w f = let z : suc k - 1 ≡ k = omega arith in rw z
+
+-- bytes copied to the start of a page, and cut from it
+pub page-is : (page ys : List ℕ) (n : ℕ) → length ys ≡ n → take (n - 0) (drop 0 (take 0 page ++ (ys ++ drop (n - 0) (drop 0 page)))) ≡ ys
+page-is page ys n e = let z : n - 0 ≡ n = omega arith in rw z (take-at ys (drop n page) n e)
+
+module _ {t : List ℕ} (z : Sized t) (i : ℕ) (w : Within (usedOf t) i) (size at : ℕ) (e : size ≡ rowLength t) (q : at ≡ rowsEnd t (i - 1)) where
+  pub row-fits : at + size ≤ length t
+  row-fits = omega (arith, e, q, row-in z i w)
+
+  pub size-small : (608 ≤ size) × (size ≤ 4_704)
+  size-small = omega (arith, e, row-room t, header (z .header) .file)
+
+  pub row-cut : take ((at + size) - at) (drop at t) ≡ rowBytes t i
+  row-cut = part-is t at size (rowsEnd t (i - 1)) (rowLength t) q e ∙ sym (row-part z i w)
+
+  pub cut-length : length (take ((at + size) - at) (drop at t)) ≡ size
+  cut-length = part-length at size t row-fits
+
+  pub row-back : (f : List ℕ → List ℕ) (ys : List ℕ) → length ys ≡ length (take ((at + size) - at) (drop at t)) → ys ≡ f (take ((at + size) - at) (drop at t))
+      → take at t ++ (ys ++ drop ((at + size) - at) (drop at t)) ≡ withRow t i f
+  row-back f ys n r =
+      part-back at size t ys ys refl (n ∙ cut-length)
+      ∙ ap₂ (λ (a : ℕ) (p : List ℕ). put a p t) q (r ∙ ap f row-cut) ∙ sym (with-row t i (w .0) f)

@@ -1,0 +1,1 @@
+// A chain of links, and one put in: definitions and laws.

@@ -1,0 +1,5 @@
+pub mod WalkLaws
+pub mod TailLaws
+pub mod RecordLaws
+pub mod RowLaws
+pub mod LayLaws
