@@ -3,14 +3,14 @@ ghost use mathlib.Core.Path.{_≡_};
 ghost use Rattle.asking.specs.Asking.{result};
 ghost use Rattle.charting.specs.Charts.{charted};
 ghost use Rattle.choices.specs.Choosing.{chosen};
-ghost use Rattle.protocol.specs.Calls.{founding, join, read, write, send, check, resultOf, outcome};
+ghost use Rattle.protocol.specs.Calls.{founding, join, read, write, send, check, carry, resultOf, outcome};
 
 // The number of this interface: it rises with every change of a signature, so that header and archive can be compared.
 #[no_mangle]
 pub extern "C" fn grid_interface() -> u64
-    ensures { λ r. ⌜ r ≡ 6 ⌝ }
+    ensures { λ r. ⌜ r ≡ 7 ⌝ }
 {
-    6
+    7
 }
 
 #[no_mangle]
@@ -79,6 +79,14 @@ pub extern "C" fn grid_check(table: &mut [u8], coordinator: u64, answering: u64)
     ensures { λ r. ⌜ (let o = outcome (now (table .entry)) (check (record { c = coordinator; r = answering })) in (r ≡ resultOf o) × (now (table .exit) ≡ o .table)) ⌝ }
 {
     checks::check(table, coordinator as usize, answering)
+}
+
+// A table carried over to another form, into a second buffer.
+#[no_mangle]
+pub extern "C" fn grid_move(table: &[u8], form: u64, new: &mut [u8]) -> u64
+    ensures { λ r. ⌜ (let o = outcome (now (table .entry)) (carry (record { form = form; dest = now (new .entry) })) in (r ≡ resultOf o) × (now (table .entry) ≡ o .table) × (now (new .exit) ≡ o .buffer)) ⌝ }
+{
+    moves::carry(table, form, new)
 }
 
 #[no_mangle]

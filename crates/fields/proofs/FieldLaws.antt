@@ -1,16 +1,19 @@
 -- Fields: what was stored is read back; other fields, the reserved bytes and the contents stay; the length stays. And a row's length.
 use mathlib.Core.Path.{_≡_, refl, sym, _∙_, ap, ap₂}
 use mathlib.Core.Logic.{_⊎_, inl, inr}
+use mathlib.Core.Bool.{Bool, true, false, cond}
 use mathlib.Core.List.{List, _++_, append-nil}
 use Prim.Native.Nat.{ℕ, _+_, _-_, _*_, _^_, _≤_, _<_}
 use native.Mathlib.Nat.{mul-le-mul}
 use native.Mathlib.Omega.{arith}
+use lib.Dec.{leb}
 use lib.ListN.{length, take, drop}
 use lib.Seq.{drop-at, drop-length, length-take-le}
+use borrow.Author.Tests.{le-leb, lt-leb}
 use Rattle.bytes.specs.Bytes.{number, bytesOf, part, put}
 use Rattle.fields.specs.declared.Laid.{Laid}
 use Rattle.blocks.specs.Blocks.{block}
-use Rattle.fields.specs.Layout.{Field, get, store, members, gridMark, list, noList, rowBytes, listOf, reserved, contents, storeContents, records, storeRecords, bodyLength, stride, fileLengthOf, rowLength}
+use Rattle.fields.specs.Layout.{Field, get, store, members, gridMark, list, noList, rowBytes, listOf, reserved, contents, storeContents, records, storeRecords, formValue, bodyIn, strideIn, bodyLength, stride, formOf, fileLengthOf, rowLength}
 use Rattle.bytes.proofs.ByteLaws.{length-bytes, number-bytes, length-part, length-put, part-put, part-apart, drop-put-after, part-put-in}
 
 -- the bytes of f end by place n
@@ -130,34 +133,68 @@ module _ (b xs : List ℕ) (l : length b ≡ 576) (room : 608 ≤ length xs) whe
 abbrev pub widest : ℕ
 widest = 4_704
 
-stride-most : {file : ℕ} → file ≤ 4_096 → stride file ≤ widest
-unfolding stride bodyLength
-stride-most h = omega arith
+-- whatever the form, a row has room for head and contents, and no more than for the records besides
+pub body-in : (f file : ℕ) → (file ≤ bodyIn f file) × (bodyIn f file ≤ file + 576)
+unfolding bodyIn
+body-in f file = go (leb 3 f)
+  where
+    go : (b : Bool) → (file ≤ cond b (file + 576) file) × (cond b (file + 576) file ≤ file + 576)
+    go true = omega arith
+    go false = omega arith
+
+stride-most : (f : ℕ) {file : ℕ} → file ≤ 4_096 → strideIn f file ≤ widest
+unfolding strideIn
+stride-most f {file} h = omega (arith, body-in f file)
 
 -- no product of the code is large
-pub rows-small : {k file : ℕ} → k ≤ 64 → file ≤ 4_096 → k * stride file ≤ 64 * widest
-rows-small few h = mul-le-mul few (stride-most h)
+pub rows-small : (f : ℕ) {k file : ℕ} → k ≤ 64 → file ≤ 4_096 → k * strideIn f file ≤ 64 * widest
+rows-small f few h = mul-le-mul few (stride-most f h)
 
 pub body-room : (file : ℕ) → file ≤ bodyLength file
 unfolding bodyLength
-body-room file = omega arith
+body-room file = body-in formValue file .0
 
 pub records-room : (file : ℕ) → 576 ≤ bodyLength file
-unfolding bodyLength
+unfolding bodyLength bodyIn formValue
 records-room file = omega arith
 
 pub contents-room : (t : List ℕ) → 32 + fileLengthOf t ≤ rowLength t
-unfolding rowLength stride
-contents-room t = omega (arith, body-room (fileLengthOf t))
+unfolding rowLength strideIn
+contents-room t = omega (arith, body-in (formOf t) (fileLengthOf t))
 
--- a row has room for head, contents and records
+pub row-most : (t : List ℕ) → rowLength t ≤ 608 + fileLengthOf t
+unfolding rowLength strideIn
+row-most t = omega (arith, body-in (formOf t) (fileLengthOf t))
+
+-- before form 3 there are no records, from then on there are
+pub stride-early : (f file : ℕ) → f < 3 → strideIn f file ≡ 32 + file
+unfolding strideIn bodyIn
+stride-early f file h = ap (λ (b : Bool). 32 + cond b (file + 576) file) (lt-leb 3 f h)
+
+pub stride-late : (f file : ℕ) → 3 ≤ f → strideIn f file ≡ stride file
+unfolding stride strideIn bodyLength bodyIn formValue
+stride-late f file h = ap (λ (b : Bool). 32 + cond b (file + 576) file) (le-leb 3 f h)
+
+-- in a table of the newest form a row has room for head, contents and records
+pub stride-is : (file : ℕ) → stride file ≡ 32 + bodyLength file
+unfolding stride
+stride-is file = refl
+
 pub body-is : (file : ℕ) → stride file ≡ 608 + file
-unfolding stride bodyLength
+unfolding stride bodyLength bodyIn formValue
 body-is file = omega arith
 
-pub row-room : (t : List ℕ) → rowLength t ≡ 608 + fileLengthOf t
+pub row-newest : (t : List ℕ) → formOf t ≡ formValue → rowLength t ≡ stride (fileLengthOf t)
+unfolding rowLength strideIn stride bodyLength
+row-newest t e = ap (λ (f : ℕ). strideIn f (fileLengthOf t)) e
+
+pub row-room : (t : List ℕ) → formOf t ≡ formValue → rowLength t ≡ 608 + fileLengthOf t
+row-room t e = row-newest t e ∙ body-is (fileLengthOf t)
+
+-- and in a table of any form that has records
+pub row-late : (t : List ℕ) → 3 ≤ formOf t → rowLength t ≡ 608 + fileLengthOf t
 unfolding rowLength
-row-room t = body-is (fileLengthOf t)
+row-late t h = stride-late (formOf t) (fileLengthOf t) h ∙ body-is (fileLengthOf t)
 
 -- the contents are as long as the file
 pub contents-part : (row : List ℕ) (file : ℕ) → length row ≡ stride file → contents row ≡ part 32 file row

@@ -1,8 +1,8 @@
 -- The table in memory: the only places where offsets stand. A table is its bytes; every reading of it is total.
-use mathlib.Core.Bool.{Bool}
+use mathlib.Core.Bool.{Bool, cond}
 use mathlib.Core.List.{List}
 use Prim.Native.Nat.{ℕ, zero, _+_, _-_, _*_}
-use lib.Dec.{eqb}
+use lib.Dec.{eqb, leb}
 use lib.ListN.{length, drop}
 use Rattle.blocks.specs.Blocks.{block, withBlock, withBlocks}
 use Rattle.bytes.specs.Bytes.{number, bytesOf, part, put}
@@ -23,7 +23,7 @@ store f v xs = put (f .place) (bytesOf (f .width) v) xs
 unfoldable pub form : Field
 form = record { place = 0; width = 1 }
 
--- byte 0: "Header form 3"
+-- byte 0: "Header form 3", the newest form
 unfoldable pub formValue : ℕ
 formValue = 3
 
@@ -90,6 +90,10 @@ oldest = record { place = 25; width = 1 }
 unfoldable pub reserved : List ℕ → List ℕ
 reserved row = part 26 6 row
 
+-- the bytes of a row's head that are zero in a table of this form: from the grid mark on in form 1, from the oldest record on in form 2
+unfoldable pub spare : ℕ → List ℕ → List ℕ
+spare f row = cond (eqb f 1) (part 24 8 row) (cond (eqb f 2) (part 25 7 row) (reserved row))
+
 -- "After the contents come 16 records of 36 bytes": the contents, between the 32 bytes of the head and the last 576 of the row
 unfoldable pub contents : List ℕ → List ℕ
 contents row = part 32 (length row - 608) row
@@ -105,15 +109,25 @@ storeRecords bytes row = put (length row - 576) bytes row
 unfoldable pub storeContents : ℕ → List ℕ → List ℕ → List ℕ
 storeContents offset p row = put (32 + offset) p row
 
--- a row's body, all that stands behind its 32 bytes: the contents and the records
-unfoldable pub bodyLength : ℕ → ℕ
-bodyLength fileLength = fileLength + 576
+-- a row's body, all that stands behind its 32 bytes: the contents, and from form 3 on the records
+unfoldable pub bodyIn : ℕ → ℕ → ℕ
+bodyIn f fileLength = cond (leb 3 f) (fileLength + 576) fileLength
 
--- "Then each row takes 32 + L bytes", and the records: a row's length from the file's
+-- "Then each row takes 32 + L bytes", and the records: a row's length from the form and the file's
+unfoldable pub strideIn : ℕ → ℕ → ℕ
+strideIn f fileLength = 32 + bodyIn f fileLength
+
+-- in a table of the newest form
+unfoldable pub bodyLength : ℕ → ℕ
+bodyLength fileLength = bodyIn formValue fileLength
+
 unfoldable pub stride : ℕ → ℕ
 stride fileLength = 32 + bodyLength fileLength
 
 -- ---- what a table says: its header
+unfoldable pub formOf : List ℕ → ℕ
+formOf t = get form t
+
 unfoldable pub capacityOf : List ℕ → ℕ
 capacityOf t = get capacity t
 
@@ -128,7 +142,7 @@ fileLengthOf t = get fileLength t
 
 -- ---- where its rows stand, row 1 first
 unfoldable pub rowLength : List ℕ → ℕ
-rowLength t = stride (fileLengthOf t)
+rowLength t = strideIn (formOf t) (fileLengthOf t)
 
 -- where the rows behind row k start
 unfoldable pub rowsEnd : List ℕ → ℕ → ℕ

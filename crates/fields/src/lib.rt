@@ -51,6 +51,9 @@ pub const HEAD: usize = 32;
 // The records of its window, the last bytes of the row.
 pub const RECORDS: usize = 576;
 
+// the first form whose rows have them
+pub const WITH_RECORDS: u8 = 3;
+
 const NAME_AT: usize = 0;
 
 const LINK_AT: usize = 2;

@@ -2,11 +2,11 @@
 ghost use mathlib.Core.Path.{_≡_};
 ghost use Prim.Native.Nat.{_≤_};
 ghost use lib.ListN.{length};
-ghost use Rattle.fields.specs.Layout.{get, store, form, formValue, capacity, used, first, fileLength, capacityOf, usedOf, firstOf, fileLengthOf};
+ghost use Rattle.fields.specs.Layout.{store, form, formValue, capacity, used, first, fileLength, formOf, capacityOf, usedOf, firstOf, fileLengthOf};
 
 pub const HEADER: usize = 16;
 
-// the form of every table
+// the newest form
 pub const FORM: u8 = 3;
 
 const FORM_AT: usize = 0;
@@ -24,7 +24,7 @@ pub const HEADER_REST: usize = 6;
 
 pub fn form(t: &[u8]) -> u8
     requires { ⌜ 16 ≤ length (now t) ⌝ }
-    ensures { λ r. ⌜ r ≡ get form (now (t .entry)) ⌝ }
+    ensures { λ r. ⌜ r ≡ formOf (now (t .entry)) ⌝ }
 {
     bytes::u8_at(t, FORM_AT)
 }

@@ -17,7 +17,7 @@ use Rattle.table.specs.Chain.{orderOf}
 use Rattle.table.specs.WellFormed.{limit}
 use Rattle.protocol.specs.Polls.{inForce, goodVersion, good, current, quorumHeld}
 use Rattle.asking.specs.Asking.{firstNo, before}
-use Rattle.protocol.specs.Calls.{Reading, Writing, Call, founding, join, read, write, send, check, inFile, questions, done, outcome, answers, workSet}
+use Rattle.protocol.specs.Calls.{Reading, Writing, Call, founding, join, read, write, send, check, carry, inFile, questions, done, outcome, answers, workSet}
 use Rattle.protocol.proofs.ListLaws.{reads}
 use Rattle.protocol.proofs.PollLaws.{lowest-good}
 use Rattle.asking.proofs.AskingLaws.{yes-first, no-first}
@@ -127,3 +127,4 @@ module _ (t : List ℕ) (b : Book) (e : ℕ) (S : State t b e) where
   right (write a) = write-refused a
   right (send a) = tt
   right (check a) = tt
+  right (carry a) = tt

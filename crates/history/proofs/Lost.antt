@@ -19,7 +19,7 @@ use Rattle.table.specs.WellFormed.{between, onlyRows}
 use Rattle.table.proofs.FormLaws.{well-formed-of}
 use Rattle.asking.specs.Asking.{firstNo, before}
 use Rattle.protocol.specs.Lists.{laidNow, listQuorum}
-use Rattle.protocol.specs.Calls.{Founding, Call, founding, join, read, write, send, check, isUsed, byCoordinator, questions, outcome, namesIn, namesRising, foundedList}
+use Rattle.protocol.specs.Calls.{Founding, Call, founding, join, read, write, send, check, carry, isUsed, byCoordinator, questions, outcome, namesIn, namesRising, foundedList}
 use Rattle.protocol.proofs.ListLaws.{laid-shape}
 use Rattle.protocol.proofs.QuestionLaws.{refusal-is}
 use Rattle.seats.specs.Seats.{ListBearsLoss}
@@ -49,6 +49,7 @@ laid-entered b l (check a) true = go (eqb (a .r) (b .inForce .members))
     go : (x : Bool) → LaidSo (cond x b (agreed b (a .r)))
     go true = l
     go false = laid-so (isTall (b .inForce)) (a .r)
+laid-entered b l (carry a) true = l
 
 laid-after : (t : List ℕ) (b : Book) → LaidSo b → (ks : List Call) → LaidSo (bookAfter t b ks)
 unfolding bookAfter

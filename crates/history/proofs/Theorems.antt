@@ -15,7 +15,7 @@ use Rattle.table.specs.WellFormed.{limit, onlyRows, wellFormed}
 use Rattle.table.proofs.FormLaws.{well-formed-of}
 use Rattle.protocol.specs.Polls.{highestEpoch, inForce, current, quorumHeld}
 use Rattle.asking.specs.Asking.{firstNo, before}
-use Rattle.protocol.specs.Calls.{Founding, Checking, Call, founding, join, read, write, send, check, isUsed, byCoordinator, questions, done, outcome, answers}
+use Rattle.protocol.specs.Calls.{Founding, Checking, Call, founding, join, read, write, send, check, carry, isUsed, byCoordinator, questions, done, outcome, answers}
 use Rattle.asking.proofs.AskingLaws.{yes-first}
 use Rattle.protocol.proofs.QuestionLaws.{ByCoordinator, passed-first, refusal-is, when-done, when-refused, join-yes, write-yes, send-yes, CheckYes, check-yes}
 use Rattle.protocol.proofs.FoundedLaws.{founds-of}
@@ -49,6 +49,7 @@ module _ (t : List ℕ) (b : Book) (e : ℕ) (S : State t b e) where
           let cur : current (answers t (a .r)) (has (a .r)) ≡ true = rw q at (y .current) in
           let room : ltb (highestEpoch (answers t (a .r)) (has (a .r))) limit ≡ true = rw q at (y .room) in
           (suc e, rw q (next-check t b e S a y (ltb-true _ _ room) cur q))
+  next-done (carry a) h = (e, S)
 
   -- after any call
   pub next : (k : Call) → (e′ : ℕ) × State (outcome t k .table) (entered b k (eqb (outcome t k .refusal) 0)) e′

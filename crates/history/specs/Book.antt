@@ -13,7 +13,7 @@ use Rattle.fields.specs.declared.Laid.{Laid}
 use Rattle.fields.specs.Layout.{noList, isTall}
 use Rattle.linking.specs.Linking.{byName}
 use Rattle.protocol.specs.Lists.{laidNow, listQuorum, listChoice}
-use Rattle.protocol.specs.Calls.{Founding, Call, founding, join, read, write, send, check, namesIn, foundedList}
+use Rattle.protocol.specs.Calls.{Founding, Call, founding, join, read, write, send, check, carry, namesIn, foundedList}
 
 pub record Book : Type 0 where
   -- the names of rows 1 upward, from the arguments of the founding and of joinings
@@ -125,3 +125,5 @@ entered b (read a) true = b
 entered b (write a) true = written b (writeSet b (a .c) (a .r)) (a .offset) (a .patch)
 entered b (send a) true = passedOn b (a .f) (a .t)
 entered b (check a) true = checked b (a .r)
+-- a move leaves the table as it is
+entered b (carry a) true = b

@@ -9,7 +9,7 @@ use Rattle.quorums.specs.declared.Kind.{Kind}
 use Rattle.quorums.specs.declared.Kind.the-variants.{Read, Write}
 use Rattle.bytes.specs.Bytes.{part}
 use Rattle.asking.specs.Asking.{firstNo, before}
-use Rattle.protocol.specs.Calls.{Founding, Reading, Call, founding, join, read, write, send, check, Outcome, questions, outcome}
+use Rattle.protocol.specs.Calls.{Founding, Reading, Call, founding, join, read, write, send, check, carry, Outcome, questions, outcome}
 use Rattle.history.specs.Book.{Book, opened, holdsQuorum, someHasAll, entered}
 
 -- "The refusals in demand 3 are by 6 where the quorum is wanting, and by 7 where it is held and no row of R has every done write."
@@ -33,6 +33,7 @@ Right t b (founding a) o = Unit {0}
 Right t b (join a) o = Unit {0}
 Right t b (send a) o = Unit {0}
 Right t b (check a) o = Unit {0}
+Right t b (carry a) o = Unit {0}
 
 -- and of a list of calls, each getting the table as the last one left it; the book is fed the call and whether it was done
 unfoldable pub AllRight : List ℕ → Book → List Call → Type 0

@@ -1,5 +1,5 @@
 -- What a joining alters, byte for byte.
-use mathlib.Core.Path.{_≡_, refl, _∙_, ap}
+use mathlib.Core.Path.{_≡_, refl, _∙_, ap, ap₂}
 use mathlib.Core.Bool.{true, cond}
 use mathlib.Core.Logic.{⊎-elim, inl, inr}
 use mathlib.Core.List.{List, _++_}
@@ -12,8 +12,8 @@ use Rattle.sets.proofs.RisingLaws.{among-e}
 use Rattle.bytes.specs.Bytes.{bytesOf, part, put, zeros}
 use Rattle.bytes.proofs.ByteLaws.{length-bytes, drop-put-after, first-zeros, split-zeros, zeros-are}
 use Rattle.blocks.specs.Blocks.{block, withBlock}
-use Rattle.fields.specs.Layout.{Field, store, used, first, fileLength, name, link, bodyLength, stride, capacityOf, usedOf, firstOf, fileLengthOf, rowLength, rowsEnd, rowBytes, nameOf, linkOf, withRow}
-use Rattle.fields.proofs.FieldLaws.{length-store, stored-bytes, get-other, part-store, contents-room}
+use Rattle.fields.specs.Layout.{Field, store, form, used, first, fileLength, name, link, bodyLength, strideIn, formOf, capacityOf, usedOf, firstOf, fileLengthOf, rowLength, rowsEnd, rowBytes, nameOf, linkOf, withRow}
+use Rattle.fields.proofs.FieldLaws.{length-store, stored-bytes, get-other, part-store, contents-room, row-newest, stride-is}
 use Rattle.table.specs.Chain.{orderOf}
 use Rattle.table.specs.WellFormed.{wellFormed, unusedZero}
 use Rattle.table.proofs.FormLaws.{formed}
@@ -25,14 +25,14 @@ use Rattle.linking.proofs.InsertLaws.{last-among}
 use Rattle.joining.specs.Joining.{rowBefore, namedRow, joinedBehind, joined}
 use Rattle.joining.specs.Claims.{OneMore}
 
--- ---- a number stored in the first four bytes of the header
-module _ (f : Field) (v : ℕ) (t : List ℕ) (low : f .place + f .width ≤ 4) (room : 16 ≤ length t) where
+-- ---- a number stored in bytes 1 to 3 of the header
+module _ (f : Field) (v : ℕ) (t : List ℕ) (behind-form : 1 ≤ f .place) (low : f .place + f .width ≤ 4) (room : 16 ≤ length t) where
   fits : f .place + f .width ≤ length t
   fits = omega arith
 
   wide-same : rowLength (store f v t) ≡ rowLength t
-  unfolding rowLength fileLengthOf fileLength
-  wide-same = ap stride (get-other f v t fits fileLength (inr (omega arith)))
+  unfolding rowLength formOf form fileLengthOf fileLength
+  wide-same = ap₂ strideIn (get-other f v t fits form (inl (omega arith))) (get-other f v t fits fileLength (inr (omega arith)))
 
   rows-same : (i : ℕ) → rowBytes (store f v t) i ≡ rowBytes t i
   unfolding rowBytes block
@@ -85,11 +85,11 @@ module _ (t : List ℕ) (e : wellFormed t ≡ true) (x : ℕ) (room : usedOf t <
 
   -- the first unused row is zero
   zero-row : rowBytes t (suc (usedOf t)) ≡ zeros 32 ++ zeros (bodyLength (fileLengthOf t))
-  unfolding rowBytes block part rowsEnd unusedZero rowLength stride
+  unfolding rowBytes block part rowsEnd unusedZero
   zero-row =
       let z = zeros-are (drop (16 + usedOf t * rowLength t) t) (formed t e .zero) in
       let l : rowLength t ≤ length (drop (16 + usedOf t * rowLength t) t) = rw (length-drop (16 + usedOf t * rowLength t) t) (omega (arith, roomy)) in
-      ap (take (rowLength t)) z ∙ first-zeros (rowLength t) _ l ∙ split-zeros 32 (bodyLength (fileLengthOf t))
+      ap (take (rowLength t)) z ∙ first-zeros (rowLength t) _ l ∙ ap zeros (row-newest t (formed t e .newest) ∙ stride-is (fileLengthOf t)) ∙ split-zeros 32 (bodyLength (fileLengthOf t))
 
   -- and gets the name and the link
   new-row : namedRow x (behind (firstOf t) (linkOf t) (rowBefore t x)) (zeros 32 ++ zeros (bodyLength (fileLengthOf t)))
@@ -150,12 +150,12 @@ module _ (t : List ℕ) (e : wellFormed t ≡ true) (x : ℕ) (room : usedOf t <
     rows = λ i v. at i ∙ led .rows i (omega arith) ∙ ap (λ (row : List ℕ). cond (eqb (rowBefore t x) i) (store link (suc (usedOf t)) row) row) (named .rows i (omega arith) ∙ rw (ne-eqb (suc (usedOf t)) i (λ z. omega arith)));
     new = at (suc (usedOf t)) ∙ led .rows (suc (usedOf t)) (omega arith) ∙ rw (ne-eqb (rowBefore t x) (suc (usedOf t)) (λ z. omega (arith, before-used)))
         (named .rows (suc (usedOf t)) (omega arith) ∙ rw (eq-eqb (suc (usedOf t)) (suc (usedOf t)) refl, zero-row) new-row);
-    rest = tail-same first front t3 (omega arith) long3 (rowsEnd t (suc (usedOf t))) far ∙ tail-same used (suc (usedOf t)) t2 (omega arith) long2 (rowsEnd t (suc (usedOf t))) far
+    rest = tail-same first front t3 (omega arith) (omega arith) long3 (rowsEnd t (suc (usedOf t))) far ∙ tail-same used (suc (usedOf t)) t2 (omega arith) (omega arith) long2 (rowsEnd t (suc (usedOf t))) far
         ∙ led .tail (rowsEnd t (suc (usedOf t))) (omega (arith, like-end (named .like) (suc (usedOf t)))) ∙ named .tail (rowsEnd t (suc (usedOf t))) (omega arith);
   }
     where
       at : (i : ℕ) → rowBytes u i ≡ rowBytes t2 i
-      at i = rows-same first front t3 (omega arith) long3 i ∙ rows-same used (suc (usedOf t)) t2 (omega arith) long2 i
+      at i = rows-same first front t3 (omega arith) (omega arith) long3 i ∙ rows-same used (suc (usedOf t)) t2 (omega arith) (omega arith) long2 i
 
       far : 16 ≤ rowsEnd t (suc (usedOf t))
       far = head-first t (suc (usedOf t))

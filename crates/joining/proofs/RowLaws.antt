@@ -1,5 +1,5 @@
 -- What a table with a row more says: its header, its rows; and that it is well formed.
-use mathlib.Core.Path.{_≡_, refl, sym, _∙_, ap, subst}
+use mathlib.Core.Path.{_≡_, refl, sym, _∙_, ap, ap₂, subst}
 use mathlib.Core.Bool.{Bool, true, false, cond, _&&_}
 use mathlib.Core.Logic.{_⊎_, ⊎-elim, inl, inr}
 use mathlib.Core.List.{List, _++_}
@@ -20,8 +20,8 @@ use Rattle.grid.specs.Sizes.{markFits}
 use Rattle.window.specs.Windows.{windowOf, emptied}
 use Rattle.window.proofs.AddLaws.{emptied-right}
 use Rattle.window.proofs.RowLaws.{window-blank, window-store}
-use Rattle.fields.specs.Layout.{Field, get, store, form, formValue, capacity, used, first, fileLength, name, link, mark, version, desired, epoch, members, gridMark, list, noList, isEmpty, isTall, reserved, contents, bodyLength, stride, capacityOf, usedOf, firstOf, fileLengthOf, rowLength, rowsEnd, rowBytes, nameOf, linkOf, listOf}
-use Rattle.fields.proofs.FieldLaws.{Apart, get-store, get-other, reserved-store, contents-store, body-room, records-room, row-room, contents-part, list-is}
+use Rattle.fields.specs.Layout.{Field, get, store, form, formValue, capacity, used, first, fileLength, name, link, mark, version, desired, epoch, members, gridMark, list, noList, isEmpty, isTall, reserved, contents, bodyLength, strideIn, formOf, capacityOf, usedOf, firstOf, fileLengthOf, rowLength, rowsEnd, rowBytes, nameOf, linkOf, listOf}
+use Rattle.fields.proofs.FieldLaws.{Apart, get-store, get-other, reserved-store, contents-store, body-room, records-room, stride-is, row-room, contents-part, list-is}
 use Rattle.table.specs.WellFormed.{between, limit, wellFormed, headerValues, lengthRight, unusedZero}
 use Rattle.table.proofs.FormLaws.{is-between, RowFacts, OneList, OneShape, Formed, formed}
 use Rattle.table.proofs.WellFormedLaws.{sized, header, linked, length-is, length-row, row-long}
@@ -73,9 +73,9 @@ module _ (x next body : ℕ) (h : Within 65_535 x) (l : next < 256) where
   }
 
 new-contents : (x next file : ℕ) → contents (bytesOf 2 x ++ (bytesOf 1 next ++ (zeros 29 ++ zeros (bodyLength file)))) ≡ zeros file
-unfolding part zeros bytesOf stride
+unfolding part zeros bytesOf
 new-contents x next file =
-    contents-part (bytesOf 2 x ++ (bytesOf 1 next ++ (zeros 29 ++ zeros (bodyLength file)))) file new-length ∙ first-zeros file (bodyLength file) (body-room file)
+    contents-part (bytesOf 2 x ++ (bytesOf 1 next ++ (zeros 29 ++ zeros (bodyLength file)))) file (new-length ∙ sym (stride-is file)) ∙ first-zeros file (bodyLength file) (body-room file)
   where
     new-length : length (bytesOf 2 x ++ (bytesOf 1 next ++ (zeros 29 ++ zeros (bodyLength file)))) ≡ 32 + bodyLength file
     new-length = simp length-zeros (omega arith)
@@ -107,8 +107,8 @@ module _ (t u : List ℕ) (x : ℕ) (e : wellFormed t ≡ true) (room : usedOf t
   few = omega (arith, header (sized e .header) .capacity)
 
   -- ---- the header
-  same-form : get form u ≡ get form t
-  unfolding get form
+  same-form : formOf u ≡ formOf t
+  unfolding formOf get form
   same-form = ap number (sym (part-part 0 2 0 1 u (omega arith)) ∙ ap (part 0 1) (o .low) ∙ part-part 0 2 0 1 t (omega arith))
 
   same-capacity : capacityOf u ≡ capacityOf t
@@ -124,7 +124,7 @@ module _ (t u : List ℕ) (x : ℕ) (e : wellFormed t ≡ true) (room : usedOf t
 
   same-end : (k : ℕ) → rowsEnd u k ≡ rowsEnd t k
   unfolding rowsEnd rowLength
-  same-end k = ap (λ (f : ℕ). 16 + k * stride f) file-kept
+  same-end k = ap₂ (λ (g f : ℕ). 16 + k * strideIn g f) same-form file-kept
 
   pub more-used : usedOf u ≡ suc (usedOf t)
   unfolding usedOf get used
@@ -154,9 +154,9 @@ module _ (t u : List ℕ) (x : ℕ) (e : wellFormed t ≡ true) (room : usedOf t
   )
       (go (formed t e .header))
     where
-      go : headerValues t ≡ true → (eqb (get form t) formValue && between 1 (capacityOf t) 64 && true && true && between 1 (fileLengthOf t) 4_096 && allZero (part 6 10 t)) ≡ true
+      go : headerValues t ≡ true → (between 1 (formOf t) formValue && between 1 (capacityOf t) 64 && true && true && between 1 (fileLengthOf t) 4_096 && allZero (part 6 10 t)) ≡ true
       go h =
-          let f : eqb (get form t) formValue ≡ true = search (and-l, and-r) in
+          let f : between 1 (formOf t) formValue ≡ true = search (and-l, and-r) in
           let c : between 1 (capacityOf t) 64 ≡ true = search (and-l, and-r) in
           let l : between 1 (fileLengthOf t) 4_096 ≡ true = search (and-l, and-r) in
           let z : allZero (part 6 10 t) ≡ true = search (and-l, and-r) in
@@ -217,7 +217,7 @@ module _ (t u : List ℕ) (x : ℕ) (e : wellFormed t ≡ true) (room : usedOf t
   window-kept i v = ap windowOf (o .rows i v) ∙ go (eqb (rowBefore t x) i)
     where
       go : (b : Bool) → windowOf (cond b (store link (suc (usedOf t)) (rowBytes t i)) (rowBytes t i)) ≡ windowOf (rowBytes t i)
-      go true = window-store link (suc (usedOf t)) (rowBytes t i) (omega arith) (omega (arith, length-row (sized e) i v, row-room t))
+      go true = window-store link (suc (usedOf t)) (rowBytes t i) (omega arith) (omega (arith, length-row (sized e) i v, row-room t (formed t e .newest)))
       go false = refl
 
   -- a row's list stays
@@ -312,6 +312,7 @@ module _ (t u : List ℕ) (x : ℕ) (e : wellFormed t ≡ true) (room : usedOf t
     pub more-formed : Formed u
     unfolding lengthRight
     more-formed = record {
+      newest = same-form ∙ formed t e .newest;
       header = more-header;
       long = eq-eqb _ _ (o .bytes ∙ length-is (sized e) ∙ sym (same-end (capacityOf t)) ∙ ap (rowsEnd u) (sym same-capacity));
       rows = rw more-used row-facts;

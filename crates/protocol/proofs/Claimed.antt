@@ -15,16 +15,17 @@ use Rattle.fields.specs.Layout.{usedOf, nameOf, versionOf, rowsEnd}
 use Rattle.table.specs.Chain.{orderOf}
 use Rattle.table.specs.WellFormed.{limit, wellFormed}
 use Rattle.table.proofs.FormLaws.{formed, well-formed-of, header-facts}
+use Rattle.table.proofs.WellFormedLaws.{header, own-sized}
 use Rattle.protocol.specs.Polls.{highestEpoch, inForce}
 use Rattle.protocol.specs.Calls
 use Rattle.asking.specs.Asking.{firstNo}
 use Rattle.asking.proofs.AskingLaws.{result-refusal, result-value}
-use Rattle.protocol.specs.Calls.{Call, founding, join, read, write, send, check, questions, calledAfter, done, outcome, answers, workSet}
+use Rattle.protocol.specs.Calls.{Call, founding, join, read, write, send, check, carry, questions, calledAfter, done, outcome, answers, workSet}
 use Rattle.protocol.specs.Claims
 use Rattle.joining.proofs.FrameLaws.{joined-alters}
 use Rattle.joining.proofs.RowLaws.{more-formed}
 use Rattle.protocol.proofs.PollLaws.{worked-in}
-use Rattle.protocol.proofs.QuestionLaws.{refusal-is, when-done, when-refused, join-yes, read-yes, write-yes, send-yes, CheckYes, check-yes}
+use Rattle.protocol.proofs.QuestionLaws.{refusal-is, when-done, when-refused, join-yes, read-yes, write-yes, send-yes, CheckYes, check-yes, carry-yes}
 use Rattle.protocol.proofs.DoneLaws.{version-small, epoch-small, Leaves, writeTable, write-leaves, sendTable, send-leaves, checkTable, check-leaves}
 use Rattle.protocol.proofs.KeepLaws.{write-formed, send-formed}
 use Rattle.protocol.proofs.FoundedLaws.{founds-of, founded-used, founded-formed}
@@ -38,6 +39,7 @@ put-in-order t (read a) = refl
 put-in-order t (write a) = refl
 put-in-order t (send a) = refl
 put-in-order t (check a) = refl
+put-in-order t (carry a) = refl
 
 -- ---- the result tells refusal and value
 small-done : (t : List ℕ) (k : Call) → firstNo (questions t k) ≡ 0 → done t k .value ≤ limit
@@ -56,6 +58,7 @@ small-done t (check a) h = go (eqb (a .r) (inForce (answers t (a .r)) (has (a .r
     go : (b : Bool) → eqb (a .r) (inForce (answers t (a .r)) (has (a .r)) .members) ≡ b → cond b (highestEpoch (answers t (a .r)) (has (a .r))) (highestEpoch (answers t (a .r)) (has (a .r)) + 1) ≤ limit
     go true q = epoch-small t (a .c) (a .r) (y .first) (has (a .r)) (λ i m. m)
     go false q = let room : ltb (highestEpoch (answers t (a .r)) (has (a .r))) limit ≡ true = rw q at (y .room) in omega (arith, ltb-true)
+small-done t (carry a) h = let y = header (own-sized (carry-yes t a h .own) .header) in omega (arith, y .used, y .capacity)
 
 pub result-tells : Claims.ResultTells
 unfolding Claims.ResultTells Calls.resultOf limit
@@ -129,6 +132,7 @@ formed-done t (join a) Claims.aJoin w h = let y = join-yes t a h in well-formed-
 formed-done t (read a) Claims.aRead w h = w
 formed-done t (write a) Claims.aWrite w h = well-formed-of _ (write-formed t a (write-yes t a h))
 formed-done t (send a) Claims.aSend w h = well-formed-of _ (send-formed t a (send-yes t a h))
+formed-done t (carry a) Claims.aCarry w h = w
 
 pub stays-well-formed : Claims.StaysWellFormed
 unfolding Claims.StaysWellFormed

@@ -17,7 +17,7 @@ use Rattle.bytes.specs.Bytes.{put}
 use Rattle.fields.specs.Layout.{isTall, get, name, link, contents, rowLength, rowBytes, usedOf, fileLengthOf, nameOf, epochOf, versionOf, withRow, withRows}
 use Rattle.table.specs.Chain.{orderOf}
 use Rattle.table.specs.WellFormed.{limit}
-use Rattle.fields.proofs.FieldLaws.{row-room, contents-long}
+use Rattle.fields.proofs.FieldLaws.{row-newest, row-room, contents-long}
 use Rattle.window.specs.Windows.{Window, Patch, windowRight, windowOf, added}
 use Rattle.window.specs.Claims.{Fits}
 use Rattle.table.proofs.FormLaws.{RowFacts, Formed, formed, header-facts, rows-room}
@@ -37,12 +37,11 @@ module _ (t : List ℕ) (w : Formed t) where
   row-length i u = row-long t (usedOf t) (rows-room t w) i u
 
   long-row : (i : ℕ) → Within (usedOf t) i → 608 ≤ length (rowBytes t i)
-  long-row i u = omega (arith, row-length i u, row-room t)
+  long-row i u = omega (arith, row-length i u, row-room t (w .newest))
 
   -- contents are as long as the file
   pub file-is : (i : ℕ) → Within (usedOf t) i → length (contents (rowBytes t i)) ≡ fileLengthOf t
-  unfolding rowLength
-  file-is i u = contents-long (rowBytes t i) (fileLengthOf t) (row-length i u)
+  file-is i u = contents-long (rowBytes t i) (fileLengthOf t) (row-length i u ∙ row-newest t (w .newest))
 
   pub file-low : fileLengthOf t < 65_536
   file-low = omega (arith, header-facts t (w .header) .file)
@@ -127,7 +126,7 @@ module _ (t : List ℕ) (a : Writing) (y : WriteYes t a) where
       (cond b (put (a .offset) (a .patch) (contents (rowBytes t i))) (contents (rowBytes t i)))
       (cond b (added (record { offset = a .offset; bytes = a .patch }) (windowOf (rowBytes t i))) (windowOf (rowBytes t i)))
   unfolding wroteRow
-  wrote i u true e = rw e (patched-row (rowBytes t i) (long-row t w i u) v (a .offset) (a .patch) v-fits (omega (arith, row-length t w i u, row-room t, y .range))
+  wrote i u true e = rw e (patched-row (rowBytes t i) (long-row t w i u) v (a .offset) (a .patch) v-fits (omega (arith, row-length t w i u, row-room t (w .newest), y .range))
       (length (contents (rowBytes t i))) (versionOf t i) (omega (arith, file-is t w i u, file-low t w)) (kept-here i u) (patch-fits i u))
   wrote i u false e = rw e (marked-row (rowBytes t i) (long-row t w i u) v v-fits)
 

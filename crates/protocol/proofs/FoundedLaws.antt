@@ -24,11 +24,11 @@ use Rattle.sets.proofs.RisingLaws.{upward-length, upward-among}
 use Rattle.bytes.specs.Bytes.{number, bytesOf, part, zeros, allZero}
 use Rattle.blocks.specs.Blocks.{block}
 use Rattle.fields.specs.declared.Laid.{Laid}
-use Rattle.fields.specs.Layout.{isTall, get, form, formValue, capacity, used, first, fileLength, name, link, mark, version, desired, epoch, members, gridMark, list, reserved, contents, bodyLength, stride, rowLength, rowsEnd, rowBytes, capacityOf, usedOf, firstOf, fileLengthOf, nameOf, linkOf, listOf}
+use Rattle.fields.specs.Layout.{isTall, get, form, formValue, capacity, used, first, fileLength, name, link, mark, version, desired, epoch, members, gridMark, list, reserved, contents, bodyLength, stride, formOf, rowLength, rowsEnd, rowBytes, capacityOf, usedOf, firstOf, fileLengthOf, nameOf, linkOf, listOf}
 use Rattle.linking.specs.Linking.{chain}
 use Rattle.table.specs.WellFormed.{between, limit, headerValues, lengthRight, visitsEach, namesRise, unusedZero}
 use Rattle.bytes.proofs.ByteLaws.{length-bytes, number-bytes, length-zeros, zeros-zero, first-zeros}
-use Rattle.fields.proofs.FieldLaws.{body-room, records-room, contents-part, list-is}
+use Rattle.fields.proofs.FieldLaws.{row-newest, body-room, records-room, contents-part, list-is}
 use Rattle.window.specs.Windows.{windowOf, emptied}
 use Rattle.window.proofs.AddLaws.{emptied-right}
 use Rattle.window.proofs.RowLaws.{window-blank}
@@ -150,8 +150,8 @@ module _ (a : Calls.Founding) (f : Founds a) where
   unfolding Calls.founded Calls.foundedHeader fileLengthOf get fileLength part zeros bytesOf
   founded-file = number-bytes 2 file (omega (arith, f .bytes))
 
-  header-form : get form (Calls.founded choice c file names) ≡ formValue
-  unfolding Calls.founded Calls.foundedHeader get form formValue part number bytesOf zeros
+  header-form : formOf (Calls.founded choice c file names) ≡ formValue
+  unfolding Calls.founded Calls.foundedHeader formOf get form formValue part number bytesOf zeros
   header-form = refl
 
   header-rest : allZero (part 6 10 (Calls.founded choice c file names)) ≡ true
@@ -166,8 +166,7 @@ module _ (a : Calls.Founding) (f : Founds a) where
       split = sym (add-mul (length names) (c - length names) (stride file)) ∙ ap (λ (x : ℕ). x * stride file) (omega (arith, f .room))
 
   founded-length : rowLength (Calls.founded choice c file names) ≡ stride file
-  unfolding rowLength
-  founded-length = ap stride founded-file
+  founded-length = row-newest (Calls.founded choice c file names) header-form ∙ ap stride founded-file
 
   founded-end : (k : ℕ) → rowsEnd (Calls.founded choice c file names) k ≡ 16 + k * stride file
   unfolding rowsEnd
@@ -351,13 +350,14 @@ module _ (a : Calls.Founding) (f : Founds a) where
     founded-file,
     founded-form,
     founded-rest,
+    is-between 1 formValue formValue (omega arith) (omega arith),
     is-between 1 c 64 (omega (arith, f .some, f .room)) (f .most),
     is-between 1 (length names) c (f .some) (f .room),
     is-between 1 1 (length names) (omega arith) (f .some),
   )
       (and-i _ true (is-between 1 file 4_096 (f .bytes .0) (f .bytes .1)) refl)
     where
-      founded-form : get form (Calls.founded choice c file names) ≡ formValue
+      founded-form : formOf (Calls.founded choice c file names) ≡ formValue
       founded-form = header-form
 
       founded-rest : allZero (part 6 10 (Calls.founded choice c file names)) ≡ true
@@ -384,6 +384,7 @@ module _ (a : Calls.Founding) (f : Founds a) where
   pub founded-formed : Formed (Calls.founded choice c file names)
   unfolding listOf
   founded-formed = record {
+    newest = header-form;
     header = founded-header;
     long = founded-long;
     rows = rw founded-used (at-row (RowFacts (length names)) row-facts);

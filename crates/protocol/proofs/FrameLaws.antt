@@ -8,7 +8,7 @@ use native.Mathlib.Omega.{arith}
 use lib.ListN.{drop}
 use Rattle.sets.specs.Upto.{Within}
 use Rattle.bytes.specs.Bytes.{allZero}
-use Rattle.fields.specs.Layout.{get, form, capacity, used, first, fileLength, name, link, capacityOf, usedOf, firstOf, fileLengthOf, nameOf, linkOf, rowsEnd, rowBytes}
+use Rattle.fields.specs.Layout.{get, form, capacity, used, first, fileLength, name, link, formOf, capacityOf, usedOf, firstOf, fileLengthOf, nameOf, linkOf, rowsEnd, rowBytes}
 use Rattle.table.specs.WellFormed.{headerValues, lengthRight, visitsEach, namesRise, unusedZero}
 use Rattle.blocks.specs.Blocks.{block}
 use Rattle.table.proofs.TableLaws.{Like, like-get, like-end, Changed, behind}
@@ -35,9 +35,13 @@ module _ {t u : List ℕ} (f : Frame t u) where
   unfolding fileLengthOf fileLength
   same-file = like-get (f .like) fileLength (omega arith)
 
+  pub same-form : formOf u ≡ formOf t
+  unfolding formOf form
+  same-form = like-get (f .like) form (omega arith)
+
   pub same-header : headerValues u ≡ headerValues t
-  unfolding headerValues form
-  same-header = rw (like-get (f .like) form (omega arith), same-capacity, same-used, same-first, same-file, f .like .header 6 10 (omega arith))
+  unfolding headerValues
+  same-header = rw (same-form, same-capacity, same-used, same-first, same-file, f .like .header 6 10 (omega arith))
 
   pub same-long : lengthRight u ≡ lengthRight t
   unfolding lengthRight

@@ -34,7 +34,7 @@ use Rattle.protocol.specs.Calls.{Writing, Sending, Checking, answers, wo
 use Rattle.protocol.proofs.RowLaws.{fieldAt, Becomes, fieldsOf, changed, listIn, relisted, becomes-list}
 use Rattle.protocol.proofs.ListLaws.{laid-shape}
 use Rattle.protocol.proofs.PollLaws.{leads, good-at, good-of, version-le, current-desired, worked-in}
-use Rattle.protocol.proofs.FrameLaws.{same-used, same-header, same-long, same-visits, same-rise, zero-stays}
+use Rattle.protocol.proofs.FrameLaws.{same-form, same-used, same-header, same-long, same-visits, same-rise, zero-stays}
 use Rattle.protocol.proofs.QuestionLaws.{answered-used, WriteYes, SendYes, CheckYes}
 use Rattle.protocol.proofs.DoneLaws.{row-length, file-is, file-low, Leaves, write-used, patch-fits, writeTable, write-leaves, write-taken, write-marked, sendTable, send-leaves, send-target, checkTable, check-version, check-leaves, check-taken, check-marked}
 
@@ -98,6 +98,7 @@ keep-formed : {t u : List ℕ} {s : ℕ → Bool} → Formed t → Leaves t u s
     → Formed u
 unfolding epochOf listOf
 keep-formed {t} {u} {s} w l facts agree shape = record {
+  newest = same-form (l .frame) ∙ w .newest;
   header = same-header (l .frame) ∙ w .header;
   long = same-long (l .frame) ∙ w .long;
   rows = rw (same-used (l .frame)) (λ i v. go i v (s i) refl);
@@ -172,7 +173,7 @@ module _ (t : List ℕ) (a : Writing) (y : WriteYes t a) where
       let long = length-put (contents (rowBytes t i)) (a .offset) (a .patch) (fits .inside) in
       let more : goodVersion (answers t (a .r)) (workSet Write t (a .c) (a .r)) + 1 ≡ suc (versionOf t i) = omega (arith, e) in
       rw (long, more) (added-right (length (contents (rowBytes t i))) (versionOf t i) (omega (arith, file-is t ww i u, file-low t ww)) (windowOf (rowBytes t i))
-      (window-whole (rowBytes t i) (omega (arith, row-length t ww i u, row-room t))) (ww .rows i u .kept) (record { offset = a .offset; bytes = a .patch }) fits .1)
+      (window-whole (rowBytes t i) (omega (arith, row-length t ww i u, row-room t (ww .newest)))) (ww .rows i u .kept) (record { offset = a .offset; bytes = a .patch }) fits .1)
 
   write-facts : (i : ℕ) → Within (usedOf t) i → workSet Write t (a .c) (a .r) i ≡ true → RowFacts (usedOf t) i (rowBytes (writeTable t a y) i)
   unfolding changed fieldsOf fieldAt staleOf versionOf isEmpty list
@@ -236,7 +237,7 @@ module _ (t : List ℕ) (a : Sending) (y : SendYes t a) where
   sent-size : length (sentContents (rowBytes t (a .f)) (rowBytes t (a .t))) ≡ length (contents (rowBytes t (a .f)))
   unfolding sentContents
   sent-size = sent-long (length (contents (rowBytes t (a .f)))) (get version (rowBytes t (a .f))) (windowOf (rowBytes t (a .f)))
-      (window-whole (rowBytes t (a .f)) (omega (arith, row-length t sw (a .f) (y .from-used), row-room t))) (sw .rows (a .f) (y .from-used) .kept) _ (contents (rowBytes t (a .f))) (contents (rowBytes t (a .t))) refl
+      (window-whole (rowBytes t (a .f)) (omega (arith, row-length t sw (a .f) (y .from-used), row-room t (sw .newest)))) (sw .rows (a .f) (y .from-used) .kept) _ (contents (rowBytes t (a .f))) (contents (rowBytes t (a .t))) refl
       (file-is t sw (a .t) (y .to-used) ∙ sym (file-is t sw (a .f) (y .from-used)))
 
   send-facts : (i : ℕ) → Within (usedOf t) i → eqb (a .t) i ≡ true → RowFacts (usedOf t) i (rowBytes (sendTable t a y) i)

@@ -6,20 +6,21 @@ use Prim.Native.Nat.{ℕ, zero, suc, _+_, _^_, _≤_, _<_}
 use native.Mathlib.Omega.{arith}
 use lib.Dec.{eqb, leb, ltb, eqb·suc-zero}
 use lib.ListN.{length}
-use borrow.Author.Tests.{eqb-false, eq-eqb, ltb-true, leb-true, not-true}
+use borrow.Author.Tests.{eqb-true, eqb-false, eq-eqb, ltb-true, leb-true, not-true}
 use Rattle.sets.specs.Upto.{Within, some}
 use Rattle.sets.specs.Sets.{has}
 use Rattle.bools.proofs.BoolLaws.{and-l, and-r, clash}
 use Rattle.sets.proofs.UptoLaws.{some-of}
 use Rattle.sets.proofs.SetLaws.{has-within}
 use Rattle.quorums.specs.declared.Kind.the-variants.{Read, Write}
-use Rattle.fields.specs.Layout.{capacityOf, usedOf, nameOf, fileLengthOf, staleOf, versionOf, desiredOf}
+use Rattle.fields.specs.Layout.{formOf, capacityOf, usedOf, nameOf, fileLengthOf, staleOf, versionOf, desiredOf}
 use Rattle.table.specs.Chain.{orderOf}
-use Rattle.table.specs.WellFormed.{between, limit, onlyRows, wellFormed}
+use Rattle.table.specs.WellFormed.{between, limit, onlyRows, ownForm, wellFormed}
 use Rattle.table.proofs.FormLaws.{between-is}
 use Rattle.protocol.specs.Polls.{highestEpoch, inForce, goodVersion, current, quorumHeld}
 use Rattle.asking.specs.Asking.{Question, firstNo, before}
 use Rattle.asking.proofs.AskingLaws.{yes-first, no-first, before-other}
+use Rattle.protocol.specs.Moves.{goesOver, allPlain, carriedLength}
 use Rattle.protocol.specs.Calls
 
 -- ---- the first no
@@ -31,6 +32,7 @@ done-zero t (Calls.read a) = refl
 done-zero t (Calls.write a) = refl
 done-zero t (Calls.send a) = refl
 done-zero t (Calls.check a) = refl
+done-zero t (Calls.carry a) = refl
 
 done-called : (t : List ℕ) (k : Calls.Call) → Calls.done t k .called ≡ Calls.calledAfter t k
 unfolding Calls.done
@@ -40,6 +42,7 @@ done-called t (Calls.read a) = refl
 done-called t (Calls.write a) = refl
 done-called t (Calls.send a) = refl
 done-called t (Calls.check a) = refl
+done-called t (Calls.carry a) = refl
 
 module _ (t : List ℕ) (k : Calls.Call) where
   -- the refusal is the first no
@@ -244,3 +247,22 @@ check-yes t a h =
     let m = yes-first 6 (eqb (a .r) (inForce (Calls.answers t (a .r)) (has (a .r)) .members) || current (Calls.answers t (a .r)) (has (a .r))) _ (q .1) in
     let l = yes-first 7 (eqb (a .r) (inForce (Calls.answers t (a .r)) (has (a .r)) .members) || ltb (highestEpoch (Calls.answers t (a .r)) (has (a .r))) limit) _ (m .1) in
     record { first = x .0; quorum = q .0; current = m .0; room = l .0 }
+
+pub record CarryYes (t : List ℕ) (a : Calls.Carrying) : Type 0 where
+  pub own : ownForm t ≡ true
+  pub plain : a .form ≡ 1 → allPlain t ≡ true
+  pub over : goesOver (formOf t) (a .form) ≡ true
+  pub long : length (a .dest) ≡ carriedLength (a .form) t
+
+pub carry-yes : (t : List ℕ) (a : Calls.Carrying) → firstNo (Calls.questions t (Calls.carry a)) ≡ 0 → CarryYes t a
+unfolding Calls.questions
+carry-yes t a h =
+    let x = yes-first 0 (ownForm t) _ h in
+    let b = yes-first 14 (not (eqb (a .form) 1) || allPlain t) _ (x .1) in
+    let d = yes-first 11 (goesOver (formOf t) (a .form) && eqb (length (a .dest)) (carriedLength (a .form) t)) _ (b .1) in
+    record {
+      own = x .0;
+      plain = λ e. rw (eq-eqb (a .form) 1 e) at (b .0);
+      over = and-l _ _ (d .0);
+      long = eqb-true _ _ (and-r (goesOver (formOf t) (a .form)) _ (d .0));
+    }

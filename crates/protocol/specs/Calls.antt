@@ -10,13 +10,14 @@ use Rattle.quorums.specs.declared.Kind.{Kind}
 use Rattle.quorums.specs.declared.Kind.the-variants.{Read, Write}
 use Rattle.bytes.specs.Bytes.{bytesOf, part, zeros}
 use Rattle.fields.specs.declared.Laid.{Laid}
-use Rattle.fields.specs.Layout.{isTall, formValue, bodyLength, stride, capacityOf, usedOf, fileLengthOf, nameOf, staleOf, versionOf, desiredOf, contentsOf, rowBytes, withRow, withRows}
+use Rattle.fields.specs.Layout.{isTall, formValue, bodyLength, stride, capacityOf, usedOf, fileLengthOf, formOf, nameOf, staleOf, versionOf, desiredOf, contentsOf, rowBytes, withRow, withRows}
 use Rattle.table.specs.Chain.{orderOf}
-use Rattle.table.specs.WellFormed.{between, limit, onlyRows, wellFormed}
+use Rattle.table.specs.WellFormed.{between, limit, onlyRows, ownForm, wellFormed}
 use Rattle.asking.specs.Asking.{Question, firstNo, before, result}
 use Rattle.protocol.specs.Lists.{laidNow, listChoice}
 use Rattle.protocol.specs.Polls.{Poll, polled, highestEpoch, inForce, goodVersion, good, current, quorumHeld, stays, workedOn}
 use Rattle.protocol.specs.Rows.{refreshedRow, wroteRow, checkedRow}
+use Rattle.protocol.specs.Moves.{goesOver, allPlain, carried, carriedLength}
 use Rattle.joining.specs.Joining.{joined}
 
 -- ---- the arguments of each call: "Coordinator c, answering set R (bit i − 1 for row i); c, f and t are row indexes."
@@ -58,6 +59,12 @@ pub record Checking : Type 0 where
 pub record Joining : Type 0 where
   pub name : ℕ
 
+pub record Carrying : Type 0 where
+  -- the form to move to
+  pub form : ℕ
+  -- "The new table goes into a second lent buffer", with whatever bytes it holds
+  pub dest : List ℕ
+
 pub data Call : Type 0 where
   founding : Founding → Call
   join : Joining → Call
@@ -65,8 +72,9 @@ pub data Call : Type 0 where
   write : Writing → Call
   send : Sending → Call
   check : Checking → Call
+  carry : Carrying → Call
 
--- what a call leaves: refusal number (0: done), value, the table's bytes, the read buffer's bytes, and those lent for the size of the set called
+-- what a call leaves: refusal number (0: done), value, the table's bytes, the bytes of the read buffer or of a move's second one, and those lent for the size of the set called
 pub record Outcome : Type 0 where
   pub refusal : ℕ
   pub value : ℕ
@@ -74,7 +82,7 @@ pub record Outcome : Type 0 where
   pub buffer : List ℕ
   pub called : List ℕ
 
--- the read buffer that a call is lent
+-- the buffer that a call is lent besides the table
 unfoldable pub lent : Call → List ℕ
 lent (founding a) = []
 lent (join a) = []
@@ -82,6 +90,7 @@ lent (read a) = a .buffer
 lent (write a) = []
 lent (send a) = []
 lent (check a) = []
+lent (carry a) = a .dest
 
 -- "A result is one 64-bit number: refusal number times 2^32, plus value."
 unfoldable pub resultOf : Outcome → ℕ
@@ -192,6 +201,13 @@ questions t (check a) =
     ∷ record { ask = 7; yes = same || current p (has (a .r)) }
     ∷ record { ask = 8; yes = same || ltb (highestEpoch p (has (a .r))) limit }
     ∷ [])
+-- "question 1 judges a table by its own form .. after question 1, moving to form 1 gives 15 when ..; then a buffer of another length, or a pair of
+-- forms other than 1 or 2 with 3, is refused by 12."
+questions t (carry a) =
+    record { ask = 1; yes = ownForm t }
+    ∷ record { ask = 15; yes = not (eqb (a .form) 1) || allPlain t }
+    ∷ record { ask = 12; yes = goesOver (formOf t) (a .form) && eqb (length (a .dest)) (carriedLength (a .form) t) }
+    ∷ []
 
 -- ---- "the size of the set called": it goes into a lent byte, "by refused calls too"
 -- "the coordinator's own choice, or all used rows if it went on to R"
@@ -215,13 +231,14 @@ calledAfter t (read a) = noted (a .called) (fromSix (questions t (read a)) (call
 calledAfter t (write a) = noted (a .called) (fromSix (questions t (write a)) (calledBy Write t (a .c) (a .r)))
 calledAfter t (send a) = []
 calledAfter t (check a) = []
+calledAfter t (carry a) = []
 
 -- ---- what a done call leaves
 -- what a call on table t leaves that alters no more than the table, and notes the size of the set called: all else is as it was lent
 abbrev pub leaves : List ℕ → Call → ℕ → ℕ → List ℕ → Outcome
 leaves t k refusal value table = record { refusal = refusal; value = value; table = table; buffer = lent k; called = calledAfter t k }
 
--- the same with these bytes in the read buffer
+-- the same with these bytes in the buffer
 abbrev pub buffered : List ℕ → Outcome → Outcome
 buffered bytes o = record { refusal = o .refusal; value = o .value; table = o .table; buffer = bytes; called = o .called }
 
@@ -249,6 +266,8 @@ done t (check a) =
     let same = eqb (a .r) (inForce p (has (a .r)) .members) in
     leaves t (check a) 0 (cond same e (e + 1))
     (cond same t (withRows t (has (a .r)) (checkedRow (good p (has (a .r))) (goodVersion p (has (a .r))) (e + 1) (laidNow (isTall (inForce p (has (a .r)))) (a .r))) (usedOf t)))
+-- "the value is the rows used"
+done t (carry a) = buffered (carried (a .form) t) (leaves t (carry a) 0 (usedOf t) t)
 
 -- "A refusal has value 0 and alters no byte of the table, of a read's buffer .."; the size of the set called is noted by a refused call too
 unfoldable pub refused : List ℕ → Call → ℕ → Outcome

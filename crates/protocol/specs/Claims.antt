@@ -16,9 +16,9 @@ use Rattle.joining.specs.Claims.{OneMore}
 use Rattle.asking.specs.Asking.{Question}
 use Rattle.protocol.specs.Lists.{seats, listQuorum, listChoice}
 use Rattle.protocol.specs.Polls.{Poll, highestEpoch, inForce, quorumHeld, workedOn}
-use Rattle.protocol.specs.Calls.{Founding, Reading, Writing, Sending, Checking, Joining, Call, founding, join, read, write, send, check, Outcome, resultOf, questions, noted, lent, outcome}
+use Rattle.protocol.specs.Calls.{Founding, Reading, Writing, Sending, Checking, Joining, Call, founding, join, read, write, send, check, Carrying, carry, Outcome, resultOf, questions, noted, lent, outcome}
 
--- "In this order, each to the calls it names (2 and 3 to all but founding)" and joining: the numbers of the questions put to a call
+-- "In this order, each to the calls it names (2 and 3 to all but founding)", joining and a move: the numbers of the questions put to a call
 unfoldable pub numbersPut : Call → List ℕ
 numbersPut (founding a) = 11 ∷ 12 ∷ []
 numbersPut (join a) = 1 ∷ 13 ∷ 14 ∷ []
@@ -26,6 +26,7 @@ numbersPut (read a) = 1 ∷ 2 ∷ 3 ∷ 4 ∷ 5 ∷ 6 ∷ 7 ∷ []
 numbersPut (write a) = 1 ∷ 2 ∷ 3 ∷ 4 ∷ 5 ∷ 6 ∷ 7 ∷ 8 ∷ []
 numbersPut (send a) = 1 ∷ 2 ∷ 3 ∷ 9 ∷ 10 ∷ []
 numbersPut (check a) = 1 ∷ 2 ∷ 3 ∷ 6 ∷ 7 ∷ 8 ∷ []
+numbersPut (carry a) = 1 ∷ 15 ∷ 12 ∷ []
 
 unfoldable pub PutInOrder : Type 0
 PutInOrder = (t : List ℕ) (k : Call) → map (λ (q : Question). q .ask) (questions t k) ≡ numbersPut k
@@ -105,6 +106,7 @@ pub data NoCheck : Call → Type 0 where
   aRead : {a : Reading} → NoCheck (read a)
   aWrite : {a : Writing} → NoCheck (write a)
   aSend : {a : Sending} → NoCheck (send a)
+  aCarry : {a : Carrying} → NoCheck (carry a)
 
 unfoldable pub StaysWellFormed : Type 0
 StaysWellFormed = (t : List ℕ) (k : Call) → NoCheck k → wellFormed t ≡ true → wellFormed (outcome t k .table) ≡ true

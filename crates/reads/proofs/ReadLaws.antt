@@ -16,7 +16,7 @@ use Rattle.bytes.specs.Bytes.{part}
 use Rattle.fields.specs.Layout.{usedOf, nameOf, rowBytes, contents, contentsOf}
 use Rattle.fields.proofs.FieldLaws.{row-room}
 use Rattle.table.specs.Chain.{orderOf}
-use Rattle.table.proofs.WellFormedLaws.{sized, length-row}
+use Rattle.table.proofs.WellFormedLaws.{newest, sized, length-row}
 use Rattle.protocol.specs.Polls.{good, current, quorumHeld}
 use Rattle.asking.specs.Asking.{firstNo}
 use Rattle.protocol.specs.Calls.{Reading, Outcome, read, questions, answers, workSet, calledBy, noted, fromSix, calledAfter, done, outcome, resultOf}
@@ -97,7 +97,7 @@ module _ (t : List ℕ) (a : Reading) where
         pub range-in : 608 + a .offset + length (a .buffer) ≤ length (rowBytes t (lowest 64 (has (v .good .bits))))
         range-in =
             let y = read-yes t a (after-poll ∙ z) in
-            omega (arith, length-row (sized (y .first .formed)) (lowest 64 (has (v .good .bits))) source-used, row-room t, y .range, whole)
+            omega (arith, length-row (sized (y .first .formed)) (lowest 64 (has (v .good .bits))) source-used, row-room t (newest t (y .first .formed)), y .range, whole)
 
         pub read-done : (0 * 2 ^ 32 + v .version ≡ resultOf (outcome t (read a))) × (t ≡ outcome t (read a) .table)
             × (part (a .offset) (length (a .buffer)) (contents (rowBytes t (lowest 64 (has (v .good .bits))))) ≡ outcome t (read a) .buffer)

@@ -15,13 +15,13 @@ use Rattle.blocks.specs.Blocks.{block}
 use Rattle.blocks.proofs.BlockLaws.{Altered, blocks-changed, alike}
 use Rattle.bytes.specs.Bytes.{bytesOf, part, zeros}
 use Rattle.bytes.proofs.ByteLaws.{length-zeros, zeros-are}
-use Rattle.fields.specs.Layout.{get, capacity, link, epoch, list, isEmpty, isTall, bodyLength, stride, capacityOf, fileLengthOf, rowLength, rowsEnd, usedOf, nameOf, linkOf, listOf, rowBytes, withRows}
+use Rattle.fields.specs.Layout.{get, form, capacity, link, epoch, list, isEmpty, isTall, bodyLength, strideIn, stride, formOf, capacityOf, fileLengthOf, rowLength, rowsEnd, usedOf, nameOf, linkOf, listOf, rowBytes, withRows}
 use Rattle.table.specs.WellFormed.{lengthRight, unusedZero, wellFormed}
-use Rattle.fields.proofs.FieldLaws.{records-room}
+use Rattle.fields.proofs.FieldLaws.{row-newest, records-room}
 use Rattle.table.proofs.FormLaws.{RowFacts, OneList, OneShape, Formed, formed, well-formed-of, rows-room, header-facts}
 use Rattle.table.proofs.TableLaws.{Changed, behind, like-length, many-rows}
 use Rattle.joining.proofs.RowLaws.{new-name, new-link, new-list, new-facts}
-use Rattle.protocol.proofs.FrameLaws.{Frame, frame-of, same-used, same-header, same-long, same-visits, same-rise, zero-stays}
+use Rattle.protocol.proofs.FrameLaws.{same-form, Frame, frame-of, same-used, same-header, same-long, same-visits, same-rise, zero-stays}
 use Rattle.protocol.specs.Claims.{EqualIn}
 use Rattle.protocol.proofs.Unanswered.{header, get-same, used-same, file-same, unanswered-have-no-part}
 use Rattle.protocol.specs.Claims.{UnansweredHaveNoPart}
@@ -48,8 +48,8 @@ module _ (t : List ℕ) (r : ℕ) (e : wellFormed t ≡ true) where
   link-small i u = let h = header-facts t (w .header) in omega (arith, facts i u .linked, h .used, h .capacity)
 
   long : (i : ℕ) → length (blankRow body (rowBytes t i)) ≡ rowLength t
-  unfolding blankRow body rowLength stride bytesOf zeros
-  long i = simp length-zeros (omega arith)
+  unfolding blankRow body stride bytesOf zeros
+  long i = simp length-zeros (omega arith) ∙ sym (row-newest t (w .newest))
 
   -- the rows outside R are blank, and nothing else is altered
   change : Changed t (blanked r t) (usedOf t) out (λ i. blankRow body)
@@ -110,6 +110,7 @@ module _ (t : List ℕ) (r : ℕ) (e : wellFormed t ≡ true) where
 
   right : Formed (blanked r t)
   right = record {
+    newest = same-form frame ∙ w .newest;
     header = same-header frame ∙ w .header;
     long = same-long frame ∙ w .long;
     rows = rw (same-used frame) row-facts;
@@ -144,8 +145,8 @@ drop-more e b xs ys h q =
 
 module _ {r : ℕ} {t u : List ℕ} (E : EqualIn r t u) where
   widths : rowLength u ≡ rowLength t
-  unfolding rowLength
-  widths = ap stride (file-same E)
+  unfolding rowLength formOf form
+  widths = ap₂ strideIn (get-same E form (omega arith)) (file-same E)
 
   lengths : length u ≡ length t
   unfolding lengthRight rowsEnd capacityOf capacity

@@ -14,7 +14,7 @@ use Rattle.fields.specs.Layout.{usedOf, rowLength, rowsEnd, rowBytes, withRows}
 use Rattle.table.specs.WellFormed.{wellFormed}
 use Rattle.table.proofs.FormLaws.{formed, well-formed-of, rows-room}
 use Rattle.table.proofs.TableLaws.{Like, like-length, like-end, Roomy, row-long}
-use Rattle.protocol.specs.Calls.{Call, founding, join, read, write, send, check, outcome}
+use Rattle.protocol.specs.Calls.{Call, founding, join, read, write, send, check, carry, outcome}
 use Rattle.protocol.specs.Claims.{Answering, byRead, byWrite, bySend, byCheck, OnlyRowsOf, AltersOnlyAnswered}
 use Rattle.protocol.proofs.QuestionLaws.{when-refused}
 use Rattle.protocol.proofs.Unanswered.{head-part}
@@ -86,6 +86,7 @@ module _ (t : List ℕ) (e : wellFormed t ≡ true) where
   relayed-same (write a) = by-same (write a) (a .r) byWrite
   relayed-same (send a) = by-same (send a) (a .r) bySend
   relayed-same (check a) = by-same (check a) (a .r) byCheck
+  relayed-same (carry a) = refl
 
 -- ---- a list of calls
 next-same : (t : List ℕ) (b : Book) (e : ℕ) → State t b e → (ks : List Call) (k : Call) → relayed (relayedAfter t ks) k ≡ outcome (tableAfter t ks) k

@@ -4,7 +4,7 @@ use mathlib.Core.List.{List, [], _∷_}
 use Prim.Native.Nat.{ℕ}
 use Rattle.sets.specs.Sets.{has}
 use Rattle.fields.specs.Layout.{usedOf, rowBytes, withRows}
-use Rattle.protocol.specs.Calls.{Call, founding, join, read, write, send, check, Outcome, outcome}
+use Rattle.protocol.specs.Calls.{Call, founding, join, read, write, send, check, carry, Outcome, outcome}
 use Rattle.history.specs.Book.{Book}
 use Rattle.history.specs.Claims.{tableAfter, Reached}
 use Rattle.relaying.specs.Relaying.{blanked}
@@ -17,7 +17,8 @@ shipped r u t = withRows t (has r) (λ i row. rowBytes u i) (usedOf t)
 unfoldable pub relayedBy : ℕ → List ℕ → Call → Outcome
 relayedBy r t k = let o = outcome (blanked r t) k in record { refusal = o .refusal; value = o .value; table = shipped r (o .table) t; buffer = o .buffer; called = o .called }
 
--- what a relay does of a call; founding and joining alter header, names and links, which every machine has: they are made on the whole table
+-- what a relay does of a call; founding and joining alter header, names and links, which every machine has: they are made on the whole table, and so
+-- is a move, which has no answering set
 unfoldable pub relayed : List ℕ → Call → Outcome
 relayed t (founding a) = outcome t (founding a)
 relayed t (join a) = outcome t (join a)
@@ -25,6 +26,7 @@ relayed t (read a) = relayedBy (a .r) t (read a)
 relayed t (write a) = relayedBy (a .r) t (write a)
 relayed t (send a) = relayedBy (a .r) t (send a)
 relayed t (check a) = relayedBy (a .r) t (check a)
+relayed t (carry a) = outcome t (carry a)
 
 -- the rows on their machines after a list of calls, each made by a relay; as one table
 unfoldable pub relayedAfter : List ℕ → List Call → List ℕ

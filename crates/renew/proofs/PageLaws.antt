@@ -9,7 +9,7 @@ use Rattle.sets.specs.Upto.{Within}
 use Rattle.bytes.specs.Bytes.{part, put}
 use Rattle.bytes.proofs.CodeLaws.{part-back, part-is, part-length}
 use Rattle.blocks.specs.Blocks.{block, withBlock}
-use Rattle.fields.specs.Layout.{usedOf, fileLengthOf, rowLength, rowsEnd, rowBytes, withRow}
+use Rattle.fields.specs.Layout.{formValue, formOf, usedOf, fileLengthOf, rowLength, rowsEnd, rowBytes, withRow}
 use Rattle.fields.proofs.FieldLaws.{row-room}
 use Rattle.table.specs.Contracts.{Sized}
 use Rattle.table.proofs.WellFormedLaws.{header, row-in, row-part, length-row}
@@ -29,8 +29,8 @@ module _ {t : List ℕ} (z : Sized t) (i : ℕ) (w : Within (usedOf t) i) (size 
   pub row-fits : at + size ≤ length t
   row-fits = omega (arith, e, q, row-in z i w)
 
-  pub size-small : (608 ≤ size) × (size ≤ 4_704)
-  size-small = omega (arith, e, row-room t, header (z .header) .file)
+  pub size-small : formOf t ≡ formValue → (608 ≤ size) × (size ≤ 4_704)
+  size-small new = omega (arith, e, row-room t new, header (z .header) .file)
 
   pub row-cut : take ((at + size) - at) (drop at t) ≡ rowBytes t i
   row-cut = part-is t at size (rowsEnd t (i - 1)) (rowLength t) q e ∙ sym (row-part z i w)

@@ -4,7 +4,7 @@ ghost use mathlib.Core.Logic.{_≢_};
 ghost use Prim.Native.Nat.{_-_, _≤_};
 ghost use lib.ListN.{length};
 ghost use Rattle.sets.specs.Upto.{Within};
-ghost use Rattle.fields.specs.Layout.{store, mark, version, desired, contents, storeContents, usedOf, rowBytes, withRow};
+ghost use Rattle.fields.specs.Layout.{store, formValue, mark, version, desired, contents, storeContents, formOf, usedOf, rowBytes, withRow};
 ghost use Rattle.window.specs.Windows.{windowOf, storeWindow, sent};
 ghost use Rattle.windows.specs.Visits.{RightFor};
 ghost use Rattle.table.specs.Contracts.{Sized};
@@ -73,7 +73,7 @@ fn new_page() -> [u8; 4704] {
 
 // Row `to` takes the contents, the version and the window of row `from`.
 pub fn refresh(t: &mut [u8], from: usize, to: usize)
-    requires { ⌜ Sized (now t) × Within (usedOf (now t)) from × Within (usedOf (now t)) to × (from ≢ to) × RightFor (length (rowBytes (now t) to) - 608) (windowOf (rowBytes (now t) from)) ⌝ }
+    requires { ⌜ Sized (now t) × Within (usedOf (now t)) from × Within (usedOf (now t)) to × (from ≢ to) × RightFor (length (rowBytes (now t) to) - 608) (windowOf (rowBytes (now t) from)) × (formOf (now t) ≡ formValue) ⌝ }
     ensures { λ r. ⌜ now (t .exit) ≡ withRow (now (t .entry)) to (refreshedRow (rowBytes (now (t .entry)) from)) ⌝ }
 {
     let size = table::row_length(t);

@@ -48,5 +48,5 @@ module _ (t : List ℕ) (a : Sending) where
 pub sender-right : (t : List ℕ) (a : Sending) → SendYes t a → RightFor (length (rowBytes t (a .t)) - 608) (windowOf (rowBytes t (a .f)))
 sender-right t a y =
     let w = formed t (y .formed) in
-    let n : length (contents (rowBytes t (a .f))) ≡ length (rowBytes t (a .t)) - 608 = omega (arith, file-is t w (a .f) (y .from-used), row-length t w (a .t) (y .to-used), row-room t) in
+    let n : length (contents (rowBytes t (a .f))) ≡ length (rowBytes t (a .t)) - 608 = omega (arith, file-is t w (a .f) (y .from-used), row-length t w (a .t) (y .to-used), row-room t (w .newest)) in
     record { version = get version (rowBytes t (a .f)); right = subst (λ (k : ℕ). windowRight k (get version (rowBytes t (a .f))) (windowOf (rowBytes t (a .f))) ≡ true) n (w .rows (a .f) (y .from-used) .kept) }

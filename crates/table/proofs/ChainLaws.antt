@@ -21,10 +21,10 @@ use Rattle.fields.specs.Layout.{usedOf, firstOf, linkOf, nameOf}
 use Rattle.linking.specs.Linking.{chain}
 use Rattle.linking.proofs.PathLaws.{chain-zero, chain-suc}
 use Rattle.table.specs.Chain.{orderOf}
-use Rattle.table.specs.WellFormed.{visitsEach, namesRise, wellFormed}
+use Rattle.table.specs.WellFormed.{visitsEach, namesRise, ownForm, wellFormed}
 use Rattle.table.specs.Contracts.{Linked, Listed, Ordered}
 use Rattle.sets.proofs.TestLaws.{eqb-swap}
-use Rattle.table.proofs.WellFormedLaws.{header, few-rows, link-in}
+use Rattle.table.proofs.WellFormedLaws.{own-form, header, few-rows, link-in}
 
 -- ---- the order of a well-formed table
 -- a shorter walk is the start of a longer one
@@ -36,8 +36,8 @@ chain-start next (suc n) (suc k) = ap (λ (xs : List ℕ). suc k ∷ xs) (chain-
 
 module _ (t : List ℕ) (e : wellFormed t ≡ true) where
   visits : visitsEach t ≡ true
-  unfolding wellFormed
-  visits = search (and-l, and-r)
+  unfolding ownForm
+  visits = let own = own-form t e in search (and-l, and-r)
 
   -- it is the whole chain
   pub order-path : orderOf t ≡ chain (linkOf t) (suc (usedOf t)) (firstOf t)
@@ -55,8 +55,8 @@ module _ (t : List ℕ) (e : wellFormed t ≡ true) where
   order-each i w = rw order-path (every-at (usedOf t) _ (and-r (eqb (length (chain (linkOf t) (suc (usedOf t)) (firstOf t))) (usedOf t)) _ visits) i w)
 
   pub order-rises : risesFrom 0 (nameOf t) (orderOf t) ≡ true
-  unfolding wellFormed namesRise
-  order-rises = let n : namesRise t ≡ true = search (and-l, and-r) in rw order-path n
+  unfolding ownForm namesRise
+  order-rises = let own = own-form t e in let n : namesRise t ≡ true = search (and-l, and-r) in rw order-path n
 
 -- ---- rows in an array
 pub listed-in : {n m count : ℕ} {rows : List ℕ} → n ≤ m → Listed n rows count → Listed m rows count

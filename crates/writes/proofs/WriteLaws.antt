@@ -85,7 +85,7 @@ module _ (t : List ℕ) (a : Writing) where
         all-yes = after-seven ∙ ap (λ (b : Bool). cond b 0 8) room
 
         pub patch-in : 608 + a .offset + length (a .patch) ≤ rowLength t
-        patch-in = omega (arith, row-room t, write-yes t a all-yes .range)
+        patch-in = let y = write-yes t a all-yes in omega (arith, row-room t (formed t (y .first .formed) .newest), y .range)
 
         -- the rows worked on answered, and are used
         pub works-used : (i : ℕ) → has (v .rows .bits) i ≡ true → Within (usedOf t) i

@@ -6,6 +6,7 @@ use native.Mathlib.Omega.{arith}
 use borrow.Author.Tests.{not-true, not-false}
 use lib.Dec.{leb}
 use Rattle.bools.proofs.BoolLaws.{and-l, and-r}
+use Rattle.fields.specs.Layout.{formValue, bodyLength, strideIn, stride}
 use Rattle.fields.proofs.FieldLaws.{widest, rows-small}
 use Rattle.table.specs.WellFormed.{between}
 use Rattle.table.proofs.FormLaws.{between-is}
@@ -26,7 +27,8 @@ small c =
     )
 
 product : (c : tie.After-row-size) → c .before .before .before .before .before .before .args .capacity * c .row-size .result ≤ 64 * widest
-product c = rw (c .row-size .ensures) (rows-small (small (c .before) .0) (small (c .before) .1))
+unfolding stride strideIn bodyLength
+product c = rw (c .row-size .ensures) (rows-small formValue (small (c .before) .0) (small (c .before) .1))
 
 between-requires : tie.Need-between-requires
 between-requires c κs = search needs

@@ -1,5 +1,5 @@
 use borrow.Author.Needs.{needs}
-use Rattle.fields.specs.Layout.{get, form}
+use Rattle.fields.specs.Layout.{get, formOf, form}
 use Rattle.header.proofs.form.Statement.{statement}
 use Rattle.header.proofs.form.Tie as tie
 
@@ -7,7 +7,7 @@ u8-at-requires : tie.Need-u8-at-requires
 u8-at-requires c κs = search needs
 
 returns : tie.Need-returns
-unfolding get form
+unfolding get formOf form
 returns c = c .u8-at .ensures
 
 pub form-spec : {M : Type 1} → statement M

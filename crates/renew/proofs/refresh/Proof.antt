@@ -28,7 +28,7 @@ source-fits c =
 small : (c : tie.After-rows-end2) → (608 ≤ c .before .before .before .before .row-length .result) × (c .before .before .before .before .row-length .result ≤ 4_704)
 small c =
     let s = c .before .before .before .before .before .before .before in
-    size-small (s .pre .0) (s .args .to) (s .pre .2) _ _ (c .before .before .before .before .row-length .ensures) (c .rows-end2 .ensures)
+    size-small (s .pre .0) (s .args .to) (s .pre .2) _ _ (c .before .before .before .before .row-length .ensures) (c .rows-end2 .ensures) (s .pre .5)
 
 row-length-requires : tie.Need-row-length-requires
 row-length-requires c κs = let p = c .before .before .pre in (long (p .0), p .0 .header)

@@ -7,6 +7,7 @@ use Rattle.asking.specs.Asking.{firstNo}
 use Rattle.protocol.specs.Calls.{Sending, send, questions}
 use Rattle.protocol.proofs.QuestionLaws.{SendYes, send-yes}
 use Rattle.questions.proofs.QuestionLaws.{refused-is}
+use Rattle.table.proofs.FormLaws.{formed}
 use Rattle.sends.proofs.SendLaws.{sender-right, send-done}
 use Rattle.sends.proofs.send.Statement.{statement}
 use Rattle.sends.proofs.send.Tie as tie
@@ -43,7 +44,7 @@ version-requires : tie.Need-version-requires
 version-requires c κs = search needs
 
 refresh-requires : tie.Need-refresh-requires
-refresh-requires c κs = let y = yes (c .before .before .before .before) in (sized (y .formed), y .from-used, y .to-used, y .apart, sender-right _ _ y)
+refresh-requires c κs = let y = yes (c .before .before .before .before) in (sized (y .formed), y .from-used, y .to-used, y .apart, sender-right _ _ y, formed _ (y .formed) .newest)
 
 result-requires-2 : tie.Need-result-requires-2
 result-requires-2 c κs = search needs

@@ -9,7 +9,6 @@ use Rattle.bytes.proofs.CodeLaws.{tail-is}
 use Rattle.fields.specs.Layout.{get, version, oldest, contents, records}
 use Rattle.window.specs.Windows.{windowRight, windowOf}
 use Rattle.windows.specs.Visits.{window}
-use Rattle.table.specs.WellFormed.{keptRight}
 use borrow.Author.Needs.{needs}
 use Rattle.values.proofs.kept_right.Statement.{statement}
 use Rattle.values.proofs.kept_right.Tie as tie
@@ -49,8 +48,8 @@ window-right-requires c κs =
 
 -- the test of a window by its parts is that of the row's window
 of-parts : (row cut : List ℕ) (file v o : ℕ) → 608 ≤ length row → file ≡ length row - 576 - 32 → v ≡ get version row → o ≡ get oldest row → cut ≡ drop (length row - 576) row
-    → windowRight file v (window o cut) ≡ keptRight row
-unfolding keptRight window windowOf records contents
+    → windowRight file v (window o cut) ≡ windowRight (length (contents row)) (get version row) (windowOf row)
+unfolding window windowOf records contents
 of-parts row cut file v o long e p q r =
     let n : length (part 32 (length row - 608) row) ≡ length row - 608 = length-part 32 (length row - 608) row (omega arith) in
     let m : file ≡ length (part 32 (length row - 608) row) = omega (arith, e, n) in

@@ -1,76 +1,38 @@
-use mathlib.Core.Bool.{true, _&&_}
-use mathlib.Core.Path.{_≡_, sym, _∙_}
+use mathlib.Core.Bool.{true, false, and-true, and-false}
+use mathlib.Core.Path.{_≡_, sym, _∙_, ap}
+use mathlib.Core.List.{List}
+use Prim.Native.Nat.{ℕ}
+use lib.Dec.{eqb}
 use borrow.Author.Tests.{not-true, not-false}
 use borrow.Author.Needs.{needs}
-use Rattle.bools.proofs.BoolLaws.{and-l, and-r, clash}
-use Rattle.table.proofs.WellFormedLaws.{by-size, by-rows, by-chain, by-lists, by-unused}
-use Rattle.table.specs.Contracts.{Sized, Linked}
-use Rattle.table.specs.WellFormed.{headerValues, lengthRight, visitsEach, namesRise}
+use Rattle.bools.proofs.BoolLaws.{clash}
+use Rattle.fields.specs.Layout.{formValue, formOf}
+use Rattle.table.specs.WellFormed.{ownForm, wellFormed}
+use Rattle.table.proofs.WellFormedLaws.{own-sized, long}
 use Rattle.wellformed.proofs.ordered.Statement.{statement}
 use Rattle.wellformed.proofs.ordered.Tie as tie
 
--- what each stage has shown
-sized-here : (c : tie.Else1) → Sized (c .before .before .before .args .t .now)
-sized-here c =
-    let t = c .before .before .before .args .t .now in
-    let e : (headerValues t && lengthRight t) ≡ true = sym (c .before .sized .ensures) ∙ not-false _ (c .if1 .left) in
-    record { header = and-l (headerValues t) (lengthRight t) e; bytes = and-r (headerValues t) (lengthRight t) e }
+chained-requires : tie.Need-chained-requires
+chained-requires c κs = search needs
 
-linked-here : (c : tie.Else2) → Linked (c .before .before .before .before .before .args .t .now)
-linked-here c = record { sized = sized-here (c .before .before); rows = sym (c .before .rows-right .ensures) ∙ not-false _ (c .if2 .left) }
+by-own : (t : List ℕ) → ownForm t ≡ false → false ≡ wellFormed t
+unfolding wellFormed
+by-own t e = sym (rw e (and-false (eqb (formOf t) formValue)))
 
-chained : (c : tie.Else3) → let t = c .before .before .before .before .before .before .before .before .args .t .now in
-    (visitsEach t && namesRise t) ≡ true
-chained c = sym (c .before .follow .ensures .0) ∙ not-false _ (c .if3 .left)
-
-sized-requires : tie.Need-sized-requires
-sized-requires c κs = search needs
+by-form : (t : List ℕ) (f : ℕ) → ownForm t ≡ true → f ≡ formOf t → eqb f 3 ≡ wellFormed t
+unfolding wellFormed formValue
+by-form t f e q = ap (λ (n : ℕ). eqb n 3) q ∙ sym (rw e (and-true (eqb (formOf t) 3)))
 
 returns : tie.Need-returns
-returns c = (by-size _ (sym (c .before .sized .ensures) ∙ not-true _ (c .if1 .taken)), λ e. absurd (clash e))
+returns c = (by-own _ (sym (c .before .chained .ensures .0) ∙ not-true _ (c .if1 .taken)), λ e. absurd (clash e))
 
-rows-right-requires : tie.Need-rows-right-requires
-rows-right-requires c κs = sized-here c
+form-requires : tie.Need-form-requires
+form-requires c κs = long (own-sized (sym (c .before .chained .ensures .0) ∙ not-false _ (c .if1 .left)))
 
 returns-2 : tie.Need-returns-2
-returns-2 c = (by-rows _ (sized-here (c .before .before)) (sym (c .before .rows-right .ensures) ∙ not-true _ (c .if2 .taken)), λ e. absurd (clash e))
-
-follow-requires : tie.Need-follow-requires
-follow-requires c κs = linked-here (c .before)
-
-returns-3 : tie.Need-returns-3
-returns-3 c = (by-chain _ (linked-here (c .before .before .before)) (sym (c .before .follow .ensures .0) ∙ not-true _ (c .if3 .taken)), λ e. absurd (clash e))
-
-lists-right-requires : tie.Need-lists-right-requires
-lists-right-requires c κs = linked-here (c .before .before .before) .sized
-
-returns-4 : tie.Need-returns-4
-returns-4 c =
-    let e = c .before .before in
-    (by-lists _ (linked-here (e .before .before .before)) (chained e) (sym (c .before .lists-right .ensures) ∙ not-true _ (c .if4 .taken)), λ e. absurd (clash e))
-
-unused-zero-requires : tie.Need-unused-zero-requires
-unused-zero-requires c κs = linked-here (c .before .before .before .before .before) .sized
-
-returns-5 : tie.Need-returns-5
-returns-5 c =
-    let a = c .before in
-    let e = a .before .before in (
-      c .unused-zero .ensures ∙ by-unused _ (linked-here (e .before .before .before)) (chained e) (sym (a .before .lists-right .ensures) ∙ not-false _ (a .if4 .left)),
-      λ _. e .before .follow .ensures .1 (not-false _ (e .if3 .left)),
-    )
+returns-2 c =
+    let k = c .before .before in
+    (by-form _ _ (sym (k .chained .ensures .0) ∙ not-false _ (c .before .if1 .left)) (c .form .ensures), λ _. k .chained .ensures .1 (not-false _ (c .before .if1 .left)))
 
 pub ordered-spec : {M : Type 1} → statement M
-ordered-spec =
-    tie.close
-    (tie.spec
-    sized-requires
-    returns
-    rows-right-requires
-    returns-2
-    follow-requires
-    returns-3
-    lists-right-requires
-    returns-4
-    unused-zero-requires
-    returns-5)
+ordered-spec = tie.close (tie.spec chained-requires returns form-requires returns-2)

@@ -1,0 +1,147 @@
+-- The claims of specs/Claims.antt, proved.
+use mathlib.Core.Path.{_≡_, refl, sym, _∙_, ap, ap₂, subst, fun-ext}
+use mathlib.Core.Bool.{Bool, true, false, not, cond, _&&_, _||_}
+use mathlib.Core.Logic.{_⊎_, ⊎-elim, inl, inr}
+use mathlib.Core.List.{List, [], _∷_, _++_, append-assoc}
+use Prim.Native.Nat.{ℕ, zero, suc, _+_, _-_, _*_, _%_, _≤_, _<_}
+use native.Mathlib.Nat.{mul-le-mul-right}
+use native.Mathlib.Decide.{decLe}
+use native.Mathlib.Omega.{arith}
+use lib.Dec.{eqb, leb}
+use lib.ListN.{length, take, drop, length-drop}
+use lib.Seq.{drop-drop, take-take}
+use borrow.Author.Tests.{eqb-true, eq-eqb, le-leb, lt-leb}
+use Rattle.sets.specs.Upto.{Within, every, some}
+use Rattle.bools.proofs.BoolLaws.{and-l, and-r, and-i, clash}
+use Rattle.sets.proofs.UptoLaws.{every-at, every-of}
+use Rattle.bytes.specs.Bytes.{number, bytesOf, part, zeros, allZero}
+use Rattle.bytes.proofs.ByteLaws.{length-part, length-zeros, part-part, zeros-are, zeros-zero, first-zeros, zero-drop, bytes-number}
+use Rattle.blocks.specs.Blocks.{block}
+use Rattle.fields.specs.Layout.{get, form, formValue, name, link, mark, spare, reserved, strideIn, formOf, capacityOf, usedOf, firstOf, fileLengthOf, rowLength, rowsEnd, rowBytes, withRows}
+use Rattle.fields.proofs.FieldLaws.{row-late}
+use Rattle.window.specs.Windows.{emptied, storeWindow}
+use Rattle.window.proofs.AddLaws.{emptied-whole}
+use Rattle.window.proofs.RowLaws.{length-window}
+use Rattle.table.specs.Contracts.{Sized}
+use Rattle.table.specs.WellFormed.{between, ownForm, headerValues, lengthRight, rowValues, rowRight, visitsEach, namesRise, unusedZero, listsAgree, tallRight}
+use Rattle.table.proofs.TableLaws.{Changed, many-rows, like-end}
+use Rattle.table.proofs.WellFormedLaws.{own-sized, own-linked, row-right, header, long, length-is, rows-in}
+use Rattle.protocol.specs.Moves.{carriedRow, carriedRows, carried, carriedLength}
+use Rattle.carrying.specs.Claims.{UpDown, DownUp}
+use Rattle.carrying.proofs.RowLaws.{early-row, late-row}
+use Rattle.carrying.proofs.CarryLaws.{room, wide, twice, carried-to}
+
+-- ---- an unused row is zero
+pub unused-row : {t : List ℕ} (s : Sized t) → unusedZero t ≡ true → (i : ℕ) → Within (capacityOf t) i → usedOf t < i → rowBytes t i ≡ zeros (rowLength t)
+unfolding unusedZero rowBytes block part rowsEnd
+unused-row s z zero w h = absurd (omega arith)
+unused-row {t} s z (suc k) w h =
+    let d : 16 + usedOf t * rowLength t + (k - usedOf t) * rowLength t ≡ 16 + k * rowLength t =
+    let e : usedOf t + (k - usedOf t) ≡ k = omega arith in omega (arith, ap (λ (n : ℕ). n * rowLength t) e) in
+    let rest : drop ((k - usedOf t) * rowLength t) (drop (16 + usedOf t * rowLength t) t) ≡ drop (16 + k * rowLength t) t =
+    drop-drop ((k - usedOf t) * rowLength t) (16 + usedOf t * rowLength t) t ∙ ap (λ (n : ℕ). drop n t) d in
+    let y : allZero (drop (16 + k * rowLength t) t) ≡ true = subst (λ (l : List ℕ). allZero l ≡ true) rest (zero-drop ((k - usedOf t) * rowLength t) (drop (16 + usedOf t * rowLength t) t) z) in
+    let r = rows-in s (suc k) (omega arith) in
+    let long-enough : rowLength t ≤ length (drop (16 + k * rowLength t) t) = omega (arith, r, length-drop (16 + k * rowLength t) t) in
+    ap (take (rowLength t)) (zeros-are (drop (16 + k * rowLength t) t) y) ∙ first-zeros (rowLength t) (length (drop (16 + k * rowLength t) t)) long-enough
+
+-- ---- before form 3 no row has an oldest record
+pub zero-part : (a n b m : ℕ) (row : List ℕ) → a + n ≤ length row → b + m ≤ n → allZero (part a n row) ≡ true → part (a + b) m row ≡ part b m (zeros n)
+zero-part a n b m row h q z = sym (part-part a n b m row q) ∙ ap (part b m) (zeros-are (part a n row) z ∙ ap zeros (length-part a n row h))
+
+pub one-or-two : (f : ℕ) → Within 2 f → (f ≡ 1) ⊎ (f ≡ 2)
+one-or-two f w = go (decLe f 1)
+  where
+    go : Dec (f ≤ 1) → (f ≡ 1) ⊎ (f ≡ 2)
+    go (yes h) = inl (omega arith)
+    go (no h) = inr (omega arith)
+
+spare-one : (row : List ℕ) → 32 ≤ length row → allZero (spare 1 row) ≡ true → part 25 1 row ≡ zeros 1
+unfolding spare part zeros
+spare-one row h z = zero-part 24 8 1 1 row (omega arith) (omega arith) z
+
+spare-two : (row : List ℕ) → 32 ≤ length row → allZero (spare 2 row) ≡ true → part 25 1 row ≡ zeros 1
+unfolding spare part zeros
+spare-two row h z = zero-part 25 7 0 1 row (omega arith) (omega arith) z
+
+spare-old : (f : ℕ) (row : List ℕ) → Within 2 f → 32 ≤ length row → allZero (spare f row) ≡ true → part 25 1 row ≡ zeros 1
+spare-old f row w h z = ⊎-elim
+    (λ e. spare-one row h (subst (λ (g : ℕ). allZero (spare g row) ≡ true) e z))
+    (λ e. spare-two row h (subst (λ (g : ℕ). allZero (spare g row) ≡ true) e z))
+    (one-or-two f w)
+
+-- what is asked of a row's spare bytes
+pub row-spare : (f n i : ℕ) (row : List ℕ) → rowRight f n i row ≡ true → allZero (spare f row) ≡ true
+unfolding rowRight rowValues
+row-spare f n i row e = let v : rowValues f n row ≡ true = and-l _ _ e in and-r (between 1 (get name row) 65_535 && leb (get link row) n && leb (get mark row) 1) _ v
+
+pub byte-of : (row : List ℕ) → allZero row ≡ true → 32 ≤ length row → part 25 1 row ≡ zeros 1
+unfolding part
+byte-of row z h =
+    let y = zeros-are (drop 25 row) (zero-drop 25 row z) in
+    ap (take 1) y ∙ first-zeros 1 (length (drop 25 row)) (omega (arith, length-drop 25 row))
+
+zero-byte : (row : List ℕ) (n : ℕ) → row ≡ zeros n → 32 ≤ n → part 25 1 row ≡ zeros 1
+zero-byte row n e h =
+    let z : allZero row ≡ true = ap allZero e ∙ zeros-zero n in
+    let l : length row ≡ n = ap length e ∙ length-zeros n in
+    byte-of row z (omega arith)
+
+module _ (t : List ℕ) (e : ownForm t ≡ true) where
+  s : Sized t
+  s = own-sized e
+
+  pub own-zero : unusedZero t ≡ true
+  unfolding ownForm
+  own-zero = search (and-l, and-r)
+
+  row-none : Within 2 (formOf t) → (i : ℕ) → Within (capacityOf t) i → part 25 1 (rowBytes t i) ≡ zeros 1
+  row-none w i v = go (decLe i (usedOf t))
+    where
+      go : Dec (i ≤ usedOf t) → part 25 1 (rowBytes t i) ≡ zeros 1
+      go (yes h) = spare-old (formOf t) (rowBytes t i) w (omega (arith, wide s i v)) (row-spare (formOf t) (usedOf t) i (rowBytes t i) (row-right (own-linked e) i (omega arith)))
+      go (no h) = zero-byte (rowBytes t i) (rowLength t) (unused-row s own-zero i v (omega arith)) (omega (arith, room s i v, wide s i v))
+
+-- a byte that is small is the bytes of its number
+byte-back : (xs : List ℕ) (v : ℕ) → length xs ≡ 1 → number xs ≡ v → v < 256 → xs ≡ bytesOf 1 v
+unfolding number bytesOf
+byte-back [] v l e h = absurd (omega arith)
+byte-back (x ∷ []) v l e h = let q : x ≡ v % 256 = omega arith in ap (λ (y : ℕ). y ∷ []) q
+byte-back (x ∷ y ∷ zs) v l e h = absurd (omega arith)
+
+small-form : (t : List ℕ) → Sized t → number (part 0 1 t) < 256
+unfolding formOf get form formValue
+small-form t s = let h = header (s .header) .form in omega (arith, h)
+
+form-byte : {t : List ℕ} → Sized t → part 0 1 t ≡ bytesOf 1 (formOf t)
+unfolding formOf get form
+form-byte {t} s = byte-back (part 0 1 t) (number (part 0 1 t)) (length-part 0 1 t (omega (arith, long s))) refl (small-form t s)
+
+row-size : (t : List ℕ) (s : Sized t) (i : ℕ) → Within (capacityOf t) i → length (rowBytes t i) ≡ strideIn (formOf t) (fileLengthOf t)
+unfolding rowLength
+row-size t s i v = room s i v
+
+row-size-late : (t : List ℕ) (s : Sized t) → formOf t ≡ 3 → (i : ℕ) → Within (capacityOf t) i → length (rowBytes t i) ≡ 608 + fileLengthOf t
+row-size-late t s f i v = room s i v ∙ row-late t (omega arith)
+
+emptied-rows : (t : List ℕ) (s : Sized t) → formOf t ≡ 3 → Changed t (withRows t (λ i. true) (λ i. storeWindow emptied) (capacityOf t)) (capacityOf t) (λ i. true) (λ i. storeWindow emptied)
+unfolding emptied
+emptied-rows t s f = many-rows t (λ i. true) (λ i. storeWindow emptied) (capacityOf t) (rows-in s (capacityOf t) (omega arith))
+    (λ i v m. length-window emptied (rowBytes t i) emptied-whole (omega arith) (omega (arith, row-size-late t s f i v)) ∙ room s i v)
+
+pub up-down : UpDown
+unfolding UpDown
+up-down t e w =
+    let s = own-sized e in
+    twice s 3 (omega arith) (formOf t)
+    ∙ carried-to s t (formOf t) (form-byte s) refl (length-is s)
+    (λ i v. early-row (formOf t) (fileLengthOf t) (rowBytes t i) (omega arith) (row-size t s i v) (row-none t e w i v))
+
+pub down-up : DownUp
+unfolding DownUp
+down-up t to e f w =
+    let s = own-sized e in
+    let c = emptied-rows t s f in
+    twice s to (omega arith) 3
+    ∙ carried-to s _ 3 (c .like .header 0 1 (omega arith) ∙ form-byte s ∙ ap (bytesOf 1) f) (c .like .header 1 15 (omega arith)) (c .like .long ∙ length-is s ∙ sym (like-end (c .like) (capacityOf t)))
+    (λ i v. late-row (fileLengthOf t) (rowBytes t i) (row-size-late t s f i v) ∙ sym (c .rows i v))

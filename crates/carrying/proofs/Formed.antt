@@ -1,0 +1,369 @@
+-- A table carried over is right by its own form.
+use mathlib.Core.Path.{_≡_, refl, sym, _∙_, ap, ap₂, subst, fun-ext}
+use mathlib.Core.Bool.{Bool, true, false, not, cond, _&&_, _||_}
+use mathlib.Core.Logic.{_⊎_, ⊎-elim, inl, inr}
+use mathlib.Core.List.{List, [], _∷_, _++_, append-nil, append-assoc}
+use Prim.Native.Nat.{ℕ, zero, suc, _+_, _-_, _*_, _≤_, _<_}
+use native.Mathlib.Nat.{mul-le-mul-right}
+use native.Mathlib.Decide.{decLe}
+use native.Mathlib.Omega.{arith}
+use lib.Dec.{eqb, leb, ltb}
+use lib.ListN.{length, take, drop, length-append, length-drop}
+use lib.Seq.{drop-at, take-nil, take-all}
+use borrow.Author.Tests.{eqb-true, eq-eqb, le-leb, lt-leb}
+use Rattle.sets.specs.Upto.{Within, every, some, count, among, risesFrom}
+use Rattle.sets.specs.Sets.{has}
+use Rattle.linking.specs.Linking.{chain}
+use Rattle.bools.proofs.BoolLaws.{and-l, and-r, and-i, clash}
+use Rattle.sets.proofs.UptoLaws.{every-at, every-of}
+use Rattle.bytes.specs.Bytes.{number, bytesOf, part, zeros, allZero}
+use Rattle.bytes.proofs.ByteLaws.{length-part, length-zeros, zeros-are, zeros-zero, first-zeros, split-zeros}
+use Rattle.bytes.proofs.CodeLaws.{zero-number, zero-numbers}
+use Rattle.blocks.specs.Blocks.{block}
+use Rattle.fields.specs.declared.Laid.{Laid}
+use Rattle.fields.specs.Layout.{Field, get, store, formValue, name, link, mark, version, desired, epoch, members, gridMark, oldest, list, isEmpty, isTall, spare, reserved, contents, records, bodyIn, strideIn, formOf, capacityOf, usedOf, firstOf, fileLengthOf, rowLength, rowsEnd, rowBytes, nameOf, linkOf, listOf}
+use Rattle.fields.proofs.FieldLaws.{Ends, list-is, body-in}
+use Rattle.window.specs.Windows.{Window, places, width, windowRight, windowOf, emptied}
+use Rattle.window.proofs.AddLaws.{emptied-right}
+use Rattle.table.specs.Contracts.{Sized}
+use Rattle.table.specs.WellFormed.{between, limit, onlyRows, ownForm, headerValues, lengthRight, rowValues, numbersSmall, desiredRight, listRight, gridRight, plain, plainRight, keptRight, rowRight, visitsEach, namesRise, unusedZero, listsAgree, tallRight}
+use Rattle.table.proofs.FormLaws.{between-is, is-between}
+use Rattle.table.proofs.WellFormedLaws.{own-sized, own-linked, row-right, header, length-is}
+use Rattle.protocol.specs.Moves.{goesOver, allPlain, carriedRow, carriedRows, carried, carriedLength}
+use Rattle.protocol.specs.Calls.{Carrying, Outcome, carry, done, outcome, questions}
+use Rattle.protocol.proofs.QuestionLaws.{refusal-is, when-done, CarryYes, carry-yes}
+use Rattle.carrying.specs.Claims.{CarriedFormed}
+use Rattle.carrying.proofs.RowLaws.{front-long, oldest-none, carried-row-long, carried-part, carried-byte, carried-get}
+use Rattle.carrying.proofs.CarryLaws.{room, wide, head, head-long, carried-is, rows-long, carried-size, carried-header, carried-form, carried-capacity, carried-used, carried-first, carried-file, carried-length, carried-row}
+use Rattle.carrying.proofs.Carried.{one-or-two, row-spare, unused-row, byte-of, zero-part, own-zero}
+
+-- ---- the pair of forms
+abbrev pub Over : ℕ → ℕ → Type 0
+Over f to = (Within 2 f × (to ≡ 3)) ⊎ ((f ≡ 3) × Within 2 to)
+
+pub over-is : (f to : ℕ) → goesOver f to ≡ true → Over f to
+unfolding goesOver
+over-is f to e = go (between 1 f 2 && eqb to 3) refl
+  where
+    go : (b : Bool) → (between 1 f 2 && eqb to 3) ≡ b → Over f to
+    go true q = inl (between-is 1 f 2 (and-l _ _ q), eqb-true to 3 (and-r (between 1 f 2) _ q))
+    go false q = let r : (eqb f 3 && between 1 to 2) ≡ true = rw q at e in inr (eqb-true f 3 (and-l _ _ r), between-is 1 to 2 (and-r (eqb f 3) _ r))
+
+-- ---- the spare bytes
+zero-25 : (xs : List ℕ) → part 25 1 xs ≡ zeros 1 → allZero (part 26 6 xs) ≡ true → allZero (part 25 7 xs) ≡ true
+zero-25 xs e z = sym (zero-numbers 25 1 6 xs) ∙ and-i _ _ (zero-number (part 25 1 xs) ∙ ap allZero e ∙ zeros-zero 1) (zero-number (part 26 6 xs) ∙ z)
+
+zero-24 : (xs : List ℕ) → eqb (get gridMark xs) 0 ≡ true → allZero (part 25 7 xs) ≡ true → allZero (part 24 8 xs) ≡ true
+unfolding get gridMark
+zero-24 xs e z = sym (zero-numbers 24 1 7 xs) ∙ and-i _ _ e (zero-number (part 25 7 xs) ∙ z)
+
+zero-six : allZero (part 2 6 (zeros 8)) ≡ true
+unfolding part zeros allZero
+zero-six = refl
+
+zero-six-1 : allZero (part 1 6 (zeros 7)) ≡ true
+unfolding part zeros allZero
+zero-six-1 = refl
+
+rest-three : (row : List ℕ) → allZero (spare 3 row) ≡ true → allZero (part 26 6 row) ≡ true
+unfolding spare reserved
+rest-three row z = z
+
+spare-three : (row : List ℕ) → allZero (part 26 6 row) ≡ true → allZero (spare 3 row) ≡ true
+unfolding spare reserved
+spare-three row z = z
+
+spare-2 : (row : List ℕ) → allZero (part 25 7 row) ≡ true → allZero (spare 2 row) ≡ true
+unfolding spare
+spare-2 row z = z
+
+spare-1 : (row : List ℕ) → allZero (part 24 8 row) ≡ true → allZero (spare 1 row) ≡ true
+unfolding spare
+spare-1 row z = z
+
+mark-zero : (row : List ℕ) → plain row ≡ true → eqb (get gridMark row) 0 ≡ true
+unfolding plain
+mark-zero row e = and-r (not (isEmpty (list row))) _ e
+
+oldest-new : (file : ℕ) (row : List ℕ) → 32 + file ≤ length row → get oldest (carriedRow 3 file row) ≡ 0
+unfolding get oldest number zeros
+oldest-new file row h = ap number (carried-byte 3 file row h)
+
+records-new : (file : ℕ) (row : List ℕ) → 32 + file ≤ length row → records (carriedRow 3 file row) ≡ zeros 576
+unfolding records carriedRow bodyIn strideIn
+records-new file row h =
+    let l : length (carriedRow 3 file row) ≡ 32 + (file + 576) = carried-row-long 3 file row h in
+    let n : length (carriedRow 3 file row) - 576 ≡ 32 + file = omega arith in
+    let m : file + 576 - file ≡ 576 = omega arith in
+    ap (λ (k : ℕ). drop k (carriedRow 3 file row)) n ∙ drop-at (store oldest 0 (part 0 (32 + file) row)) (zeros (file + 576 - file)) (32 + file) (front-long 3 file row h) ∙ ap zeros m
+
+-- a row carried to form 3 has an empty window
+window-new : (file : ℕ) (row : List ℕ) → 32 + file ≤ length row → windowOf (carriedRow 3 file row) ≡ emptied
+unfolding windowOf emptied places width
+window-new file row h = λ j. record { oldest = oldest-new file row h j; records = records-new file row h j }
+
+rest-one : (row : List ℕ) → 32 ≤ length row → allZero (spare 1 row) ≡ true → allZero (part 26 6 row) ≡ true
+unfolding spare
+rest-one row h z = ap allZero (zero-part 24 8 2 6 row (omega arith) (omega arith) z) ∙ zero-six
+
+rest-two : (row : List ℕ) → 32 ≤ length row → allZero (spare 2 row) ≡ true → allZero (part 26 6 row) ≡ true
+unfolding spare
+rest-two row h z = ap allZero (zero-part 25 7 1 6 row (omega arith) (omega arith) z) ∙ zero-six-1
+
+rest-zero : (f : ℕ) (row : List ℕ) → Within 3 f → 32 ≤ length row → allZero (spare f row) ≡ true → allZero (part 26 6 row) ≡ true
+rest-zero f row w h z = go (decLe f 2)
+  where
+    go : Dec (f ≤ 2) → allZero (part 26 6 row) ≡ true
+    go (yes q) = ⊎-elim
+        (λ e. rest-one row h (subst (λ (g : ℕ). allZero (spare g row) ≡ true) e z))
+        (λ e. rest-two row h (subst (λ (g : ℕ). allZero (spare g row) ≡ true) e z))
+        (one-or-two f (omega arith))
+    go (no q) = let e : f ≡ 3 = omega arith in rest-three row (subst (λ (g : ℕ). allZero (spare g row) ≡ true) e z)
+
+-- ---- one row
+module _ (f to n i file : ℕ) (row : List ℕ) (over : Over f to) (h : 32 + file ≤ length row) (plain-one : to ≡ 1 → plain row ≡ true) (e : rowRight f n i row ≡ true) where
+  abbrev new : List ℕ
+  new = carriedRow to file row
+
+  at : (g : Field) → Ends g 25 → get g (carriedRow to file row) ≡ get g row
+  at g q = carried-get to file row h g q
+
+  rest : allZero (part 26 6 (carriedRow to file row)) ≡ true
+  rest = ap allZero (carried-part to file row h 26 6 (inr (omega arith)) (omega arith))
+      ∙ rest-zero f row (⊎-elim (λ w. omega (arith, w .0)) (λ w. omega (arith, w .0)) over) (omega arith) (row-spare f n i row e)
+
+  plain-same : plain (carriedRow to file row) ≡ plain row
+  unfolding plain isEmpty list members gridMark
+  plain-same = rw (at members (omega arith), at gridMark (omega arith))
+
+  spare-new : allZero (spare to (carriedRow to file row)) ≡ true
+  spare-new = ⊎-elim (λ w. in-form 3 (w .1) (spare-three _ rest))
+      (λ w. ⊎-elim
+      (λ q. in-form 1 q (spare-1 _ (zero-24 _ (mark-zero _ (plain-same ∙ plain-one q)) (zero-25 _ (carried-byte to file row h) rest))))
+      (λ q. in-form 2 q (spare-2 _ (zero-25 _ (carried-byte to file row h) rest)))
+      (one-or-two to (w .1)))
+      over
+    where
+      in-form : (g : ℕ) → to ≡ g → allZero (spare g (carriedRow to file row)) ≡ true → allZero (spare to (carriedRow to file row)) ≡ true
+      in-form g q z = subst (λ (x : ℕ). allZero (spare x (carriedRow to file row)) ≡ true) (sym q) z
+
+  values-new : rowValues to n (carriedRow to file row) ≡ true
+  unfolding rowValues rowRight name link mark
+  values-new =
+      let v : rowValues f n row ≡ true = and-l _ _ e in
+      let v3 : (between 1 (get name row) 65_535 && leb (get link row) n && leb (get mark row) 1) ≡ true = and-l _ _ v in
+      and-i _ _ (ap₂ (λ (x y : ℕ). between 1 x 65_535 && leb y n && leb (get mark (carriedRow to file row)) 1) (at name (omega arith)) (at link (omega arith))
+      ∙ ap (λ (x : ℕ). between 1 (get name row) 65_535 && leb (get link row) n && leb x 1) (at mark (omega arith)) ∙ v3) spare-new
+
+  numbers-same : numbersSmall (carriedRow to file row) ≡ numbersSmall row
+  unfolding numbersSmall version desired epoch
+  numbers-same = rw (at version (omega arith), at desired (omega arith), at epoch (omega arith))
+
+  desired-same : desiredRight (carriedRow to file row) ≡ desiredRight row
+  unfolding desiredRight mark version desired
+  desired-same = rw (at mark (omega arith), at version (omega arith), at desired (omega arith))
+
+  list-same : listRight n i (carriedRow to file row) ≡ listRight n i row
+  unfolding listRight isEmpty list members
+  list-same = rw (at members (omega arith))
+
+  grid-same : gridRight (carriedRow to file row) ≡ gridRight row
+  unfolding gridRight members gridMark
+  grid-same = rw (at members (omega arith), at gridMark (omega arith))
+
+  plain-new : plainRight to (carriedRow to file row) ≡ true
+  unfolding plainRight
+  plain-new = go (decLe 2 to)
+    where
+      go : Dec (2 ≤ to) → (leb 2 to || plain (carriedRow to file row)) ≡ true
+      go (yes q) = rw (le-leb 2 to q)
+      go (no q) = let one : to ≡ 1 = ⊎-elim (λ w. omega (arith, w .1)) (λ w. omega (arith, w .1)) over in rw (lt-leb 2 to (omega arith)) (plain-same ∙ plain-one one)
+
+  kept-new : keptRight to (carriedRow to file row) ≡ true
+  unfolding keptRight
+  kept-new = go (decLe 3 to)
+    where
+      go : Dec (3 ≤ to) → (not (leb 3 to) || windowRight (length (contents (carriedRow to file row))) (get version (carriedRow to file row)) (windowOf (carriedRow to file row))) ≡ true
+      go (yes q) = let three : to ≡ 3 = ⊎-elim (λ w. w .1) (λ w. omega (arith, w .1)) over in
+          rw (le-leb 3 to q, subst (λ (x : ℕ). windowOf (carriedRow x file row) ≡ emptied) (sym three) (window-new file row h)) (emptied-right _ _)
+      go (no q) = rw (lt-leb 3 to (omega arith))
+
+  pub row-over : rowRight to n i (carriedRow to file row) ≡ true
+  unfolding rowRight
+  row-over =
+      let e1 = and-r (rowValues f n row) _ e in
+      let e2 = and-r (numbersSmall row) _ e1 in
+      let e3 = and-r (desiredRight row) _ e2 in
+      let e4 = and-r (listRight n i row) _ e3 in
+      and-i _ _ values-new (and-i _ _ (numbers-same ∙ and-l _ _ e1) (and-i _ _ (desired-same ∙ and-l _ _ e2) (and-i _ _ (list-same ∙ and-l _ _ e3) (and-i _ _ (grid-same ∙ and-l _ _ e4) (and-i _ _ plain-new kept-new)))))
+
+-- ---- rows that are not there
+nil-of : (xs : List ℕ) → length xs ≡ 0 → xs ≡ []
+nil-of [] e = refl
+nil-of (x ∷ xs) e = absurd (omega arith)
+
+row-beyond : {t : List ℕ} → Sized t → (i : ℕ) → capacityOf t < i → rowBytes t i ≡ []
+unfolding rowBytes block part rowsEnd
+row-beyond s zero h = refl
+row-beyond {t} s (suc k) h =
+    let far : capacityOf t * rowLength t ≤ k * rowLength t = mul-le-mul-right {m = capacityOf t} {n = k} (rowLength t) (omega arith) in
+    ap (take (rowLength t)) (nil-of (drop (16 + k * rowLength t) t) (omega (arith, length-drop (16 + k * rowLength t) t, length-is s))) ∙ take-nil (rowLength t)
+
+-- a zero row stays zero
+zero-carried : (to file n : ℕ) (row : List ℕ) → row ≡ zeros n → 32 + file ≤ n → carriedRow to file row ≡ zeros (strideIn to file)
+unfolding carriedRow strideIn part
+zero-carried to file n row e h =
+    let m : 32 + file + (bodyIn to file - file) ≡ 32 + bodyIn to file = omega (arith, body-in to file) in
+    ap (λ (xs : List ℕ). store oldest 0 (take (32 + file) xs) ++ zeros (bodyIn to file - file)) e
+    ∙ ap (λ (xs : List ℕ). store oldest 0 xs ++ zeros (bodyIn to file - file)) (first-zeros (32 + file) n h)
+    ∙ ap (λ (xs : List ℕ). xs ++ zeros (bodyIn to file - file)) (oldest-none (zeros (32 + file)) (omega (arith, length-zeros (32 + file))) (byte-of (zeros (32 + file)) (zeros-zero (32 + file)) (omega (arith, length-zeros (32 + file)))))
+    ∙ sym (split-zeros (32 + file) (bodyIn to file - file)) ∙ ap zeros m
+
+no-row : (t : List ℕ) → rowBytes t 0 ≡ []
+unfolding rowBytes block
+no-row t = refl
+
+plain-at : (t : List ℕ) (i : ℕ) → Within (usedOf t) i → allPlain t ≡ true → plain (rowBytes t i) ≡ true
+unfolding allPlain
+plain-at t i w e = every-at (usedOf t) _ e i w
+
+rows-none : (to : ℕ) (t : List ℕ) (n : ℕ) → carriedRows to t (n + zero) ≡ carriedRows to t n ++ zeros (zero * strideIn to (fileLengthOf t))
+unfolding zeros
+rows-none to t n =
+    let a : n + zero ≡ n = omega arith in
+    let b : zero * strideIn to (fileLengthOf t) ≡ 0 = omega arith in
+    ap (carriedRows to t) a ∙ sym (append-nil (carriedRows to t n)) ∙ ap (λ (k : ℕ). carriedRows to t n ++ zeros k) (sym b)
+
+rows-suc : (to : ℕ) (t : List ℕ) (n : ℕ) → carriedRows to t (suc n) ≡ carriedRows to t n ++ carriedRow to (fileLengthOf t) (rowBytes t (suc n))
+unfolding carriedRows
+rows-suc to t n = refl
+
+-- ---- the table
+module _ (t : List ℕ) (to : ℕ) (own : ownForm t ≡ true) (over : Over (formOf t) to) (plain-one : to ≡ 1 → allPlain t ≡ true) where
+  s : Sized t
+  s = own-sized own
+
+  small : to < 256
+  small = ⊎-elim (λ w. omega (arith, w .1)) (λ w. omega (arith, w .1)) over
+
+  form-in : between 1 to formValue ≡ true
+  unfolding formValue
+  form-in = is-between 1 to 3 (⊎-elim (λ w. omega (arith, w .1)) (λ w. omega (arith, w .1)) over) (⊎-elim (λ w. omega (arith, w .1)) (λ w. omega (arith, w .1)) over)
+
+  header-new : headerValues (carried to t) ≡ true
+  unfolding headerValues
+  header-new =
+      let h : headerValues t ≡ true = s .header in
+      let c : between 1 (capacityOf t) 64 ≡ true = search (and-l, and-r) in
+      let u : between 1 (usedOf t) (capacityOf t) ≡ true = search (and-l, and-r) in
+      let f : between 1 (firstOf t) (usedOf t) ≡ true = search (and-l, and-r) in
+      let l : between 1 (fileLengthOf t) 4_096 ≡ true = search (and-l, and-r) in
+      let z : allZero (part 6 10 t) ≡ true = search (and-l, and-r) in
+      rw (carried-form s to small, carried-capacity s to, carried-used s to, carried-first s to, carried-file s to, carried-header s to 5 10 (omega arith), form-in, c, u, f, l) z
+
+  length-new : lengthRight (carried to t) ≡ true
+  unfolding lengthRight rowsEnd carriedLength
+  length-new = eq-eqb _ _ (carried-size s to ∙ sym (ap₂ (λ (c w : ℕ). 16 + c * w) (carried-capacity s to) (carried-length s to small)))
+
+  sized-new : Sized (carried to t)
+  sized-new = record { header = header-new; bytes = length-new }
+
+  -- the first 25 bytes of each row stay
+  field-same : (g : Field) → Ends g 25 → (i : ℕ) → get g (rowBytes (carried to t) i) ≡ get g (rowBytes t i)
+  field-same g q i = go (decLe 1 i) (decLe i (capacityOf t))
+    where
+      go : Dec (1 ≤ i) → Dec (i ≤ capacityOf t) → get g (rowBytes (carried to t) i) ≡ get g (rowBytes t i)
+      go (yes a) (yes b) = ap (get g) (carried-row s to small i (omega arith)) ∙ carried-get to (fileLengthOf t) (rowBytes t i) (wide s i (omega arith)) g q
+      go (yes a) (no b) = ap (get g) (row-beyond sized-new i (omega (arith, carried-capacity s to)) ∙ sym (row-beyond s i (omega arith)))
+      go (no a) b = let z : i ≡ 0 = omega arith in ap (get g) (ap (rowBytes (carried to t)) z ∙ no-row (carried to t) ∙ sym (no-row t) ∙ ap (rowBytes t) (sym z))
+
+  rows-new : every (usedOf (carried to t)) (λ i. rowRight (formOf (carried to t)) (usedOf (carried to t)) i (rowBytes (carried to t) i)) ≡ true
+  rows-new = rw (carried-used s to, carried-form s to small) (every-of (usedOf t) _ (λ i w.
+      let v : Within (capacityOf t) i = omega (arith, w, header (s .header) .used) in
+      subst (λ (r : List ℕ). rowRight to (usedOf t) i r ≡ true) (sym (carried-row s to small i v))
+      (row-over (formOf t) to (usedOf t) i (fileLengthOf t) (rowBytes t i) over (wide s i v) (λ q. plain-at t i w (plain-one q)) (row-right (own-linked own) i w))))
+
+  links-same : linkOf (carried to t) ≡ linkOf t
+  unfolding linkOf link
+  links-same = fun-ext (field-same link (omega arith))
+
+  names-same : nameOf (carried to t) ≡ nameOf t
+  unfolding nameOf name
+  names-same = fun-ext (field-same name (omega arith))
+
+  lists-same : listOf (carried to t) ≡ listOf t
+  unfolding listOf list members gridMark
+  lists-same = fun-ext (λ i. list-is (rowBytes (carried to t) i) (listOf t i) (field-same members (omega arith) i) (field-same gridMark (omega arith) i))
+
+  visits-new : visitsEach (carried to t) ≡ visitsEach t
+  unfolding visitsEach
+  visits-new = rw (links-same, carried-used s to, carried-first s to)
+
+  rise-new : namesRise (carried to t) ≡ namesRise t
+  unfolding namesRise
+  rise-new = rw (links-same, names-same, carried-used s to, carried-first s to)
+
+  tall-new : tallRight (carried to t) ≡ tallRight t
+  unfolding tallRight
+  tall-new = rw (lists-same, carried-used s to)
+
+  agree-new : (i j : ℕ) → listsAgree (rowBytes (carried to t) i) (rowBytes (carried to t) j) ≡ listsAgree (rowBytes t i) (rowBytes t j)
+  unfolding listsAgree isEmpty list members gridMark epoch
+  agree-new i j = rw (field-same members (omega arith) i, field-same members (omega arith) j, field-same gridMark (omega arith) i, field-same gridMark (omega arith) j, field-same epoch (omega arith) i, field-same epoch (omega arith) j)
+
+  -- the rows behind the used ones
+  more-rows : (k : ℕ) → usedOf t + k ≤ capacityOf t → carriedRows to t (usedOf t + k) ≡ carriedRows to t (usedOf t) ++ zeros (k * strideIn to (fileLengthOf t))
+  more-rows zero h = rows-none to t (usedOf t)
+  more-rows (suc k) h =
+      let n : usedOf t + suc k ≡ suc (usedOf t + k) = omega arith in
+      let w : k * strideIn to (fileLengthOf t) + strideIn to (fileLengthOf t) ≡ suc k * strideIn to (fileLengthOf t) = omega arith in
+      let v : Within (capacityOf t) (suc (usedOf t + k)) = omega arith in
+      ap (carriedRows to t) n ∙ rows-suc to t (usedOf t + k)
+      ∙ ap₂ (λ (x y : List ℕ). x ++ y) (more-rows k (omega arith)) (zero-carried to (fileLengthOf t) (rowLength t) (rowBytes t (suc (usedOf t + k))) (unused-row s (own-zero t own) (suc (usedOf t + k)) v (omega arith)) (omega (arith, room s (suc (usedOf t + k)) v, wide s (suc (usedOf t + k)) v)))
+      ∙ append-assoc (carriedRows to t (usedOf t)) (zeros (k * strideIn to (fileLengthOf t))) (zeros (strideIn to (fileLengthOf t)))
+      ∙ ap (λ (x : List ℕ). carriedRows to t (usedOf t) ++ x) (sym (split-zeros (k * strideIn to (fileLengthOf t)) (strideIn to (fileLengthOf t))) ∙ ap zeros w)
+
+  zero-new : unusedZero (carried to t) ≡ true
+  unfolding unusedZero rowsEnd
+  zero-new =
+      let u : usedOf t ≤ capacityOf t = header (s .header) .used .1 in
+      let n : usedOf t + (capacityOf t - usedOf t) ≡ capacityOf t = omega arith in
+      let whole : carried to t ≡ (head s to ++ carriedRows to t (usedOf t)) ++ zeros ((capacityOf t - usedOf t) * strideIn to (fileLengthOf t)) =
+      carried-is s to ∙ ap (λ (x : List ℕ). head s to ++ x) (ap (carriedRows to t) (sym n) ∙ more-rows (capacityOf t - usedOf t) (omega arith))
+      ∙ sym (append-assoc (head s to) (carriedRows to t (usedOf t)) (zeros ((capacityOf t - usedOf t) * strideIn to (fileLengthOf t)))) in
+      ap₂ (λ (k w : ℕ). allZero (drop (16 + k * w) (carried to t))) (carried-used s to) (carried-length s to small)
+      ∙ ap (λ (x : List ℕ). allZero (drop (16 + usedOf t * strideIn to (fileLengthOf t)) x)) whole
+      ∙ ap allZero (drop-at (head s to ++ carriedRows to t (usedOf t)) _ (16 + usedOf t * strideIn to (fileLengthOf t))
+      (length-append (head s to) (carriedRows to t (usedOf t)) ∙ omega (arith, head-long s to, rows-long s to (usedOf t) u)))
+      ∙ zeros-zero ((capacityOf t - usedOf t) * strideIn to (fileLengthOf t))
+
+  pub formed-new : ownForm (carried to t) ≡ true
+  unfolding ownForm
+  formed-new =
+      let e1 = and-r (headerValues t) _ own in
+      let e2 = and-r (lengthRight t) _ e1 in
+      let e3 = and-r (every (usedOf t) (λ i. rowRight (formOf t) (usedOf t) i (rowBytes t i))) _ e2 in
+      let e4 = and-r (visitsEach t) _ e3 in
+      let e5 = and-r (namesRise t) _ e4 in
+      let e6 = and-r (unusedZero t) _ e5 in
+      let agree : every (usedOf t) (λ i. every (usedOf t) (λ j. listsAgree (rowBytes t i) (rowBytes t j))) ≡ true = and-l _ _ e6 in
+      let agreed : every (usedOf (carried to t)) (λ i. every (usedOf (carried to t)) (λ j. listsAgree (rowBytes (carried to t) i) (rowBytes (carried to t) j))) ≡ true =
+      rw (carried-used s to) (every-of (usedOf t) _ (λ i w. every-of (usedOf t) _ (λ j v. agree-new i j ∙ every-at (usedOf t) _ (every-at (usedOf t) _ agree i w) j v))) in
+      and-i _ _ header-new (and-i _ _ length-new (and-i _ _ rows-new (and-i _ _ (visits-new ∙ and-l _ _ e3) (and-i _ _ (rise-new ∙ and-l _ _ e4) (and-i _ _ zero-new (and-i _ _
+      agreed
+      (tall-new ∙ and-r (every (usedOf t) (λ i. every (usedOf t) (λ j. listsAgree (rowBytes t i) (rowBytes t j)))) _ e6)))))))
+
+pub carried-formed : CarriedFormed
+unfolding CarriedFormed done
+carried-formed t a h =
+    let y = carry-yes t a (sym (refusal-is t (carry a)) ∙ h) in
+    let o = when-done t (carry a) h in
+    let over = over-is (formOf t) (a .form) (y .over) in
+    let s = own-sized (y .own) in
+    record {
+      table = ap (λ (x : Outcome). x .table) o;
+      value = ap (λ (x : Outcome). x .value) o ∙ sym (ap usedOf (ap (λ (x : Outcome). x .buffer) o) ∙ carried-used s (a .form));
+      long = ap length (ap (λ (x : Outcome). x .buffer) o) ∙ carried-size s (a .form) ∙ sym (y .long);
+      form = ap formOf (ap (λ (x : Outcome). x .buffer) o) ∙ carried-form s (a .form) (small t (a .form) (y .own) over (y .plain));
+      own = ap ownForm (ap (λ (x : Outcome). x .buffer) o) ∙ formed-new t (a .form) (y .own) over (y .plain);
+    }

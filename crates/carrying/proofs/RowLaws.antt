@@ -1,0 +1,127 @@
+-- One row carried over.
+use mathlib.Core.Path.{_≡_, refl, sym, _∙_, ap}
+use mathlib.Core.Logic.{_⊎_, inl, inr}
+use mathlib.Core.List.{List, [], _++_, append-nil}
+use Prim.Native.Nat.{ℕ, _+_, _-_, _≤_, _<_}
+use native.Mathlib.Omega.{arith}
+use lib.ListN.{length, take, drop, length-append, length-drop, take-append-drop}
+use lib.Seq.{take-all, drop-length, take-at, drop-drop, take-append-le, drop-append-le, drop-append-add}
+use Rattle.bytes.specs.Bytes.{number, bytesOf, part, put, zeros}
+use Rattle.bytes.proofs.ByteLaws.{length-bytes, length-part, part-part, part-put-in, length-zeros}
+use Rattle.fields.specs.Layout.{Field, get, store, oldest, storeRecords, bodyIn, strideIn}
+use Rattle.fields.proofs.FieldLaws.{Ends, length-store, stored-bytes, part-store, body-in, stride-early}
+use Rattle.window.specs.Windows.{places, width, emptied, storeWindow}
+use Rattle.protocol.specs.Moves.{carriedRow}
+
+-- ---- parts of lists put together
+pub part-front : (a n : ℕ) (xs ys : List ℕ) → a + n ≤ length xs → part a n (xs ++ ys) ≡ part a n xs
+unfolding part
+part-front a n xs ys h = ap (take n) (drop-append-le a xs ys (omega arith)) ∙ take-append-le n (drop a xs) ys (omega (arith, length-drop a xs))
+
+pub part-back : (m k n : ℕ) (xs ys : List ℕ) → length xs ≡ m → part (m + k) n (xs ++ ys) ≡ part k n ys
+unfolding part
+part-back m k n xs ys e = ap (λ (j : ℕ). take n (drop (j + k) (xs ++ ys))) (sym e) ∙ ap (take n) (drop-append-add xs ys k)
+
+pub part-whole : (n : ℕ) (xs : List ℕ) → length xs ≡ n → part 0 n xs ≡ xs
+unfolding part
+part-whole n xs e = take-all n xs (omega arith)
+
+-- what is put where it stands already
+put-same : (a n : ℕ) (xs : List ℕ) → a + n ≤ length xs → put a (part a n xs) xs ≡ xs
+unfolding put part
+put-same a n xs h =
+    let l : length (take n (drop a xs)) ≡ n = length-part a n xs h in
+    ap (λ (k : ℕ). take a xs ++ (take n (drop a xs) ++ drop (a + k) xs)) l
+    ∙ ap (λ (ys : List ℕ). take a xs ++ (take n (drop a xs) ++ ys)) (sym (drop-drop n a xs))
+    ∙ ap (λ (ys : List ℕ). take a xs ++ ys) (take-append-drop n (drop a xs))
+    ∙ take-append-drop a xs
+
+-- a row that has no oldest record
+pub oldest-none : (row : List ℕ) → 32 ≤ length row → part 25 1 row ≡ zeros 1 → store oldest 0 row ≡ row
+unfolding store oldest bytesOf zeros
+oldest-none row h e = ap (λ (p : List ℕ). put 25 p row) (sym e) ∙ put-same 25 1 row (omega arith)
+
+module _ (xs : List ℕ) (h : 32 ≤ length xs) where
+  pub cleared-long : length (store oldest 0 xs) ≡ length xs
+  unfolding oldest
+  cleared-long = length-store oldest 0 xs (omega arith)
+
+  pub cleared-byte : part 25 1 (store oldest 0 xs) ≡ zeros 1
+  unfolding oldest bytesOf zeros
+  cleared-byte = stored-bytes oldest 0 xs (omega arith)
+
+  pub cleared-part : (a n : ℕ) → (a + n ≤ 25) ⊎ (26 ≤ a) → part a n (store oldest 0 xs) ≡ part a n xs
+  unfolding oldest
+  cleared-part a n q = part-store oldest 0 xs (omega arith) a n q
+
+  cleared-twice : store oldest 0 (store oldest 0 xs) ≡ store oldest 0 xs
+  cleared-twice = oldest-none (store oldest 0 xs) (omega (arith, cleared-long)) cleared-byte
+
+module _ (to file : ℕ) (row : List ℕ) (h : 32 + file ≤ length row) where
+  kept-long : length (part 0 (32 + file) row) ≡ 32 + file
+  kept-long = length-part 0 (32 + file) row (omega arith)
+
+  pub front-long : length (store oldest 0 (part 0 (32 + file) row)) ≡ 32 + file
+  front-long = cleared-long (part 0 (32 + file) row) (omega (arith, kept-long)) ∙ kept-long
+
+  pub carried-row-long : length (carriedRow to file row) ≡ strideIn to file
+  unfolding carriedRow strideIn
+  carried-row-long = length-append (store oldest 0 (part 0 (32 + file) row)) (zeros (bodyIn to file - file)) ∙ omega (arith, front-long, length-zeros (bodyIn to file - file), body-in to file)
+
+  front-part : (a n : ℕ) → a + n ≤ 32 + file → part a n (carriedRow to file row) ≡ part a n (store oldest 0 (part 0 (32 + file) row))
+  unfolding carriedRow
+  front-part a n q = part-front a n (store oldest 0 (part 0 (32 + file) row)) (zeros (bodyIn to file - file)) (omega (arith, front-long))
+
+  -- but for the oldest record head and contents stay
+  pub carried-part : (a n : ℕ) → (a + n ≤ 25) ⊎ (26 ≤ a) → a + n ≤ 32 + file → part a n (carriedRow to file row) ≡ part a n row
+  carried-part a n side q = front-part a n q ∙ cleared-part (part 0 (32 + file) row) (omega (arith, kept-long)) a n side ∙ part-part 0 (32 + file) a n row q ∙ ap (λ (k : ℕ). part k n row) (omega arith)
+
+  pub carried-byte : part 25 1 (carriedRow to file row) ≡ zeros 1
+  carried-byte = front-part 25 1 (omega arith) ∙ cleared-byte (part 0 (32 + file) row) (omega (arith, kept-long))
+
+  pub carried-get : (g : Field) → Ends g 25 → get g (carriedRow to file row) ≡ get g row
+  unfolding get
+  carried-get g q = ap number (carried-part (g .place) (g .width) (inl q) (omega arith))
+
+  -- carried twice is carried once
+  pub row-twice : (f : ℕ) → carriedRow f file (carriedRow to file row) ≡ carriedRow f file row
+  unfolding carriedRow part
+  row-twice f =
+      ap (λ (xs : List ℕ). store oldest 0 xs ++ zeros (bodyIn f file - file))
+      (take-at (store oldest 0 (part 0 (32 + file) row)) (zeros (bodyIn to file - file)) (32 + file) front-long)
+      ∙ ap (λ (xs : List ℕ). xs ++ zeros (bodyIn f file - file)) (cleared-twice (part 0 (32 + file) row) (omega (arith, kept-long)))
+
+-- before form 3 a row without oldest record stays
+pub early-row : (f file : ℕ) (row : List ℕ) → f < 3 → length row ≡ strideIn f file → part 25 1 row ≡ zeros 1 → carriedRow f file row ≡ row
+unfolding carriedRow strideIn zeros
+early-row f file row h l e =
+    let s : 32 + bodyIn f file ≡ 32 + file = stride-early f file h in
+    let n : bodyIn f file - file ≡ 0 = omega arith in
+    let m : length row ≡ 32 + file = omega arith in
+    ap (λ (k : ℕ). store oldest 0 (part 0 (32 + file) row) ++ zeros k) n
+    ∙ append-nil (store oldest 0 (part 0 (32 + file) row))
+    ∙ ap (store oldest 0) (part-whole (32 + file) row m)
+    ∙ oldest-none row (omega arith) e
+
+cut-first : (file : ℕ) (row : List ℕ) → 32 + file ≤ length row → part 0 (32 + file) (store oldest 0 row) ≡ store oldest 0 (part 0 (32 + file) row)
+unfolding store oldest
+cut-first file row h = part-put-in 0 (32 + file) 25 (bytesOf 1 0) row (rw (length-bytes 1 0) (omega arith)) (omega arith)
+
+-- the last 576 bytes made zero
+filled : (xs : List ℕ) (m : ℕ) → length xs ≡ m + 576 → put (length xs - 576) (zeros 576) xs ≡ part 0 m xs ++ zeros 576
+unfolding put part
+filled xs m e =
+    let n : length xs - 576 ≡ m = omega arith in
+    let k : m + length (zeros 576) ≡ length xs = omega (arith, length-zeros 576) in
+    ap (λ (j : ℕ). take j xs ++ (zeros 576 ++ drop (j + length (zeros 576)) xs)) n
+    ∙ ap (λ (j : ℕ). take m xs ++ (zeros 576 ++ drop j xs)) k
+    ∙ ap (λ (ys : List ℕ). take m xs ++ (zeros 576 ++ ys)) (drop-length xs)
+    ∙ ap (λ (ys : List ℕ). take m xs ++ ys) (append-nil (zeros 576))
+
+-- in form 3 it is left without a window
+pub late-row : (file : ℕ) (row : List ℕ) → length row ≡ 608 + file → carriedRow 3 file row ≡ storeWindow emptied row
+unfolding carriedRow bodyIn storeWindow emptied places width storeRecords
+late-row file row l =
+    let n : file + 576 - file ≡ 576 = omega arith in
+    let s : length (store oldest 0 row) ≡ 608 + file = cleared-long row (omega arith) ∙ l in
+    ap (λ (k : ℕ). store oldest 0 (part 0 (32 + file) row) ++ zeros k) n ∙ ap (λ (xs : List ℕ). xs ++ zeros 576) (sym (cut-first file row (omega arith))) ∙ sym (filled (store oldest 0 row) (32 + file) (omega arith))

@@ -1,0 +1,1 @@
+// Tables carried over to another form and back: claimed, and proved.
