@@ -9,26 +9,44 @@ use native.Mathlib.Decide.{decLt, ℕ-discrete}
 use native.Mathlib.Omega.{arith}
 use lib.Dec.{eqb}
 use borrow.Author.Tests.{eq-eqb, ne-eqb}
-use lib.ListN.{length, take, drop, take-append-drop}
+use lib.ListN.{length, take, drop, length-append, take-append-drop}
 use lib.Seq.{take-add}
 use Rattle.sets.specs.Upto.{Within}
 use Rattle.sets.proofs.UptoLaws.{last}
-use Rattle.bytes.specs.Bytes.{part}
-use Rattle.bytes.proofs.ByteLaws.{length-part, length-put, part-put, part-apart, drop-put-after}
+use Rattle.bytes.specs.Bytes.{part, zeros}
+use Rattle.bytes.proofs.ByteLaws.{length-part, part-front, part-back, part-whole, length-put, part-put, part-apart, drop-put-after, split-zeros}
 use Rattle.bools.proofs.BoolLaws.{or-l, or-r}
 use Rattle.sets.specs.Sets.{noRow, joining}
 use Rattle.sets.proofs.MemberLaws.{only}
-use Rattle.blocks.specs.Blocks.{block, withBlock, withBlocks}
+use Rattle.blocks.specs.Blocks.{block, withBlock, withBlocks, inTurn}
 
--- the lists b 1 to b n, one after another
-joined : ℕ → (ℕ → List ℕ) → List ℕ
-joined zero b = []
-joined (suc n) b = joined n b ++ b (suc n)
+-- ---- lists one after another
+pub in-turn-ext : (n : ℕ) (b c : ℕ → List ℕ) → ((i : ℕ) → Within n i → b i ≡ c i) → inTurn n b ≡ inTurn n c
+unfolding inTurn
+in-turn-ext zero b c e = refl
+in-turn-ext (suc n) b c e = ap₂ (λ (x y : List ℕ). x ++ y) (in-turn-ext n b c (λ i v. e i (omega arith))) (e (suc n) (omega arith))
 
-joined-ext : (n : ℕ) (b c : ℕ → List ℕ) → ((i : ℕ) → Within n i → b i ≡ c i) → joined n b ≡ joined n c
-unfolding joined
-joined-ext zero b c e = refl
-joined-ext (suc n) b c e = ap₂ (λ (x y : List ℕ). x ++ y) (joined-ext n b c (λ i v. e i (omega arith))) (e (suc n) (omega arith))
+pub length-in-turn : (w n : ℕ) (b : ℕ → List ℕ) → ((i : ℕ) → Within n i → length (b i) ≡ w) → length (inTurn n b) ≡ n * w
+unfolding inTurn
+length-in-turn w zero b l = omega arith
+length-in-turn w (suc n) b l = length-append (inTurn n b) (b (suc n)) ∙ omega (arith, length-in-turn w n b (λ i v. l i (omega arith)), l (suc n) (omega arith))
+
+-- first n of them, then k more
+pub in-turn-more : (n k : ℕ) (b : ℕ → List ℕ) → inTurn (n + k) b ≡ inTurn n b ++ inTurn k (λ i. b (n + i))
+unfolding inTurn
+in-turn-more n zero b = let e : n + zero ≡ n = omega arith in ap (λ (m : ℕ). inTurn m b) e ∙ sym (append-nil (inTurn n b))
+in-turn-more n (suc k) b =
+    let e : n + suc k ≡ suc (n + k) = omega arith in
+    ap (λ (m : ℕ). inTurn m b) e
+    ∙ ap₂ (λ (x y : List ℕ). x ++ y) (in-turn-more n k b) (ap b (sym e))
+    ∙ append-assoc (inTurn n b) (inTurn k (λ i. b (n + i))) (b (n + suc k))
+
+pub in-turn-zeros : (w n : ℕ) → inTurn n (λ i. zeros w) ≡ zeros (n * w)
+unfolding inTurn zeros
+in-turn-zeros w zero = let z : zero * w ≡ 0 = omega arith in ap zeros (sym z)
+in-turn-zeros w (suc n) =
+    let e : n * w + w ≡ suc n * w = omega arith in
+    ap (λ (x : List ℕ). x ++ zeros w) (in-turn-zeros w n) ∙ sym (split-zeros (n * w) w) ∙ ap zeros e
 
 module _ (a w : ℕ) where
   -- where block suc k ends
@@ -154,24 +172,42 @@ module _ (a w : ℕ) where
       at fits i (no d) = rw (ne-eqb (suc k) i d) (block-other xs k fits f keeps i (λ e. d (sym e)))
 
   -- ---- a list is its head and its blocks
-  rebuilt-to : (xs : List ℕ) (n : ℕ) → take (a + n * w) xs ≡ take a xs ++ joined n (λ i. block a w i xs)
-  unfolding joined block part
+  pub rebuilt-to : (xs : List ℕ) (n : ℕ) → take (a + n * w) xs ≡ take a xs ++ inTurn n (λ i. block a w i xs)
+  unfolding inTurn block part
   rebuilt-to xs zero = let z : a + zero * w ≡ a = omega arith in rw z (sym (append-nil (take a xs)))
   rebuilt-to xs (suc n) =
       let e : a + suc n * w ≡ a + n * w + w = omega arith in
-      rw e (take-add (a + n * w) w xs ∙ ap (λ (l : List ℕ). l ++ take w (drop (a + n * w) xs)) (rebuilt-to xs n) ∙ append-assoc (take a xs) (joined n (λ i. block a w i xs)) (part (a + n * w) w xs))
+      rw e (take-add (a + n * w) w xs ∙ ap (λ (l : List ℕ). l ++ take w (drop (a + n * w) xs)) (rebuilt-to xs n) ∙ append-assoc (take a xs) (inTurn n (λ i. block a w i xs)) (part (a + n * w) w xs))
+
+  -- the blocks behind a head are those that were put there
+  pub block-in-turn : (h : List ℕ) → length h ≡ a → (b : ℕ → List ℕ) (n : ℕ) → ((i : ℕ) → Within n i → length (b i) ≡ w) → (i : ℕ) → Within n i → block a w i (h ++ inTurn n b) ≡ b i
+  unfolding inTurn block
+  block-in-turn h l b zero each i v = absurd (omega arith)
+  block-in-turn h l b (suc n) each i v =
+      ap (block a w i) (sym (append-assoc h (inTurn n b) (b (suc n)))) ∙ at i (last n i v) (λ u. block-in-turn h l b n (λ j q. each j (omega arith)) i u)
+    where
+      front : List ℕ
+      front = h ++ inTurn n b
+
+      front-long : length front ≡ a + n * w
+      front-long = length-append h (inTurn n b) ∙ omega (arith, l, length-in-turn w n b (λ j q. each j (omega arith)))
+
+      at : (j : ℕ) → (j ≡ suc n) ⊎ Within n j → (Within n j → block a w j front ≡ b j) → block a w j (front ++ b (suc n)) ≡ b j
+      at j (inl q) before = rw q (ap (λ (k : ℕ). part k w (front ++ b (suc n))) (omega arith) ∙ part-back (a + n * w) 0 w front (b (suc n)) front-long ∙ part-whole w (b (suc n)) (each (suc n) (omega arith)))
+      at zero (inr u) before = absurd (omega arith)
+      at (suc k) (inr u) before = part-front (a + k * w) w front (b (suc n)) (omega (arith, front-long, ends n k (omega arith))) ∙ before u
 
   -- so what is altered alike is equal
   pub alike : {xs ys zs : List ℕ} (n : ℕ) {s : ℕ → Bool} {f : ℕ → List ℕ → List ℕ} → Altered xs ys n s f → Altered xs zs n s f → ys ≡ zs
   unfolding part
   alike {xs} {ys} {zs} n c d = whole ys ∙ ap₂ (λ (x y : List ℕ). x ++ y) start (c .tail (a + n * w) (omega arith) ∙ sym (d .tail (a + n * w) (omega arith))) ∙ sym (whole zs)
     where
-      whole : (us : List ℕ) → us ≡ (take a us ++ joined n (λ i. block a w i us)) ++ drop (a + n * w) us
+      whole : (us : List ℕ) → us ≡ (take a us ++ inTurn n (λ i. block a w i us)) ++ drop (a + n * w) us
       whole us = sym (take-append-drop (a + n * w) us) ∙ ap (λ (l : List ℕ). l ++ drop (a + n * w) us) (rebuilt-to us n)
 
-      start : (take a ys ++ joined n (λ i. block a w i ys)) ≡ (take a zs ++ joined n (λ i. block a w i zs))
+      start : (take a ys ++ inTurn n (λ i. block a w i ys)) ≡ (take a zs ++ inTurn n (λ i. block a w i zs))
       start = ap₂ (λ (x y : List ℕ). x ++ y) (c .head 0 a (omega arith) ∙ sym (d .head 0 a (omega arith)))
-          (joined-ext n (λ i. block a w i ys) (λ i. block a w i zs) (λ i v. c .blocks i v ∙ sym (d .blocks i v)))
+          (in-turn-ext n (λ i. block a w i ys) (λ i. block a w i zs) (λ i v. c .blocks i v ∙ sym (d .blocks i v)))
 
   -- ---- one block more: block i is changed besides those of p
   module _ (xs : List ℕ) (p : ℕ → Bool) (f : ℕ → List ℕ → List ℕ) (n k : ℕ) (room : a + n * w ≤ length xs) (below : k < n) (new : p (suc k) ≡ false)

@@ -1,32 +1,30 @@
--- The claims of specs/Claims.antt, proved.
-use mathlib.Core.Path.{_≡_, refl, sym, _∙_, ap, ap₂, subst, fun-ext}
-use mathlib.Core.Bool.{Bool, true, false, not, cond, _&&_, _||_}
-use mathlib.Core.Logic.{_⊎_, ⊎-elim, inl, inr}
-use mathlib.Core.List.{List, [], _∷_, _++_, append-assoc}
+-- Up and down, down and up: the claims of specs/Claims.antt, proved.
+use mathlib.Core.Path.{_≡_, refl, sym, _∙_, ap, subst}
+use mathlib.Core.Bool.{true, _||_}
+use mathlib.Core.List.{List, [], _∷_}
 use Prim.Native.Nat.{ℕ, zero, suc, _+_, _-_, _*_, _%_, _≤_, _<_}
-use native.Mathlib.Nat.{mul-le-mul-right}
 use native.Mathlib.Decide.{decLe}
 use native.Mathlib.Omega.{arith}
 use lib.Dec.{eqb, leb}
 use lib.ListN.{length, take, drop, length-drop}
-use lib.Seq.{drop-drop, take-take}
-use borrow.Author.Tests.{eqb-true, eq-eqb, le-leb, lt-leb}
-use Rattle.sets.specs.Upto.{Within, every, some}
-use Rattle.bools.proofs.BoolLaws.{and-l, and-r, and-i, clash}
-use Rattle.sets.proofs.UptoLaws.{every-at, every-of}
+use lib.Seq.{drop-drop}
+use borrow.Author.Tests.{lt-leb}
+use Rattle.bools.proofs.BoolLaws.{and-l, and-r}
+use Rattle.sets.specs.Upto.{Within}
 use Rattle.bytes.specs.Bytes.{number, bytesOf, part, zeros, allZero}
-use Rattle.bytes.proofs.ByteLaws.{length-part, length-zeros, part-part, zeros-are, zeros-zero, first-zeros, zero-drop, bytes-number}
+use Rattle.bytes.proofs.ByteLaws.{length-part, length-zeros, zeros-are, zeros-zero, first-zeros, zero-drop}
+use Rattle.bytes.proofs.CodeLaws.{zero-number}
 use Rattle.blocks.specs.Blocks.{block}
-use Rattle.fields.specs.Layout.{get, form, formValue, name, link, mark, spare, reserved, strideIn, formOf, capacityOf, usedOf, firstOf, fileLengthOf, rowLength, rowsEnd, rowBytes, withRows}
+use Rattle.fields.specs.Layout.{get, form, formValue, gridMark, oldest, reservedIn, strideIn, formOf, capacityOf, usedOf, fileLengthOf, rowLength, rowsEnd, rowBytes, withRows}
 use Rattle.fields.proofs.FieldLaws.{row-late}
 use Rattle.window.specs.Windows.{emptied, storeWindow}
 use Rattle.window.proofs.AddLaws.{emptied-whole}
 use Rattle.window.proofs.RowLaws.{length-window}
 use Rattle.table.specs.Contracts.{Sized}
-use Rattle.table.specs.WellFormed.{between, ownForm, headerValues, lengthRight, rowValues, rowRight, visitsEach, namesRise, unusedZero, listsAgree, tallRight}
+use Rattle.table.specs.WellFormed.{ownForm, unusedZero}
 use Rattle.table.proofs.TableLaws.{Changed, many-rows, like-end}
+use Rattle.table.proofs.FormLaws.{reserved-split, row-reserved}
 use Rattle.table.proofs.WellFormedLaws.{own-sized, own-linked, row-right, header, long, length-is, rows-in}
-use Rattle.protocol.specs.Moves.{carriedRow, carriedRows, carried, carriedLength}
 use Rattle.carrying.specs.Claims.{UpDown, DownUp}
 use Rattle.carrying.proofs.RowLaws.{early-row, late-row}
 use Rattle.carrying.proofs.CarryLaws.{room, wide, twice, carried-to}
@@ -46,34 +44,13 @@ unused-row {t} s z (suc k) w h =
     ap (take (rowLength t)) (zeros-are (drop (16 + k * rowLength t) t) y) ∙ first-zeros (rowLength t) (length (drop (16 + k * rowLength t) t)) long-enough
 
 -- ---- before form 3 no row has an oldest record
-pub zero-part : (a n b m : ℕ) (row : List ℕ) → a + n ≤ length row → b + m ≤ n → allZero (part a n row) ≡ true → part (a + b) m row ≡ part b m (zeros n)
-zero-part a n b m row h q z = sym (part-part a n b m row q) ∙ ap (part b m) (zeros-are (part a n row) z ∙ ap zeros (length-part a n row h))
-
-pub one-or-two : (f : ℕ) → Within 2 f → (f ≡ 1) ⊎ (f ≡ 2)
-one-or-two f w = go (decLe f 1)
-  where
-    go : Dec (f ≤ 1) → (f ≡ 1) ⊎ (f ≡ 2)
-    go (yes h) = inl (omega arith)
-    go (no h) = inr (omega arith)
-
-spare-one : (row : List ℕ) → 32 ≤ length row → allZero (spare 1 row) ≡ true → part 25 1 row ≡ zeros 1
-unfolding spare part zeros
-spare-one row h z = zero-part 24 8 1 1 row (omega arith) (omega arith) z
-
-spare-two : (row : List ℕ) → 32 ≤ length row → allZero (spare 2 row) ≡ true → part 25 1 row ≡ zeros 1
-unfolding spare part zeros
-spare-two row h z = zero-part 25 7 0 1 row (omega arith) (omega arith) z
-
-spare-old : (f : ℕ) (row : List ℕ) → Within 2 f → 32 ≤ length row → allZero (spare f row) ≡ true → part 25 1 row ≡ zeros 1
-spare-old f row w h z = ⊎-elim
-    (λ e. spare-one row h (subst (λ (g : ℕ). allZero (spare g row) ≡ true) e z))
-    (λ e. spare-two row h (subst (λ (g : ℕ). allZero (spare g row) ≡ true) e z))
-    (one-or-two f w)
-
--- what is asked of a row's spare bytes
-pub row-spare : (f n i : ℕ) (row : List ℕ) → rowRight f n i row ≡ true → allZero (spare f row) ≡ true
-unfolding rowRight rowValues
-row-spare f n i row e = let v : rowValues f n row ≡ true = and-l _ _ e in and-r (between 1 (get name row) 65_535 && leb (get link row) n && leb (get mark row) 1) _ v
+none-early : (f : ℕ) (row : List ℕ) → Within 2 f → 32 ≤ length row → allZero (reservedIn f row) ≡ true → part 25 1 row ≡ zeros 1
+unfolding get oldest
+none-early f row w h z =
+    let all = sym (reserved-split f row (omega arith)) ∙ z in
+    let old : (leb 3 f || eqb (get oldest row) 0) ≡ true = and-l _ _ (and-r (leb 2 f || eqb (get gridMark row) 0) _ all) in
+    let none : eqb (number (part 25 1 row)) 0 ≡ true = rw (lt-leb 3 f (omega arith)) at old in
+    zeros-are (part 25 1 row) (sym (zero-number (part 25 1 row)) ∙ none) ∙ ap zeros (length-part 25 1 row (omega arith))
 
 pub byte-of : (row : List ℕ) → allZero row ≡ true → 32 ≤ length row → part 25 1 row ≡ zeros 1
 unfolding part
@@ -99,7 +76,7 @@ module _ (t : List ℕ) (e : ownForm t ≡ true) where
   row-none w i v = go (decLe i (usedOf t))
     where
       go : Dec (i ≤ usedOf t) → part 25 1 (rowBytes t i) ≡ zeros 1
-      go (yes h) = spare-old (formOf t) (rowBytes t i) w (omega (arith, wide s i v)) (row-spare (formOf t) (usedOf t) i (rowBytes t i) (row-right (own-linked e) i (omega arith)))
+      go (yes h) = none-early (formOf t) (rowBytes t i) w (omega (arith, wide s i v)) (row-reserved (formOf t) (usedOf t) i (rowBytes t i) (row-right (own-linked e) i (omega arith)))
       go (no h) = zero-byte (rowBytes t i) (rowLength t) (unused-row s own-zero i v (omega arith)) (omega (arith, room s i v, wide s i v))
 
 -- a byte that is small is the bytes of its number

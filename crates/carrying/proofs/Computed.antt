@@ -51,5 +51,5 @@ cases =
     && moved (Moves.carried 3 (small 1 1 0)) 3 1_234 12 0))))))))))))))))
 
 pub cases-hold : cases ≡ true
-unfolding cases moved small WellFormed.keptRight Layout.oldest Layout.records Layout.storeRecords Windows.places Windows.width Windows.younger Windows.size Windows.start Windows.patchIn Windows.recordWith Windows.recordOf Windows.next Windows.path Windows.patches Windows.recordRight Windows.windowRight Windows.emptied Windows.free Windows.taken Windows.left Windows.youngest Windows.added Windows.windowOf Windows.storeWindow Windows.laid Windows.lastly Windows.sent Upto.upward Upto.every Upto.some Upto.count Upto.lowest Upto.most Sets.has Sets.isRow Sets.noRow Sets.firstRows Sets.gaining Sets.losing Sets.cutTo Sizes.root Sizes.rootUp Sizes.published Sizes.newFive Sizes.exchanged Sizes.gridBy Sizes.markFits Sizes.newMark Sizes.noGrid Sizes.spare Sizes.rowOf Sizes.columnOf Sizes.height Bytes.number Bytes.bytesOf Bytes.part Bytes.put Bytes.allZero Layout.get Layout.store Layout.form Layout.formValue Layout.capacity Layout.used Layout.first Layout.fileLength Layout.name Layout.link Layout.epoch Layout.members Layout.gridMark Layout.list Layout.storeList Layout.noList Layout.isEmpty Layout.isTall Layout.mark Layout.version Layout.desired Layout.reserved Layout.spare Layout.formOf Layout.bodyIn Layout.strideIn Layout.contents Layout.storeContents Layout.bodyLength Layout.stride Layout.rowLength Layout.rowsEnd Layout.rowBytes Blocks.block Blocks.withBlock Blocks.withBlocks Layout.capacityOf Layout.usedOf Layout.firstOf Layout.fileLengthOf Layout.nameOf Layout.linkOf Layout.epochOf Layout.listOf Layout.staleOf Layout.versionOf Layout.desiredOf Layout.contentsOf Linking.chain Upto.among Upto.risesFrom WellFormed.between WellFormed.limit WellFormed.onlyRows WellFormed.headerValues WellFormed.rowValues WellFormed.lengthRight WellFormed.visitsEach WellFormed.namesRise WellFormed.unusedZero WellFormed.numbersSmall WellFormed.desiredRight WellFormed.listRight WellFormed.gridRight WellFormed.plain WellFormed.plainRight WellFormed.rowRight WellFormed.listsAgree WellFormed.tallRight WellFormed.ownForm WellFormed.wellFormed Upto.keep Layout.withRow Layout.withRows Calls.resultOf Asking.firstNo Asking.before Bytes.zeros Calls.questions Calls.calledAfter Calls.done Calls.lent Calls.refused Calls.outcome Moves.goesOver Moves.allPlain Moves.carriedRow Moves.carriedRows Moves.carried Moves.carriedLength
+unfolding cases moved small WellFormed.keptRight Layout.oldest Layout.records Layout.storeRecords Windows.places Windows.width Windows.younger Windows.size Windows.start Windows.patchIn Windows.recordWith Windows.recordOf Windows.next Windows.path Windows.patches Windows.recordRight Windows.windowRight Windows.emptied Windows.free Windows.taken Windows.left Windows.youngest Windows.added Windows.windowOf Windows.storeWindow Windows.laid Windows.lastly Windows.sent Upto.upward Upto.every Upto.some Upto.count Upto.lowest Upto.most Sets.has Sets.isRow Sets.noRow Sets.firstRows Sets.gaining Sets.losing Sets.cutTo Sizes.root Sizes.rootUp Sizes.published Sizes.newFive Sizes.exchanged Sizes.gridBy Sizes.markFits Sizes.newMark Sizes.noGrid Sizes.spare Sizes.rowOf Sizes.columnOf Sizes.height Bytes.number Bytes.bytesOf Bytes.part Bytes.put Bytes.allZero Layout.get Layout.store Layout.form Layout.formValue Layout.capacity Layout.used Layout.first Layout.fileLength Layout.name Layout.link Layout.epoch Layout.members Layout.gridMark Layout.list Layout.storeList Layout.noList Layout.isEmpty Layout.isTall Layout.mark Layout.version Layout.desired Layout.reserved Layout.reservedIn Layout.formOf Layout.bodyIn Layout.strideIn Layout.contents Layout.storeContents Layout.bodyLength Layout.stride Layout.rowLength Layout.rowsEnd Layout.rowBytes Blocks.block Blocks.withBlock Blocks.withBlocks Blocks.inTurn Layout.capacityOf Layout.usedOf Layout.firstOf Layout.fileLengthOf Layout.nameOf Layout.linkOf Layout.epochOf Layout.listOf Layout.staleOf Layout.versionOf Layout.desiredOf Layout.contentsOf Linking.chain Upto.among Upto.risesFrom WellFormed.between WellFormed.limit WellFormed.onlyRows WellFormed.headerValues WellFormed.rowValues WellFormed.lengthRight WellFormed.visitsEach WellFormed.namesRise WellFormed.unusedZero WellFormed.numbersSmall WellFormed.desiredRight WellFormed.listRight WellFormed.gridRight WellFormed.plain WellFormed.plainRight WellFormed.rowRight WellFormed.listsAgree WellFormed.tallRight WellFormed.ownForm WellFormed.wellFormed Upto.keep Layout.withRow Layout.withRows Calls.resultOf Asking.firstNo Asking.before Bytes.zeros Calls.questions Calls.calledAfter Calls.done Calls.lent Calls.refused Calls.outcome Moves.goesOver Moves.allPlain Moves.carriedRow Moves.carried Moves.carriedLength
 cases-hold = refl

@@ -1,41 +1,39 @@
 -- A table carried over is right by its own form.
 use mathlib.Core.Path.{_≡_, refl, sym, _∙_, ap, ap₂, subst, fun-ext}
-use mathlib.Core.Bool.{Bool, true, false, not, cond, _&&_, _||_}
+use mathlib.Core.Bool.{Bool, true, false, not, _&&_, _||_}
 use mathlib.Core.Logic.{_⊎_, ⊎-elim, inl, inr}
-use mathlib.Core.List.{List, [], _∷_, _++_, append-nil, append-assoc}
+use mathlib.Core.List.{List, [], _∷_, _++_, append-assoc}
 use Prim.Native.Nat.{ℕ, zero, suc, _+_, _-_, _*_, _≤_, _<_}
 use native.Mathlib.Nat.{mul-le-mul-right}
 use native.Mathlib.Decide.{decLe}
 use native.Mathlib.Omega.{arith}
-use lib.Dec.{eqb, leb, ltb}
+use lib.Dec.{eqb, leb}
 use lib.ListN.{length, take, drop, length-append, length-drop}
-use lib.Seq.{drop-at, take-nil, take-all}
+use lib.Seq.{drop-at, take-nil}
 use borrow.Author.Tests.{eqb-true, eq-eqb, le-leb, lt-leb}
-use Rattle.sets.specs.Upto.{Within, every, some, count, among, risesFrom}
+use Rattle.sets.specs.Upto.{Within, every}
 use Rattle.sets.specs.Sets.{has}
-use Rattle.linking.specs.Linking.{chain}
-use Rattle.bools.proofs.BoolLaws.{and-l, and-r, and-i, clash}
+use Rattle.bools.proofs.BoolLaws.{and-l, and-r, and-i, or-l, or-r}
 use Rattle.sets.proofs.UptoLaws.{every-at, every-of}
-use Rattle.bytes.specs.Bytes.{number, bytesOf, part, zeros, allZero}
-use Rattle.bytes.proofs.ByteLaws.{length-part, length-zeros, zeros-are, zeros-zero, first-zeros, split-zeros}
-use Rattle.bytes.proofs.CodeLaws.{zero-number, zero-numbers}
-use Rattle.blocks.specs.Blocks.{block}
-use Rattle.fields.specs.declared.Laid.{Laid}
-use Rattle.fields.specs.Layout.{Field, get, store, formValue, name, link, mark, version, desired, epoch, members, gridMark, oldest, list, isEmpty, isTall, spare, reserved, contents, records, bodyIn, strideIn, formOf, capacityOf, usedOf, firstOf, fileLengthOf, rowLength, rowsEnd, rowBytes, nameOf, linkOf, listOf}
+use Rattle.bytes.specs.Bytes.{number, part, zeros, allZero}
+use Rattle.bytes.proofs.ByteLaws.{length-zeros, zeros-zero, first-zeros, split-zeros}
+use Rattle.blocks.specs.Blocks.{block, inTurn}
+use Rattle.blocks.proofs.BlockLaws.{in-turn-ext, length-in-turn, in-turn-more, in-turn-zeros}
+use Rattle.fields.specs.Layout.{Field, get, store, formValue, name, link, mark, version, desired, epoch, members, gridMark, oldest, list, isEmpty, reservedIn, reserved, contents, records, bodyIn, strideIn, formOf, capacityOf, usedOf, firstOf, fileLengthOf, rowLength, rowsEnd, rowBytes, nameOf, linkOf, listOf}
 use Rattle.fields.proofs.FieldLaws.{Ends, list-is, body-in}
-use Rattle.window.specs.Windows.{Window, places, width, windowRight, windowOf, emptied}
+use Rattle.window.specs.Windows.{places, width, windowRight, windowOf, emptied}
 use Rattle.window.proofs.AddLaws.{emptied-right}
 use Rattle.table.specs.Contracts.{Sized}
-use Rattle.table.specs.WellFormed.{between, limit, onlyRows, ownForm, headerValues, lengthRight, rowValues, numbersSmall, desiredRight, listRight, gridRight, plain, plainRight, keptRight, rowRight, visitsEach, namesRise, unusedZero, listsAgree, tallRight}
-use Rattle.table.proofs.FormLaws.{between-is, is-between}
+use Rattle.table.specs.WellFormed.{between, ownForm, headerValues, lengthRight, rowValues, numbersSmall, desiredRight, listRight, gridRight, plain, plainRight, keptRight, rowRight, visitsEach, namesRise, unusedZero, listsAgree, tallRight}
+use Rattle.table.proofs.FormLaws.{between-is, is-between, reserved-split, row-reserved}
 use Rattle.table.proofs.WellFormedLaws.{own-sized, own-linked, row-right, header, length-is}
-use Rattle.protocol.specs.Moves.{goesOver, allPlain, carriedRow, carriedRows, carried, carriedLength}
-use Rattle.protocol.specs.Calls.{Carrying, Outcome, carry, done, outcome, questions}
-use Rattle.protocol.proofs.QuestionLaws.{refusal-is, when-done, CarryYes, carry-yes}
+use Rattle.protocol.specs.Moves.{goesOver, allPlain, carriedRow, carried, carriedLength}
+use Rattle.protocol.specs.Calls.{Outcome, carry, done}
+use Rattle.protocol.proofs.QuestionLaws.{refusal-is, when-done, carry-yes}
 use Rattle.carrying.specs.Claims.{CarriedFormed}
 use Rattle.carrying.proofs.RowLaws.{front-long, oldest-none, carried-row-long, carried-part, carried-byte, carried-get}
-use Rattle.carrying.proofs.CarryLaws.{room, wide, head, head-long, carried-is, rows-long, carried-size, carried-header, carried-form, carried-capacity, carried-used, carried-first, carried-file, carried-length, carried-row}
-use Rattle.carrying.proofs.Carried.{one-or-two, row-spare, unused-row, byte-of, zero-part, own-zero}
+use Rattle.carrying.proofs.CarryLaws.{rowTo, room, wide, row-to-long, head, head-long, carried-is, carried-size, carried-header, carried-form, carried-capacity, carried-used, carried-first, carried-file, carried-length, carried-row}
+use Rattle.carrying.proofs.Carried.{unused-row, byte-of, own-zero}
 
 -- ---- the pair of forms
 abbrev pub Over : ℕ → ℕ → Type 0
@@ -49,45 +47,14 @@ over-is f to e = go (between 1 f 2 && eqb to 3) refl
     go true q = inl (between-is 1 f 2 (and-l _ _ q), eqb-true to 3 (and-r (between 1 f 2) _ q))
     go false q = let r : (eqb f 3 && between 1 to 2) ≡ true = rw q at e in inr (eqb-true f 3 (and-l _ _ r), between-is 1 to 2 (and-r (eqb f 3) _ r))
 
--- ---- the spare bytes
-zero-25 : (xs : List ℕ) → part 25 1 xs ≡ zeros 1 → allZero (part 26 6 xs) ≡ true → allZero (part 25 7 xs) ≡ true
-zero-25 xs e z = sym (zero-numbers 25 1 6 xs) ∙ and-i _ _ (zero-number (part 25 1 xs) ∙ ap allZero e ∙ zeros-zero 1) (zero-number (part 26 6 xs) ∙ z)
-
-zero-24 : (xs : List ℕ) → eqb (get gridMark xs) 0 ≡ true → allZero (part 25 7 xs) ≡ true → allZero (part 24 8 xs) ≡ true
-unfolding get gridMark
-zero-24 xs e z = sym (zero-numbers 24 1 7 xs) ∙ and-i _ _ e (zero-number (part 25 7 xs) ∙ z)
-
-zero-six : allZero (part 2 6 (zeros 8)) ≡ true
-unfolding part zeros allZero
-zero-six = refl
-
-zero-six-1 : allZero (part 1 6 (zeros 7)) ≡ true
-unfolding part zeros allZero
-zero-six-1 = refl
-
-rest-three : (row : List ℕ) → allZero (spare 3 row) ≡ true → allZero (part 26 6 row) ≡ true
-unfolding spare reserved
-rest-three row z = z
-
-spare-three : (row : List ℕ) → allZero (part 26 6 row) ≡ true → allZero (spare 3 row) ≡ true
-unfolding spare reserved
-spare-three row z = z
-
-spare-2 : (row : List ℕ) → allZero (part 25 7 row) ≡ true → allZero (spare 2 row) ≡ true
-unfolding spare
-spare-2 row z = z
-
-spare-1 : (row : List ℕ) → allZero (part 24 8 row) ≡ true → allZero (spare 1 row) ≡ true
-unfolding spare
-spare-1 row z = z
-
 mark-zero : (row : List ℕ) → plain row ≡ true → eqb (get gridMark row) 0 ≡ true
 unfolding plain
 mark-zero row e = and-r (not (isEmpty (list row))) _ e
 
-oldest-new : (file : ℕ) (row : List ℕ) → 32 + file ≤ length row → get oldest (carriedRow 3 file row) ≡ 0
+-- ---- no row has an oldest record, and in form 3 its records are zero
+oldest-new : (to file : ℕ) (row : List ℕ) → 32 + file ≤ length row → get oldest (carriedRow to file row) ≡ 0
 unfolding get oldest number zeros
-oldest-new file row h = ap number (carried-byte 3 file row h)
+oldest-new to file row h = ap number (carried-byte to file row h)
 
 records-new : (file : ℕ) (row : List ℕ) → 32 + file ≤ length row → records (carriedRow 3 file row) ≡ zeros 576
 unfolding records carriedRow bodyIn strideIn
@@ -100,25 +67,7 @@ records-new file row h =
 -- a row carried to form 3 has an empty window
 window-new : (file : ℕ) (row : List ℕ) → 32 + file ≤ length row → windowOf (carriedRow 3 file row) ≡ emptied
 unfolding windowOf emptied places width
-window-new file row h = λ j. record { oldest = oldest-new file row h j; records = records-new file row h j }
-
-rest-one : (row : List ℕ) → 32 ≤ length row → allZero (spare 1 row) ≡ true → allZero (part 26 6 row) ≡ true
-unfolding spare
-rest-one row h z = ap allZero (zero-part 24 8 2 6 row (omega arith) (omega arith) z) ∙ zero-six
-
-rest-two : (row : List ℕ) → 32 ≤ length row → allZero (spare 2 row) ≡ true → allZero (part 26 6 row) ≡ true
-unfolding spare
-rest-two row h z = ap allZero (zero-part 25 7 1 6 row (omega arith) (omega arith) z) ∙ zero-six-1
-
-rest-zero : (f : ℕ) (row : List ℕ) → Within 3 f → 32 ≤ length row → allZero (spare f row) ≡ true → allZero (part 26 6 row) ≡ true
-rest-zero f row w h z = go (decLe f 2)
-  where
-    go : Dec (f ≤ 2) → allZero (part 26 6 row) ≡ true
-    go (yes q) = ⊎-elim
-        (λ e. rest-one row h (subst (λ (g : ℕ). allZero (spare g row) ≡ true) e z))
-        (λ e. rest-two row h (subst (λ (g : ℕ). allZero (spare g row) ≡ true) e z))
-        (one-or-two f (omega arith))
-    go (no q) = let e : f ≡ 3 = omega arith in rest-three row (subst (λ (g : ℕ). allZero (spare g row) ≡ true) e z)
+window-new file row h = λ j. record { oldest = oldest-new 3 file row h j; records = records-new file row h j }
 
 -- ---- one row
 module _ (f to n i file : ℕ) (row : List ℕ) (over : Over f to) (h : 32 + file ≤ length row) (plain-one : to ≡ 1 → plain row ≡ true) (e : rowRight f n i row ≡ true) where
@@ -128,24 +77,27 @@ module _ (f to n i file : ℕ) (row : List ℕ) (over : Over f to) (h : 32 + fil
   at : (g : Field) → Ends g 25 → get g (carriedRow to file row) ≡ get g row
   at g q = carried-get to file row h g q
 
-  rest : allZero (part 26 6 (carriedRow to file row)) ≡ true
-  rest = ap allZero (carried-part to file row h 26 6 (inr (omega arith)) (omega arith))
-      ∙ rest-zero f row (⊎-elim (λ w. omega (arith, w .0)) (λ w. omega (arith, w .0)) over) (omega arith) (row-spare f n i row e)
+  rest : allZero (reserved (carriedRow to file row)) ≡ true
+  unfolding reserved
+  rest =
+      let all = sym (reserved-split f row (⊎-elim (λ w. omega (arith, w .0)) (λ w. omega (arith, w .0)) over)) ∙ row-reserved f n i row e in
+      ap allZero (carried-part to file row h 26 6 (inr (omega arith)) (omega arith)) ∙ and-r (leb 3 f || eqb (get oldest row) 0) _ (and-r (leb 2 f || eqb (get gridMark row) 0) _ all)
 
   plain-same : plain (carriedRow to file row) ≡ plain row
   unfolding plain isEmpty list members gridMark
   plain-same = rw (at members (omega arith), at gridMark (omega arith))
 
-  spare-new : allZero (spare to (carriedRow to file row)) ≡ true
-  spare-new = ⊎-elim (λ w. in-form 3 (w .1) (spare-three _ rest))
-      (λ w. ⊎-elim
-      (λ q. in-form 1 q (spare-1 _ (zero-24 _ (mark-zero _ (plain-same ∙ plain-one q)) (zero-25 _ (carried-byte to file row h) rest))))
-      (λ q. in-form 2 q (spare-2 _ (zero-25 _ (carried-byte to file row h) rest)))
-      (one-or-two to (w .1)))
-      over
+  marked-new : (leb 2 to || eqb (get gridMark (carriedRow to file row)) 0) ≡ true
+  marked-new = go (decLe 2 to)
     where
-      in-form : (g : ℕ) → to ≡ g → allZero (spare g (carriedRow to file row)) ≡ true → allZero (spare to (carriedRow to file row)) ≡ true
-      in-form g q z = subst (λ (x : ℕ). allZero (spare x (carriedRow to file row)) ≡ true) (sym q) z
+      go : Dec (2 ≤ to) → (leb 2 to || eqb (get gridMark (carriedRow to file row)) 0) ≡ true
+      go (yes q) = or-l _ _ (le-leb 2 to q)
+      go (no q) = or-r (leb 2 to) _ (mark-zero _ (plain-same ∙ plain-one (⊎-elim (λ w. omega (arith, w .1)) (λ w. omega (arith, w .1)) over)))
+
+  reserved-new : allZero (reservedIn to (carriedRow to file row)) ≡ true
+  reserved-new =
+      reserved-split to (carriedRow to file row) (⊎-elim (λ w. omega (arith, w .1)) (λ w. omega (arith, w .1)) over)
+      ∙ and-i _ _ marked-new (and-i _ _ (or-r (leb 3 to) _ (eq-eqb _ 0 (oldest-new to file row h))) rest)
 
   values-new : rowValues to n (carriedRow to file row) ≡ true
   unfolding rowValues rowRight name link mark
@@ -153,7 +105,7 @@ module _ (f to n i file : ℕ) (row : List ℕ) (over : Over f to) (h : 32 + fil
       let v : rowValues f n row ≡ true = and-l _ _ e in
       let v3 : (between 1 (get name row) 65_535 && leb (get link row) n && leb (get mark row) 1) ≡ true = and-l _ _ v in
       and-i _ _ (ap₂ (λ (x y : ℕ). between 1 x 65_535 && leb y n && leb (get mark (carriedRow to file row)) 1) (at name (omega arith)) (at link (omega arith))
-      ∙ ap (λ (x : ℕ). between 1 (get name row) 65_535 && leb (get link row) n && leb x 1) (at mark (omega arith)) ∙ v3) spare-new
+      ∙ ap (λ (x : ℕ). between 1 (get name row) 65_535 && leb (get link row) n && leb x 1) (at mark (omega arith)) ∙ v3) reserved-new
 
   numbers-same : numbersSmall (carriedRow to file row) ≡ numbersSmall row
   unfolding numbersSmall version desired epoch
@@ -226,17 +178,6 @@ no-row t = refl
 plain-at : (t : List ℕ) (i : ℕ) → Within (usedOf t) i → allPlain t ≡ true → plain (rowBytes t i) ≡ true
 unfolding allPlain
 plain-at t i w e = every-at (usedOf t) _ e i w
-
-rows-none : (to : ℕ) (t : List ℕ) (n : ℕ) → carriedRows to t (n + zero) ≡ carriedRows to t n ++ zeros (zero * strideIn to (fileLengthOf t))
-unfolding zeros
-rows-none to t n =
-    let a : n + zero ≡ n = omega arith in
-    let b : zero * strideIn to (fileLengthOf t) ≡ 0 = omega arith in
-    ap (carriedRows to t) a ∙ sym (append-nil (carriedRows to t n)) ∙ ap (λ (k : ℕ). carriedRows to t n ++ zeros k) (sym b)
-
-rows-suc : (to : ℕ) (t : List ℕ) (n : ℕ) → carriedRows to t (suc n) ≡ carriedRows to t n ++ carriedRow to (fileLengthOf t) (rowBytes t (suc n))
-unfolding carriedRows
-rows-suc to t n = refl
 
 -- ---- the table
 module _ (t : List ℕ) (to : ℕ) (own : ownForm t ≡ true) (over : Over (formOf t) to) (plain-one : to ≡ 1 → allPlain t ≡ true) where
@@ -312,29 +253,25 @@ module _ (t : List ℕ) (to : ℕ) (own : ownForm t ≡ true) (over : Over (form
   agree-new i j = rw (field-same members (omega arith) i, field-same members (omega arith) j, field-same gridMark (omega arith) i, field-same gridMark (omega arith) j, field-same epoch (omega arith) i, field-same epoch (omega arith) j)
 
   -- the rows behind the used ones
-  more-rows : (k : ℕ) → usedOf t + k ≤ capacityOf t → carriedRows to t (usedOf t + k) ≡ carriedRows to t (usedOf t) ++ zeros (k * strideIn to (fileLengthOf t))
-  more-rows zero h = rows-none to t (usedOf t)
-  more-rows (suc k) h =
-      let n : usedOf t + suc k ≡ suc (usedOf t + k) = omega arith in
-      let w : k * strideIn to (fileLengthOf t) + strideIn to (fileLengthOf t) ≡ suc k * strideIn to (fileLengthOf t) = omega arith in
-      let v : Within (capacityOf t) (suc (usedOf t + k)) = omega arith in
-      ap (carriedRows to t) n ∙ rows-suc to t (usedOf t + k)
-      ∙ ap₂ (λ (x y : List ℕ). x ++ y) (more-rows k (omega arith)) (zero-carried to (fileLengthOf t) (rowLength t) (rowBytes t (suc (usedOf t + k))) (unused-row s (own-zero t own) (suc (usedOf t + k)) v (omega arith)) (omega (arith, room s (suc (usedOf t + k)) v, wide s (suc (usedOf t + k)) v)))
-      ∙ append-assoc (carriedRows to t (usedOf t)) (zeros (k * strideIn to (fileLengthOf t))) (zeros (strideIn to (fileLengthOf t)))
-      ∙ ap (λ (x : List ℕ). carriedRows to t (usedOf t) ++ x) (sym (split-zeros (k * strideIn to (fileLengthOf t)) (strideIn to (fileLengthOf t))) ∙ ap zeros w)
+  unused-new : (i : ℕ) → Within (capacityOf t - usedOf t) i → rowTo to t (usedOf t + i) ≡ zeros (strideIn to (fileLengthOf t))
+  unused-new i w =
+      let v : Within (capacityOf t) (usedOf t + i) = omega arith in
+      zero-carried to (fileLengthOf t) (rowLength t) (rowBytes t (usedOf t + i)) (unused-row s (own-zero t own) (usedOf t + i) v (omega arith)) (omega (arith, room s (usedOf t + i) v, wide s (usedOf t + i) v))
 
   zero-new : unusedZero (carried to t) ≡ true
   unfolding unusedZero rowsEnd
   zero-new =
       let u : usedOf t ≤ capacityOf t = header (s .header) .used .1 in
       let n : usedOf t + (capacityOf t - usedOf t) ≡ capacityOf t = omega arith in
-      let whole : carried to t ≡ (head s to ++ carriedRows to t (usedOf t)) ++ zeros ((capacityOf t - usedOf t) * strideIn to (fileLengthOf t)) =
-      carried-is s to ∙ ap (λ (x : List ℕ). head s to ++ x) (ap (carriedRows to t) (sym n) ∙ more-rows (capacityOf t - usedOf t) (omega arith))
-      ∙ sym (append-assoc (head s to) (carriedRows to t (usedOf t)) (zeros ((capacityOf t - usedOf t) * strideIn to (fileLengthOf t)))) in
+      let front = head s to ++ inTurn (usedOf t) (rowTo to t) in
+      let whole : carried to t ≡ front ++ zeros ((capacityOf t - usedOf t) * strideIn to (fileLengthOf t)) =
+      carried-is s to ∙ ap (λ (x : List ℕ). head s to ++ x) (ap (λ (m : ℕ). inTurn m (rowTo to t)) (sym n) ∙ in-turn-more (usedOf t) (capacityOf t - usedOf t) (rowTo to t)
+      ∙ ap (λ (x : List ℕ). inTurn (usedOf t) (rowTo to t) ++ x) (in-turn-ext (capacityOf t - usedOf t) _ _ unused-new ∙ in-turn-zeros (strideIn to (fileLengthOf t)) (capacityOf t - usedOf t)))
+      ∙ sym (append-assoc (head s to) (inTurn (usedOf t) (rowTo to t)) (zeros ((capacityOf t - usedOf t) * strideIn to (fileLengthOf t)))) in
       ap₂ (λ (k w : ℕ). allZero (drop (16 + k * w) (carried to t))) (carried-used s to) (carried-length s to small)
       ∙ ap (λ (x : List ℕ). allZero (drop (16 + usedOf t * strideIn to (fileLengthOf t)) x)) whole
-      ∙ ap allZero (drop-at (head s to ++ carriedRows to t (usedOf t)) _ (16 + usedOf t * strideIn to (fileLengthOf t))
-      (length-append (head s to) (carriedRows to t (usedOf t)) ∙ omega (arith, head-long s to, rows-long s to (usedOf t) u)))
+      ∙ ap allZero (drop-at front _ (16 + usedOf t * strideIn to (fileLengthOf t))
+      (length-append (head s to) (inTurn (usedOf t) (rowTo to t)) ∙ omega (arith, head-long s to, length-in-turn (strideIn to (fileLengthOf t)) (usedOf t) (rowTo to t) (λ i w. row-to-long s to i (omega arith)))))
       ∙ zeros-zero ((capacityOf t - usedOf t) * strideIn to (fileLengthOf t))
 
   pub formed-new : ownForm (carried to t) ≡ true

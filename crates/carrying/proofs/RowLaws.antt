@@ -4,37 +4,14 @@ use mathlib.Core.Logic.{_⊎_, inl, inr}
 use mathlib.Core.List.{List, [], _++_, append-nil}
 use Prim.Native.Nat.{ℕ, _+_, _-_, _≤_, _<_}
 use native.Mathlib.Omega.{arith}
-use lib.ListN.{length, take, drop, length-append, length-drop, take-append-drop}
-use lib.Seq.{take-all, drop-length, take-at, drop-drop, take-append-le, drop-append-le, drop-append-add}
+use lib.ListN.{length, take, drop, length-append}
+use lib.Seq.{drop-length, take-at}
 use Rattle.bytes.specs.Bytes.{number, bytesOf, part, put, zeros}
-use Rattle.bytes.proofs.ByteLaws.{length-bytes, length-part, part-part, part-put-in, length-zeros}
+use Rattle.bytes.proofs.ByteLaws.{length-bytes, length-part, part-front, part-whole, part-part, part-put-in, put-same, length-zeros}
 use Rattle.fields.specs.Layout.{Field, get, store, oldest, storeRecords, bodyIn, strideIn}
 use Rattle.fields.proofs.FieldLaws.{Ends, length-store, stored-bytes, part-store, body-in, stride-early}
 use Rattle.window.specs.Windows.{places, width, emptied, storeWindow}
 use Rattle.protocol.specs.Moves.{carriedRow}
-
--- ---- parts of lists put together
-pub part-front : (a n : ℕ) (xs ys : List ℕ) → a + n ≤ length xs → part a n (xs ++ ys) ≡ part a n xs
-unfolding part
-part-front a n xs ys h = ap (take n) (drop-append-le a xs ys (omega arith)) ∙ take-append-le n (drop a xs) ys (omega (arith, length-drop a xs))
-
-pub part-back : (m k n : ℕ) (xs ys : List ℕ) → length xs ≡ m → part (m + k) n (xs ++ ys) ≡ part k n ys
-unfolding part
-part-back m k n xs ys e = ap (λ (j : ℕ). take n (drop (j + k) (xs ++ ys))) (sym e) ∙ ap (take n) (drop-append-add xs ys k)
-
-pub part-whole : (n : ℕ) (xs : List ℕ) → length xs ≡ n → part 0 n xs ≡ xs
-unfolding part
-part-whole n xs e = take-all n xs (omega arith)
-
--- what is put where it stands already
-put-same : (a n : ℕ) (xs : List ℕ) → a + n ≤ length xs → put a (part a n xs) xs ≡ xs
-unfolding put part
-put-same a n xs h =
-    let l : length (take n (drop a xs)) ≡ n = length-part a n xs h in
-    ap (λ (k : ℕ). take a xs ++ (take n (drop a xs) ++ drop (a + k) xs)) l
-    ∙ ap (λ (ys : List ℕ). take a xs ++ (take n (drop a xs) ++ ys)) (sym (drop-drop n a xs))
-    ∙ ap (λ (ys : List ℕ). take a xs ++ ys) (take-append-drop n (drop a xs))
-    ∙ take-append-drop a xs
 
 -- a row that has no oldest record
 pub oldest-none : (row : List ℕ) → 32 ≤ length row → part 25 1 row ≡ zeros 1 → store oldest 0 row ≡ row

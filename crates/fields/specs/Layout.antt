@@ -91,8 +91,8 @@ unfoldable pub reserved : List ℕ → List ℕ
 reserved row = part 26 6 row
 
 -- the bytes of a row's head that are zero in a table of this form: from the grid mark on in form 1, from the oldest record on in form 2
-unfoldable pub spare : ℕ → List ℕ → List ℕ
-spare f row = cond (eqb f 1) (part 24 8 row) (cond (eqb f 2) (part 25 7 row) (reserved row))
+unfoldable pub reservedIn : ℕ → List ℕ → List ℕ
+reservedIn f row = cond (eqb f 1) (part 24 8 row) (cond (eqb f 2) (part 25 7 row) (reserved row))
 
 -- "After the contents come 16 records of 36 bytes": the contents, between the 32 bytes of the head and the last 576 of the row
 unfoldable pub contents : List ℕ → List ℕ

@@ -1,5 +1,4 @@
 pub mod PathLaws
 pub mod InsertLaws
 pub mod EndLaws
-pub mod EachLaws
 pub mod NameLaws

@@ -12,19 +12,19 @@ use lib.ListN.{length, take, drop, length-append, length-drop, length-take}
 use lib.Seq.{take-append-add, take-all, take-at, drop-at, drop-length, length-take-le}
 use Rattle.sets.specs.Upto.{Within}
 use Rattle.bytes.specs.Bytes.{bytesOf, part, put, zeros}
-use Rattle.bytes.proofs.ByteLaws.{length-bytes, length-part, part-part, bytes-zero, length-zeros}
-use Rattle.blocks.specs.Blocks.{block}
+use Rattle.bytes.proofs.ByteLaws.{length-bytes, length-part, part-front, part-part, bytes-zero, length-zeros}
+use Rattle.blocks.specs.Blocks.{block, inTurn}
 use Rattle.fields.specs.Layout.{store, oldest, bodyIn, strideIn, formOf, capacityOf, usedOf, fileLengthOf, rowLength, rowsEnd, rowBytes}
 use Rattle.fields.proofs.FieldLaws.{body-in, contents-room, rows-small}
 use Rattle.table.specs.WellFormed.{ownForm}
 use Rattle.table.specs.Contracts.{Sized}
 use Rattle.table.proofs.WellFormedLaws.{header, length-is}
 use Rattle.asking.specs.Asking.{firstNo}
-use Rattle.protocol.specs.Moves.{goesOver, allPlain, carriedRow, carriedRows, carried, carriedLength}
+use Rattle.protocol.specs.Moves.{goesOver, allPlain, carriedRow, carried, carriedLength}
 use Rattle.protocol.specs.Calls.{Carrying, Outcome, carry, questions, done, refused, outcome, resultOf, lent}
 use Rattle.protocol.proofs.QuestionLaws.{refusal-is, when-done, when-refused}
-use Rattle.carrying.proofs.RowLaws.{part-front, cleared-long, carried-row-long}
-use Rattle.carrying.proofs.CarryLaws.{wide}
+use Rattle.carrying.proofs.RowLaws.{cleared-long}
+use Rattle.carrying.proofs.CarryLaws.{rowTo, row-to-long}
 use Rattle.carrying.proofs.Formed.{over-is}
 
 -- ---- a row
@@ -67,28 +67,33 @@ length-part-at : (a n : ℕ) (xs : List ℕ) → a + n ≤ length xs → length 
 unfolding part
 length-part-at a n xs h = length-part a n xs h
 
-rows-suc : (to : ℕ) (t : List ℕ) (n : ℕ) → carriedRows to t (suc n) ≡ carriedRows to t n ++ carriedRow to (fileLengthOf t) (rowBytes t (suc n))
-unfolding carriedRows
-rows-suc to t n = refl
+-- ---- one row more: row k + 1 of t goes from there to there, in rows of these lengths
+pub record Turn (t : List ℕ) (form k size width end from to : ℕ) (dest : List ℕ) : Type 0 where
+  pub sized : Sized t
+  pub below : k < capacityOf t
+  pub size-is : size ≡ rowLength t
+  pub width-is : width ≡ strideIn form (fileLengthOf t)
+  pub end-is : end ≡ 32 + fileLengthOf t
+  pub from-is : from ≡ rowsEnd t k
+  pub to-is : to ≡ 16 + k * width
+  pub room : length dest ≡ carriedLength form t
 
--- ---- one row more
-module _ {t : List ℕ} (s : Sized t) (form k : ℕ) (below : k < capacityOf t) (size width end from to : ℕ) (es : size ≡ rowLength t) (ew : width ≡ strideIn form (fileLengthOf t)) (ee : end ≡ 32 + fileLengthOf t)
-    (ef : from ≡ rowsEnd t k) (et : to ≡ 16 + k * width) (dest : List ℕ) (el : length dest ≡ carriedLength form t) where
+module _ {t : List ℕ} {form k size width end from to : ℕ} {dest : List ℕ} (x : Turn t form k size width end from to dest) where
   pub from-fits : from + size ≤ length t
   unfolding rowsEnd
-  from-fits = omega (arith, length-is s, ef, es, mul-le-mul-right {m = suc k} {n = capacityOf t} (rowLength t) below)
+  from-fits = omega (arith, length-is (x .sized), x .from-is, x .size-is, mul-le-mul-right {m = suc k} {n = capacityOf t} (rowLength t) (x .below))
 
   pub to-fits : to + width ≤ length dest
   unfolding carriedLength
-  to-fits = omega (arith, el, et, ap (λ (w : ℕ). k * w) ew, ew, mul-le-mul-right {m = suc k} {n = capacityOf t} (strideIn form (fileLengthOf t)) below)
+  to-fits = omega (arith, x .room, x .to-is, ap (λ (w : ℕ). k * w) (x .width-is), x .width-is, mul-le-mul-right {m = suc k} {n = capacityOf t} (strideIn form (fileLengthOf t)) (x .below))
 
   pub end-fits : (32 ≤ end) × (end ≤ size) × (end ≤ width)
   unfolding strideIn
-  end-fits = omega (arith, ee, es, ew, contents-room t, body-in form (fileLengthOf t))
+  end-fits = omega (arith, x .end-is, x .size-is, x .width-is, contents-room t, body-in form (fileLengthOf t))
 
   slice : take ((from + size) - from) (drop from t) ≡ rowBytes t (suc k)
   unfolding rowBytes block part rowsEnd
-  slice = let c : (from + size) - from ≡ size = omega arith in rw (c, ef, es)
+  slice = let c : (from + size) - from ≡ size = omega arith in rw (c, x .from-is, x .size-is)
 
   pub from-long : length (take ((from + size) - from) (drop from t)) ≡ size
   from-long = let c : (from + size) - from ≡ size = omega arith in rw c (length-part-at from size t from-fits)
@@ -97,22 +102,23 @@ module _ {t : List ℕ} (s : Sized t) (form k : ℕ) (below : k < capacityOf t) 
   to-long = let c : (to + width) - to ≡ width = omega arith in rw c (length-part-at to width dest to-fits)
 
   module _ (new : List ℕ) (en : new ≡ store oldest 0 (part 0 end (take ((from + size) - from) (drop from t))) ++ zeros (length (take ((to + width) - to) (drop to dest)) - end)) where
-    new-is : new ≡ carriedRow form (fileLengthOf t) (rowBytes t (suc k))
+    new-is : new ≡ rowTo form t (suc k)
     unfolding carriedRow strideIn
     new-is =
-        let n : length (take ((to + width) - to) (drop to dest)) - end ≡ bodyIn form (fileLengthOf t) - fileLengthOf t = omega (arith, to-long, ew, ee) in
-        en ∙ ap₂ (λ (a : List ℕ) (b : ℕ). store oldest 0 a ++ zeros b) (ap₂ (λ (m : ℕ) (l : List ℕ). part 0 m l) ee slice) n
+        let n : length (take ((to + width) - to) (drop to dest)) - end ≡ bodyIn form (fileLengthOf t) - fileLengthOf t = omega (arith, to-long, x .width-is, x .end-is) in
+        en ∙ ap₂ (λ (a : List ℕ) (b : ℕ). store oldest 0 a ++ zeros b) (ap₂ (λ (m : ℕ) (l : List ℕ). part 0 m l) (x .end-is) slice) n
 
     new-long : length new ≡ width
-    new-long = ap length new-is ∙ carried-row-long form (fileLengthOf t) (rowBytes t (suc k)) (wide s (suc k) (omega arith)) ∙ sym ew
+    new-long = ap length new-is ∙ row-to-long (x .sized) form (suc k) (omega (arith, x .below)) ∙ sym (x .width-is)
 
-    pub row-turn : (head : List ℕ) → take to dest ≡ head ++ carriedRows form t k → take (to + width) (take to dest ++ (new ++ drop ((to + width) - to) (drop to dest))) ≡ head ++ carriedRows form t (k + 1)
+    pub row-turn : (head : List ℕ) → take to dest ≡ head ++ inTurn k (rowTo form t) → take (to + width) (take to dest ++ (new ++ drop ((to + width) - to) (drop to dest))) ≡ head ++ inTurn (k + 1) (rowTo form t)
+    unfolding inTurn
     row-turn head e =
         let lt : length (take to dest) ≡ to = length-take-le to dest (omega (arith, to-fits)) in
         ap (take (to + width)) (sym (append-assoc (take to dest) new (drop ((to + width) - to) (drop to dest))))
         ∙ take-at (take to dest ++ new) (drop ((to + width) - to) (drop to dest)) (to + width) (length-append (take to dest) new ∙ omega (arith, new-long))
-        ∙ ap₂ (λ (a b : List ℕ). a ++ b) e new-is ∙ append-assoc head (carriedRows form t k) (carriedRow form (fileLengthOf t) (rowBytes t (suc k)))
-        ∙ ap (λ (l : List ℕ). head ++ l) (sym (rows-suc form t k) ∙ ap (carriedRows form t) (sym (add-one k)))
+        ∙ ap₂ (λ (a b : List ℕ). a ++ b) e new-is ∙ append-assoc head (inTurn k (rowTo form t)) (rowTo form t (suc k))
+        ∙ ap (λ (n : ℕ). head ++ inTurn n (rowTo form t)) (sym (add-one k))
 
     pub turn-long : length (take to dest ++ (new ++ drop ((to + width) - to) (drop to dest))) ≡ length dest
     turn-long =
@@ -125,9 +131,9 @@ unfolding carriedLength
 to-end t form to k width dest et ek ew el = omega (arith, ap₂ (λ (a b : ℕ). a * b) ek ew)
 
 -- all rows
-pub all-carried : (t dest : List ℕ) (form to k : ℕ) → k ≡ capacityOf t → length dest ≤ to → take to dest ≡ (bytesOf 1 form ++ part 1 15 t) ++ carriedRows form t k → dest ≡ carried form t
+pub all-carried : (t dest : List ℕ) (form to k : ℕ) → k ≡ capacityOf t → length dest ≤ to → take to dest ≡ (bytesOf 1 form ++ part 1 15 t) ++ inTurn k (rowTo form t) → dest ≡ carried form t
 unfolding carried
-all-carried t dest form to k e h q = sym (take-all to dest h) ∙ q ∙ ap (λ (n : ℕ). (bytesOf 1 form ++ part 1 15 t) ++ carriedRows form t n) e ∙ append-assoc (bytesOf 1 form) (part 1 15 t) (carriedRows form t (capacityOf t))
+all-carried t dest form to k e h q = sym (take-all to dest h) ∙ q ∙ ap (λ (n : ℕ). (bytesOf 1 form ++ part 1 15 t) ++ inTurn n (rowTo form t)) e ∙ append-assoc (bytesOf 1 form) (part 1 15 t) (inTurn (capacityOf t) (rowTo form t))
 
 -- ---- the questions by their answers
 module _ (t : List ℕ) (a : Carrying) where

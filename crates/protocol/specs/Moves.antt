@@ -1,11 +1,12 @@
 -- Season tables carried over: "Tables of forms 1 and 2 move to form 3 with empty windows, and back." The forms are named by number, not as the
 -- newest: a later form changes nothing here.
 use mathlib.Core.Bool.{Bool, _&&_, _||_}
-use mathlib.Core.List.{List, [], _++_}
-use Prim.Native.Nat.{ℕ, zero, suc, _+_, _-_, _*_}
+use mathlib.Core.List.{List, _++_}
+use Prim.Native.Nat.{ℕ, _+_, _-_, _*_}
 use lib.Dec.{eqb}
 use Rattle.sets.specs.Upto.{every}
 use Rattle.bytes.specs.Bytes.{bytesOf, part, zeros}
+use Rattle.blocks.specs.Blocks.{inTurn}
 use Rattle.fields.specs.Layout.{store, oldest, bodyIn, strideIn, capacityOf, usedOf, fileLengthOf, rowBytes}
 use Rattle.table.specs.WellFormed.{between, plain}
 
@@ -22,14 +23,9 @@ allPlain t = every (usedOf t) (λ i. plain (rowBytes t i))
 unfoldable pub carriedRow : ℕ → ℕ → List ℕ → List ℕ
 carriedRow to fileLength row = store oldest 0 (part 0 (32 + fileLength) row) ++ zeros (bodyIn to fileLength - fileLength)
 
--- rows 1 to n, used or not
-unfoldable pub carriedRows : ℕ → List ℕ → ℕ → List ℕ
-carriedRows to t zero = []
-carriedRows to t (suc n) = carriedRows to t n ++ carriedRow to (fileLengthOf t) (rowBytes t (suc n))
-
--- the table of that form: but for byte 0 the header stays
+-- the table of that form: but for byte 0 the header stays, and every row is carried over, used or not
 unfoldable pub carried : ℕ → List ℕ → List ℕ
-carried to t = bytesOf 1 to ++ (part 1 15 t ++ carriedRows to t (capacityOf t))
+carried to t = bytesOf 1 to ++ (part 1 15 t ++ inTurn (capacityOf t) (λ i. carriedRow to (fileLengthOf t) (rowBytes t i)))
 
 unfoldable pub carriedLength : ℕ → List ℕ → ℕ
 carriedLength to t = 16 + capacityOf t * strideIn to (fileLengthOf t)

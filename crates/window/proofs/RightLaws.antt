@@ -19,7 +19,7 @@ use Rattle.blocks.specs.Blocks.{block}
 use Rattle.blocks.proofs.BlockLaws.{length-block}
 use Rattle.linking.specs.Linking.{behind}
 use Rattle.linking.proofs.PathLaws.{Path, path-of, path-rows}
-use Rattle.linking.proofs.EachLaws.{only-those}
+use Rattle.sets.proofs.EachLaws.{only-those}
 use Rattle.window.specs.Windows.{Window, places, width, recordOf, next, path, recordRight, windowRight, free}
 use Rattle.window.specs.Claims.{Whole}
 use Rattle.window.proofs.PatchLaws.{used-record}

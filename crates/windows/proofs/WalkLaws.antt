@@ -20,7 +20,7 @@ use Rattle.blocks.specs.Blocks.{block}
 use Rattle.fields.specs.Layout.{get}
 use Rattle.linking.specs.Linking.{chain}
 use Rattle.linking.proofs.PathLaws.{chain-zero, chain-suc}
-use Rattle.linking.proofs.EachLaws.{only-those}
+use Rattle.sets.proofs.EachLaws.{only-those}
 use Rattle.window.specs.Windows.{Window, places, width, younger, size, start, recordOf, next, path, recordRight, windowRight}
 use Rattle.windows.specs.Visits.{window, visits}
 

@@ -7,33 +7,39 @@ use lib.ListN.{length, take}
 use Rattle.bytes.specs.Bytes.{bytesOf, part}
 use Rattle.fields.specs.Layout.{strideIn, capacityOf, fileLengthOf, rowLength, rowsEnd}
 use Rattle.table.proofs.WellFormedLaws.{header, long}
-use Rattle.protocol.specs.Moves.{carriedRows, carriedLength}
-use Rattle.moves.proofs.MoveLaws.{from-fits, to-fits, end-fits, from-long, to-long, row-turn, turn-long, to-end, all-carried}
+use Rattle.protocol.specs.Moves.{carriedLength}
+use Rattle.blocks.specs.Blocks.{inTurn}
+use Rattle.carrying.proofs.CarryLaws.{rowTo}
+use Rattle.moves.proofs.MoveLaws.{Turn, from-fits, to-fits, end-fits, from-long, to-long, row-turn, turn-long, to-end, all-carried}
 use Rattle.moves.proofs.carry_table.Statement.{statement}
 use Rattle.moves.proofs.carry_table.Tie as tie
 
 abbrev Inv-loop : tie.InvT-loop
 Inv-loop dest₀ t form file capacity size width end from₀ to₀ k₀ dest from to k =
-    (k ≤ capacity) × (from ≡ rowsEnd t k) × (to ≡ 16 + k * width) × (length dest ≡ length dest₀) × (take to dest ≡ (bytesOf 1 form ++ part 1 15 t) ++ carriedRows form t k)
+    (k ≤ capacity) × (from ≡ rowsEnd t k) × (to ≡ 16 + k * width) × (length dest ≡ length dest₀) × (take to dest ≡ (bytesOf 1 form ++ part 1 15 t) ++ inTurn k (rowTo form t))
 
 abbrev μ-loop : tie.MeasureT-loop
 μ-loop dest₀ t form file capacity size width end from₀ to₀ k₀ dest from to k = capacity - k
 
 -- what is known in the turn of row k + 1
-below : (l : tie.In-loop Inv-loop μ-loop) → l .before .loop .k < capacityOf (l .before .before .before .before .before .before .before .before .before .before .before .before .args .t .now)
-below l = omega (arith, l .loop-test .taken, l .before .before .before .before .before .before .before .before .capacity .ensures)
-
-size-is : (l : tie.In-loop Inv-loop μ-loop) → l .before .before .before .before .before .before .before .row-length .result ≡ rowLength (l .before .before .before .before .before .before .before .before .before .before .before .before .args .t .now)
-size-is l = l .before .before .before .before .before .before .before .row-length .ensures
-
-width-is : (l : tie.In-loop Inv-loop μ-loop) → l .before .before .before .before .before .before .size-in .result ≡ strideIn (l .before .before .before .before .before .before .before .before .before .before .before .before .args .form) (fileLengthOf (l .before .before .before .before .before .before .before .before .before .before .before .before .args .t .now))
-width-is l = l .before .before .before .before .before .before .size-in .ensures ∙ ap (strideIn (l .before .before .before .before .before .before .before .before .before .before .before .before .args .form)) (l .before .before .before .before .before .before .before .before .before .file-length .ensures)
-
-end-is : (l : tie.In-loop Inv-loop μ-loop) → 32 + l .before .before .before .before .before .before .before .before .before .file-length .result ≡ 32 + fileLengthOf (l .before .before .before .before .before .before .before .before .before .before .before .before .args .t .now)
-end-is l = ap (λ (n : ℕ). 32 + n) (l .before .before .before .before .before .before .before .before .before .file-length .ensures)
-
-dest-is : (l : tie.In-loop Inv-loop μ-loop) → length (l .before .loop .dest) ≡ carriedLength (l .before .before .before .before .before .before .before .before .before .before .before .before .args .form) (l .before .before .before .before .before .before .before .before .before .before .before .before .args .t .now)
-dest-is l = l .before .loop .inv .3 ∙ l .before .before .before .before .carry-head .kept .0 ∙ l .before .before .before .before .before .before .before .before .before .before .before .before .pre .1
+turn : (l : tie.In-loop Inv-loop μ-loop)
+    → let file = l .before .before .before .before .before .before .before .before .before in
+    let start = file .before .before .before in
+    Turn (start .args .t .now) (start .args .form) (l .before .loop .k) (l .before .before .before .before .before .before .before .row-length .result) (l .before .before .before .before .before .before .size-in .result) (32 + file .file-length .result) (l .before .loop .from) (l .before .loop .to) (l .before .loop .dest)
+turn l =
+    let file = l .before .before .before .before .before .before .before .before .before in
+    let start = file .before .before .before in
+    let loop = l .before .loop in
+    record {
+      sized = start .pre .0;
+      below = omega (arith, l .loop-test .taken, l .before .before .before .before .before .before .before .before .capacity .ensures);
+      size-is = l .before .before .before .before .before .before .before .row-length .ensures;
+      width-is = l .before .before .before .before .before .before .size-in .ensures ∙ ap (strideIn (start .args .form)) (file .file-length .ensures);
+      end-is = ap (λ (n : ℕ). 32 + n) (file .file-length .ensures);
+      from-is = loop .inv .1;
+      to-is = loop .inv .2;
+      room = loop .inv .3 ∙ l .before .before .before .before .carry-head .kept .0 ∙ start .pre .1;
+    }
 
 file-length-requires : tie.Need-file-length-requires Inv-loop μ-loop
 file-length-requires c κs = long (c .before .before .pre .0)
@@ -55,11 +61,11 @@ unfolding carriedLength
 carry-head-requires c κs = let s = c .before .before .before .before .before .before .before in (omega (arith, s .pre .1), long (s .pre .0))
 
 loop-holds : tie.Need-loop-holds Inv-loop μ-loop
-unfolding rowsEnd carriedRows
+unfolding rowsEnd inTurn
 loop-holds c = (omega arith, omega arith, omega arith, refl, c .before .before .carry-head .ensures ∙ sym (append-nil _))
 
 add-carry-row : tie.Need-add-carry-row Inv-loop μ-loop
-add-carry-row c = omega (arith, to-fits ((c .before .before .before .before .before .before .before .before .before .before .before .before) .pre .0) ((c .before .before .before .before .before .before .before .before .before .before .before .before) .args .form) (c .before .loop .k) (below (c)) _ _ _ _ _ (size-is (c)) (width-is (c)) (end-is (c)) (c .before .loop .inv .1) (c .before .loop .inv .2) (c .before .loop .dest) (dest-is (c)))
+add-carry-row c = omega (arith, to-fits (turn c))
 
 sub-carry-row : tie.Need-sub-carry-row Inv-loop μ-loop
 sub-carry-row c = search needs
@@ -68,10 +74,10 @@ part-carry-row-start : tie.Need-part-carry-row-start Inv-loop μ-loop
 part-carry-row-start c = search needs
 
 part-carry-row-end : tie.Need-part-carry-row-end Inv-loop μ-loop
-part-carry-row-end c = omega (arith, to-fits ((c .before .before .before .before .before .before .before .before .before .before .before .before) .pre .0) ((c .before .before .before .before .before .before .before .before .before .before .before .before) .args .form) (c .before .loop .k) (below (c)) _ _ _ _ _ (size-is (c)) (width-is (c)) (end-is (c)) (c .before .loop .inv .1) (c .before .loop .inv .2) (c .before .loop .dest) (dest-is (c)))
+part-carry-row-end c = omega (arith, to-fits (turn c))
 
 add-carry-row-2 : tie.Need-add-carry-row-2 Inv-loop μ-loop
-add-carry-row-2 c = let l = c .before in omega (arith, from-fits ((l .before .before .before .before .before .before .before .before .before .before .before .before) .pre .0) ((l .before .before .before .before .before .before .before .before .before .before .before .before) .args .form) (l .before .loop .k) (below (l)) _ _ _ _ _ (size-is (l)) (width-is (l)) (end-is (l)) (l .before .loop .inv .1) (l .before .loop .inv .2) (l .before .loop .dest) (dest-is (l)))
+add-carry-row-2 c = let l = c .before in omega (arith, from-fits (turn l))
 
 sub-carry-row-2 : tie.Need-sub-carry-row-2 Inv-loop μ-loop
 sub-carry-row-2 c = search needs
@@ -80,19 +86,19 @@ part-carry-row-start-2 : tie.Need-part-carry-row-start-2 Inv-loop μ-loop
 part-carry-row-start-2 c = search needs
 
 part-carry-row-end-2 : tie.Need-part-carry-row-end-2 Inv-loop μ-loop
-part-carry-row-end-2 c = let l = c .before in omega (arith, from-fits ((l .before .before .before .before .before .before .before .before .before .before .before .before) .pre .0) ((l .before .before .before .before .before .before .before .before .before .before .before .before) .args .form) (l .before .loop .k) (below (l)) _ _ _ _ _ (size-is (l)) (width-is (l)) (end-is (l)) (l .before .loop .inv .1) (l .before .loop .inv .2) (l .before .loop .dest) (dest-is (l)))
+part-carry-row-end-2 c = let l = c .before in omega (arith, from-fits (turn l))
 
 carry-row-requires : tie.Need-carry-row-requires Inv-loop μ-loop
 carry-row-requires c κs =
     let l = c .before .before in
-    let e = end-fits ((l .before .before .before .before .before .before .before .before .before .before .before .before) .pre .0) ((l .before .before .before .before .before .before .before .before .before .before .before .before) .args .form) (l .before .loop .k) (below (l)) _ _ _ _ _ (size-is (l)) (width-is (l)) (end-is (l)) (l .before .loop .inv .1) (l .before .loop .inv .2) (l .before .loop .dest) (dest-is (l)) in
-    (e .0, omega (arith, e, from-long ((l .before .before .before .before .before .before .before .before .before .before .before .before) .pre .0) ((l .before .before .before .before .before .before .before .before .before .before .before .before) .args .form) (l .before .loop .k) (below (l)) _ _ _ _ _ (size-is (l)) (width-is (l)) (end-is (l)) (l .before .loop .inv .1) (l .before .loop .inv .2) (l .before .loop .dest) (dest-is (l))), omega (arith, e, to-long ((l .before .before .before .before .before .before .before .before .before .before .before .before) .pre .0) ((l .before .before .before .before .before .before .before .before .before .before .before .before) .args .form) (l .before .loop .k) (below (l)) _ _ _ _ _ (size-is (l)) (width-is (l)) (end-is (l)) (l .before .loop .inv .1) (l .before .loop .inv .2) (l .before .loop .dest) (dest-is (l))))
+    let e = end-fits (turn l) in
+    (e .0, omega (arith, e, from-long (turn l)), omega (arith, e, to-long (turn l)))
 
 add-from : tie.Need-add-from Inv-loop μ-loop
-add-from c = let l = c .before .before .before .before .before in omega (arith, from-fits ((l .before .before .before .before .before .before .before .before .before .before .before .before) .pre .0) ((l .before .before .before .before .before .before .before .before .before .before .before .before) .args .form) (l .before .loop .k) (below (l)) _ _ _ _ _ (size-is (l)) (width-is (l)) (end-is (l)) (l .before .loop .inv .1) (l .before .loop .inv .2) (l .before .loop .dest) (dest-is (l)))
+add-from c = let l = c .before .before .before .before .before in omega (arith, from-fits (turn l))
 
 add-to : tie.Need-add-to Inv-loop μ-loop
-add-to c = let l = c .before .before .before .before .before in omega (arith, to-fits ((l .before .before .before .before .before .before .before .before .before .before .before .before) .pre .0) ((l .before .before .before .before .before .before .before .before .before .before .before .before) .args .form) (l .before .loop .k) (below (l)) _ _ _ _ _ (size-is (l)) (width-is (l)) (end-is (l)) (l .before .loop .inv .1) (l .before .loop .inv .2) (l .before .loop .dest) (dest-is (l)))
+add-to c = let l = c .before .before .before .before .before in omega (arith, to-fits (turn l))
 
 add-k : tie.Need-add-k Inv-loop μ-loop
 add-k c = search needs
@@ -106,10 +112,10 @@ loop-again c =
     let l = c .before .before .before .before .before in
     let row = c .before .before .carry-row in (
       omega (arith, l .loop-test .taken),
-      omega (arith, l .before .loop .inv .1, size-is l),
+      omega (arith, l .before .loop .inv .1, turn l .size-is),
       omega (arith, l .before .loop .inv .2),
-      turn-long ((l .before .before .before .before .before .before .before .before .before .before .before .before) .pre .0) ((l .before .before .before .before .before .before .before .before .before .before .before .before) .args .form) (l .before .loop .k) (below (l)) _ _ _ _ _ (size-is (l)) (width-is (l)) (end-is (l)) (l .before .loop .inv .1) (l .before .loop .inv .2) (l .before .loop .dest) (dest-is (l)) _ (row .ensures) ∙ l .before .loop .inv .3,
-      row-turn ((l .before .before .before .before .before .before .before .before .before .before .before .before) .pre .0) ((l .before .before .before .before .before .before .before .before .before .before .before .before) .args .form) (l .before .loop .k) (below (l)) _ _ _ _ _ (size-is (l)) (width-is (l)) (end-is (l)) (l .before .loop .inv .1) (l .before .loop .inv .2) (l .before .loop .dest) (dest-is (l)) _ (row .ensures) (bytesOf 1 (l .before .before .before .before .before .before .before .before .before .before .before .before .args .form) ++ part 1 15 (l .before .before .before .before .before .before .before .before .before .before .before .before .args .t .now)) (l .before .loop .inv .4),
+      turn-long (turn l) _ (row .ensures) ∙ l .before .loop .inv .3,
+      row-turn (turn l) _ (row .ensures) (bytesOf 1 (l .before .before .before .before .before .before .before .before .before .before .before .before .args .form) ++ part 1 15 (l .before .before .before .before .before .before .before .before .before .before .before .before .args .t .now)) (l .before .loop .inv .4),
     )
 
 same-length : tie.Need-same-length Inv-loop μ-loop

@@ -5,23 +5,23 @@ use Prim.Native.Nat.{ℕ}
 use lib.Dec.{eqb}
 use borrow.Author.Tests.{ne-eqb}
 use borrow.Author.Needs.{needs}
-use Rattle.bytes.specs.Bytes.{number, part, allZero}
-use Rattle.bytes.proofs.CodeLaws.{zero-number, zero-numbers}
-use Rattle.fields.specs.Layout.{get, oldest, reserved, spare}
-use Rattle.values.proofs.spare_zero.Statement.{statement}
-use Rattle.values.proofs.spare_zero.Tie as tie
+use Rattle.bytes.specs.Bytes.{part, allZero}
+use Rattle.bytes.proofs.CodeLaws.{zero-number}
+use Rattle.fields.specs.Layout.{get, oldest, reserved, reservedIn}
+use Rattle.table.proofs.FormLaws.{reserved-old}
+use Rattle.values.proofs.reserved_zero.Statement.{statement}
+use Rattle.values.proofs.reserved_zero.Tie as tie
 
-in-one : (f : ℕ) (row : List ℕ) → f ≡ 1 → allZero (part 24 8 row) ≡ allZero (spare f row)
-unfolding spare
-in-one f row e = sym (ap (λ (g : ℕ). allZero (spare g row)) e)
+in-one : (f : ℕ) (row : List ℕ) → f ≡ 1 → allZero (part 24 8 row) ≡ allZero (reservedIn f row)
+unfolding reservedIn
+in-one f row e = sym (ap (λ (g : ℕ). allZero (reservedIn g row)) e)
 
-in-two : (f : ℕ) (row : List ℕ) → f ≡ 2 → (eqb (get oldest row) 0 && allZero (part 26 6 row)) ≡ allZero (spare f row)
-unfolding spare get oldest
-in-two f row e =
-    ap (λ (b : Bool). eqb (number (part 25 1 row)) 0 && b) (sym (zero-number (part 26 6 row))) ∙ zero-numbers 25 1 6 row ∙ sym (ap (λ (g : ℕ). allZero (spare g row)) e)
+in-two : (f : ℕ) (row : List ℕ) → f ≡ 2 → (eqb (get oldest row) 0 && allZero (part 26 6 row)) ≡ allZero (reservedIn f row)
+unfolding reservedIn reserved
+in-two f row e = reserved-old row ∙ sym (ap (λ (g : ℕ). allZero (reservedIn g row)) e)
 
-later : (f : ℕ) (row : List ℕ) → (f ≡ 1 → ⊥) → (f ≡ 2 → ⊥) → allZero (part 26 6 row) ≡ allZero (spare f row)
-unfolding spare reserved
+later : (f : ℕ) (row : List ℕ) → (f ≡ 1 → ⊥) → (f ≡ 2 → ⊥) → allZero (part 26 6 row) ≡ allZero (reservedIn f row)
+unfolding reservedIn reserved
 later f row e q = rw (ne-eqb f 1 e, ne-eqb f 2 q)
 
 u64-at-requires : tie.Need-u64-at-requires
@@ -50,8 +50,8 @@ rest-zero-requires-2 c κs = search needs
 returns-3 : tie.Need-returns-3
 returns-3 c = c .rest-zero2 .ensures ∙ later _ _ (c .before .before .if1 .left) (c .before .if2 .left)
 
-pub spare-zero-spec : {M : Type 1} → statement M
-spare-zero-spec =
+pub reserved-zero-spec : {M : Type 1} → statement M
+reserved-zero-spec =
     tie.close
     (tie.spec
     u64-at-requires
