@@ -1,15 +1,16 @@
 -- Beyond demand 3: what else is claimed of every founded history.
 use mathlib.Core.Path.{_≡_}
-use mathlib.Core.Bool.{true, false, cond, _||_}
+use mathlib.Core.Bool.{Bool, true, false, cond, _||_}
 use mathlib.Core.List.{List, [], _∷_}
-use Prim.Native.Nat.{ℕ, _≤_}
-use lib.Dec.{eqb}
+use Prim.Native.Nat.{ℕ, _+_, _≤_}
+use lib.Dec.{eqb, leb}
+use lib.ListN.{length}
 use Rattle.sets.specs.Upto.{Within, count}
 use Rattle.sets.specs.Sets.{has, losing}
 use Rattle.quorums.specs.declared.Kind.{Kind}
 use Rattle.quorums.specs.declared.Kind.the-variants.{Read, Write}
 use Rattle.fields.specs.Layout.{usedOf, rowBytes, staleOf, versionOf, desiredOf, contentsOf}
-use Rattle.window.specs.Windows.{Kept, windowOf}
+use Rattle.window.specs.Windows.{Kept, patches, windowOf}
 use Rattle.table.specs.WellFormed.{wellFormed}
 use Rattle.asking.specs.Asking.{firstNo, before}
 use Rattle.protocol.specs.Calls.{Founding, Reading, Writing, Sending, Checking, Call, founding, read, write, send, check, questions, outcome}
@@ -58,6 +59,19 @@ SendsAreWhole = (t : List ℕ) (b : Book) → Reached t b → (a : Sending) → 
 -- there, rows of one version keep the same, window bytes and all
 unfoldable pub KeptByVersion : Type 0
 KeptByVersion = (t : List ℕ) (b : Book) → Reached t b → (i j : ℕ) → Within (usedOf t) i → Within (usedOf t) j → versionOf t i ≡ versionOf t j → keptOf t i ≡ keptOf t j
+
+-- both ways are met with: a done send to a row n versions behind, and whether the sender's window reaches back so far
+pub record SendBehind (n : ℕ) (reaches : Bool) : Type 0 where
+  pub table : List ℕ
+  pub book : Book
+  pub reached : Reached table book
+  pub call : Sending
+  pub behind : versionOf table (call .t) + n ≡ versionOf table (call .f)
+  pub done : outcome table (send call) .refusal ≡ 0
+  pub way : leb n (length (patches (windowOf (rowBytes table (call .f))))) ≡ reaches
+
+unfoldable pub BothWaysMet : Type 0
+BothWaysMet = SendBehind 16 true × SendBehind 17 false
 
 -- ---- "One machine lost"
 -- "a list of four or more .. in force, a check by all its members but one, some one of them having every done write": x is not there, and 1 to 3 are passed

@@ -1,0 +1,1 @@
+// Founded histories, computed over bytes, in which the premises of claims are met.
