@@ -15,7 +15,7 @@ use Rattle.fields.proofs.FieldLaws.{contents-room}
 use Rattle.table.specs.Contracts.{Sized}
 use Rattle.table.proofs.TableLaws.{row-long}
 use Rattle.table.proofs.WellFormedLaws.{long, rows-in}
-use Rattle.protocol.specs.Moves.{carriedRow, carried, carriedLength}
+use Rattle.carrying.specs.Moves.{carriedRow, carried, carriedLength}
 use Rattle.carrying.proofs.RowLaws.{carried-row-long, row-twice}
 
 -- row i of t carried over

@@ -27,10 +27,8 @@ use Rattle.table.specs.Contracts.{Sized}
 use Rattle.table.specs.WellFormed.{between, ownForm, headerValues, lengthRight, rowValues, numbersSmall, desiredRight, listRight, gridRight, plain, plainRight, keptRight, rowRight, visitsEach, namesRise, unusedZero, listsAgree, tallRight}
 use Rattle.table.proofs.FormLaws.{between-is, is-between, reserved-split, row-reserved}
 use Rattle.table.proofs.WellFormedLaws.{own-sized, own-linked, row-right, header, length-is}
-use Rattle.protocol.specs.Moves.{goesOver, allPlain, carriedRow, carried, carriedLength}
-use Rattle.protocol.specs.Calls.{Outcome, carry, done}
-use Rattle.protocol.proofs.QuestionLaws.{refusal-is, when-done, carry-yes}
-use Rattle.carrying.specs.Claims.{CarriedFormed}
+use Rattle.carrying.specs.Moves.{goesOver, allPlain, carriedRow, carried, carriedLength}
+use Rattle.carrying.specs.Claims.{CarriedRight}
 use Rattle.carrying.proofs.RowLaws.{front-long, oldest-none, carried-row-long, carried-part, carried-byte, carried-get}
 use Rattle.carrying.proofs.CarryLaws.{rowTo, room, wide, row-to-long, head, head-long, carried-is, carried-size, carried-header, carried-form, carried-capacity, carried-used, carried-first, carried-file, carried-length, carried-row}
 use Rattle.carrying.proofs.Carried.{unused-row, byte-of, own-zero}
@@ -290,17 +288,14 @@ module _ (t : List ℕ) (to : ℕ) (own : ownForm t ≡ true) (over : Over (form
       agreed
       (tall-new ∙ and-r (every (usedOf t) (λ i. every (usedOf t) (λ j. listsAgree (rowBytes t i) (rowBytes t j)))) _ e6)))))))
 
-pub carried-formed : CarriedFormed
-unfolding CarriedFormed done
-carried-formed t a h =
-    let y = carry-yes t a (sym (refusal-is t (carry a)) ∙ h) in
-    let o = when-done t (carry a) h in
-    let over = over-is (formOf t) (a .form) (y .over) in
-    let s = own-sized (y .own) in
+pub carried-right : CarriedRight
+unfolding CarriedRight
+carried-right t to own plain-one e =
+    let over = over-is (formOf t) to e in
+    let s = own-sized own in
     record {
-      table = ap (λ (x : Outcome). x .table) o;
-      value = ap (λ (x : Outcome). x .value) o ∙ sym (ap usedOf (ap (λ (x : Outcome). x .buffer) o) ∙ carried-used s (a .form));
-      long = ap length (ap (λ (x : Outcome). x .buffer) o) ∙ carried-size s (a .form) ∙ sym (y .long);
-      form = ap formOf (ap (λ (x : Outcome). x .buffer) o) ∙ carried-form s (a .form) (small t (a .form) (y .own) over (y .plain));
-      own = ap ownForm (ap (λ (x : Outcome). x .buffer) o) ∙ formed-new t (a .form) (y .own) over (y .plain);
+      form = carried-form s to (small t to own over plain-one);
+      used = carried-used s to;
+      long = carried-size s to;
+      own = formed-new t to own over plain-one;
     }

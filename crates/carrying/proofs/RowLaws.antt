@@ -11,7 +11,7 @@ use Rattle.bytes.proofs.ByteLaws.{length-bytes, length-part, part-front, part-w
 use Rattle.fields.specs.Layout.{Field, get, store, oldest, storeRecords, bodyIn, strideIn}
 use Rattle.fields.proofs.FieldLaws.{Ends, length-store, stored-bytes, part-store, body-in, stride-early}
 use Rattle.window.specs.Windows.{places, width, emptied, storeWindow}
-use Rattle.protocol.specs.Moves.{carriedRow}
+use Rattle.carrying.specs.Moves.{carriedRow}
 
 -- a row that has no oldest record
 pub oldest-none : (row : List ℕ) → 32 ≤ length row → part 25 1 row ≡ zeros 1 → store oldest 0 row ≡ row

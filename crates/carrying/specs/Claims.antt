@@ -1,4 +1,4 @@
--- What is claimed of a move, as statements; the proofs are in proofs/.
+-- What is claimed of a table carried over, as statements; the proofs are in proofs/.
 use mathlib.Core.Path.{_≡_}
 use mathlib.Core.Bool.{true}
 use mathlib.Core.List.{List}
@@ -8,8 +8,7 @@ use Rattle.sets.specs.Upto.{Within}
 use Rattle.fields.specs.Layout.{formOf, capacityOf, usedOf, withRows}
 use Rattle.window.specs.Windows.{emptied, storeWindow}
 use Rattle.table.specs.WellFormed.{ownForm}
-use Rattle.protocol.specs.Moves.{carried}
-use Rattle.protocol.specs.Calls.{Carrying, carry, outcome}
+use Rattle.carrying.specs.Moves.{goesOver, allPlain, carried, carriedLength}
 
 -- "Up and down gives the original bytes"
 unfoldable pub UpDown : Type 0
@@ -19,13 +18,13 @@ UpDown = (t : List ℕ) → ownForm t ≡ true → Within 2 (formOf t) → carri
 unfoldable pub DownUp : Type 0
 DownUp = (t : List ℕ) (to : ℕ) → ownForm t ≡ true → formOf t ≡ 3 → Within 2 to → carried 3 (carried to t) ≡ withRows t (λ i. true) (λ i. storeWindow emptied) (capacityOf t)
 
--- a done move leaves the table as it is, and in the second buffer, which it fills, a table that is right by its own form, the one asked for
-pub record MovedOver (t : List ℕ) (a : Carrying) : Type 0 where
-  pub table : outcome t (carry a) .table ≡ t
-  pub value : outcome t (carry a) .value ≡ usedOf (outcome t (carry a) .buffer)
-  pub long : length (outcome t (carry a) .buffer) ≡ length (a .dest)
-  pub form : formOf (outcome t (carry a) .buffer) ≡ a .form
-  pub own : ownForm (outcome t (carry a) .buffer) ≡ true
+-- u is a table of that form, right by it, with as many used rows as t, and as long as the second buffer must be
+pub record RightIn (to : ℕ) (t u : List ℕ) : Type 0 where
+  pub form : formOf u ≡ to
+  pub used : usedOf u ≡ usedOf t
+  pub long : length u ≡ carriedLength to t
+  pub own : ownForm u ≡ true
 
-unfoldable pub CarriedFormed : Type 0
-CarriedFormed = (t : List ℕ) (a : Carrying) → outcome t (carry a) .refusal ≡ 0 → MovedOver t a
+-- what a table that passes a move's questions becomes
+unfoldable pub CarriedRight : Type 0
+CarriedRight = (t : List ℕ) (to : ℕ) → ownForm t ≡ true → (to ≡ 1 → allPlain t ≡ true) → goesOver (formOf t) to ≡ true → RightIn to t (carried to t)

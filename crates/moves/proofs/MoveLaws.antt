@@ -20,7 +20,7 @@ use Rattle.table.specs.WellFormed.{ownForm}
 use Rattle.table.specs.Contracts.{Sized}
 use Rattle.table.proofs.WellFormedLaws.{header, length-is}
 use Rattle.asking.specs.Asking.{firstNo}
-use Rattle.protocol.specs.Moves.{goesOver, allPlain, carriedRow, carried, carriedLength}
+use Rattle.carrying.specs.Moves.{goesOver, allPlain, carriedRow, carried, carriedLength}
 use Rattle.protocol.specs.Calls.{Carrying, Outcome, carry, questions, done, refused, outcome, resultOf, lent}
 use Rattle.protocol.proofs.QuestionLaws.{refusal-is, when-done, when-refused}
 use Rattle.carrying.proofs.RowLaws.{cleared-long}

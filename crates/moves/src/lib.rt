@@ -10,7 +10,7 @@ ghost use lib.ListN.{length, take};
 ghost use Rattle.bytes.specs.Bytes.{bytesOf, part, zeros};
 ghost use Rattle.fields.specs.Layout.{store, oldest};
 ghost use Rattle.table.specs.Contracts.{Sized};
-ghost use Rattle.protocol.specs.Moves.{goesOver, allPlain, carried, carriedLength};
+ghost use Rattle.carrying.specs.Moves.{goesOver, allPlain, carried, carriedLength};
 ghost use Rattle.protocol.specs.Calls.{resultOf, outcome, carry};
 
 // Do tables of the one form move to the other?

@@ -7,7 +7,8 @@ use Rattle.sets.specs.Upto.{upward}
 use Rattle.bytes.specs.Bytes.{bytesOf, put, zeros}
 use Rattle.fields.specs.Layout.{stride}
 use Rattle.protocol.specs.Calls.{Call, outcome}
-use Rattle.protocol.proofs.Histories.{fo, rd, wr, Made, Called, stepsHold}
+use Rattle.carrying.proofs.Computed.{early, late}
+use Rattle.protocol.proofs.Histories.{fo, rd, wr, mv, Made, Called, stepsHold}
 
 -- on these bytes a call has this refusal, value and buffer
 pub data Case : Type 0 where
@@ -86,4 +87,10 @@ cases =
     ∷ Notes (full 5) (wr 1 31 0 (7 ∷ [])) 0 (4 ∷ [])
     ∷ Notes trio (wr 2 3 0 (7 ∷ [])) 0 (3 ∷ [])
     ∷ Notes nobody (wr 1 3 0 (7 ∷ [])) 6 (2 ∷ [])
+    -- a move judges by the table's own form, and asks 15 before 12 whatever that form is; its buffer is as long as the new table
+    ∷ On (early 1 1 0) (mv 3 (zeros 1_234)) 0 1 (late 1 0)
+    ∷ On (early 1 1 2) (mv 3 (9 ∷ [])) 1 0 (9 ∷ [])
+    ∷ On (early 2 1 2) (mv 1 (9 ∷ [])) 15 0 (9 ∷ [])
+    ∷ On (early 2 1 2) (mv 2 (zeros 82)) 12 0 (zeros 82)
+    ∷ On (early 2 1 2) (mv 3 (zeros 1_233)) 12 0 (zeros 1_233)
     ∷ []

@@ -5,7 +5,7 @@ use Prim.Native.Nat.{ℕ, _+_, _*_}
 use lib.Dec.{eqb}
 use lib.ListN.{take, replicate}
 use Rattle.fields.specs.Layout.{stride, rowBytes, contentsOf}
-use Rattle.protocol.specs.Calls.{Call, founding, join, read, write, send, check, outcome}
+use Rattle.protocol.specs.Calls.{Call, founding, join, read, write, send, check, carry, outcome}
 
 -- ---- calls by their arguments, in the order of their fields
 unfoldable pub fo : (capacity fileLength : ℕ) (names : List ℕ) (choice : ℕ) → Call
@@ -32,6 +32,9 @@ sn f t r = send (record { f = f; t = t; r = r })
 
 unfoldable pub ck : (c r : ℕ) → Call
 ck c r = check (record { c = c; r = r })
+
+unfoldable pub mv : (form : ℕ) (dest : List ℕ) → Call
+mv form dest = carry (record { form = form; dest = dest })
 
 pub data Step : Type 0 where
   -- a call is made: its refusal, value and buffer

@@ -12,3 +12,4 @@ pub mod Unanswered
 pub mod Histories
 pub mod Cases
 pub mod Computed
+pub mod MoveClaimed

@@ -20,7 +20,7 @@ use Rattle.table.proofs.FormLaws.{between-is}
 use Rattle.protocol.specs.Polls.{highestEpoch, inForce, goodVersion, current, quorumHeld}
 use Rattle.asking.specs.Asking.{Question, firstNo, before}
 use Rattle.asking.proofs.AskingLaws.{yes-first, no-first, before-other}
-use Rattle.protocol.specs.Moves.{goesOver, allPlain, carriedLength}
+use Rattle.carrying.specs.Moves.{goesOver, allPlain, carriedLength}
 use Rattle.protocol.specs.Calls
 
 -- ---- the first no

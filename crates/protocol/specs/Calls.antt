@@ -17,7 +17,7 @@ use Rattle.asking.specs.Asking.{Question, firstNo, before, result}
 use Rattle.protocol.specs.Lists.{laidNow, listChoice}
 use Rattle.protocol.specs.Polls.{Poll, polled, highestEpoch, inForce, goodVersion, good, current, quorumHeld, stays, workedOn}
 use Rattle.protocol.specs.Rows.{refreshedRow, wroteRow, checkedRow}
-use Rattle.protocol.specs.Moves.{goesOver, allPlain, carried, carriedLength}
+use Rattle.carrying.specs.Moves.{goesOver, allPlain, carried, carriedLength}
 use Rattle.joining.specs.Joining.{joined}
 
 -- ---- the arguments of each call: "Coordinator c, answering set R (bit i − 1 for row i); c, f and t are row indexes."

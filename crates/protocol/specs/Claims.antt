@@ -12,6 +12,8 @@ use Rattle.fields.specs.Layout.{isEmpty, usedOf, nameOf, linkOf, rowsEnd, rowBy
 use Rattle.table.specs.Chain.{orderOf}
 use Rattle.table.specs.WellFormed.{wellFormed}
 use Rattle.linking.specs.Linking.{inserted}
+use Rattle.carrying.specs.Moves.{carried}
+use Rattle.carrying.specs.Claims.{RightIn}
 use Rattle.joining.specs.Claims.{OneMore}
 use Rattle.asking.specs.Asking.{Question}
 use Rattle.protocol.specs.Lists.{seats, listQuorum, listChoice}
@@ -156,3 +158,14 @@ JoinSees = (t u : List ℕ) (a : Joining) → EqualIn 0 t u → JoinsAlike t (ou
 -- a founding's outcome does not hang on what lay in the table
 unfoldable pub FoundsOnAnything : Type 0
 FoundsOnAnything = (t u : List ℕ) (a : Founding) → length t ≡ length u → outcome t (founding a) .refusal ≡ 0 → outcome t (founding a) ≡ outcome u (founding a)
+
+-- ---- moves
+-- a done move leaves the table as it is, and in the second buffer the table carried over, right by the form asked for
+pub record MovedOver (t : List ℕ) (a : Carrying) (o : Outcome) : Type 0 where
+  pub table : o .table ≡ t
+  pub value : o .value ≡ usedOf t
+  pub buffer : o .buffer ≡ carried (a .form) t
+  pub right : RightIn (a .form) t (o .buffer)
+
+unfoldable pub MovesOver : Type 0
+MovesOver = (t : List ℕ) (a : Carrying) → outcome t (carry a) .refusal ≡ 0 → MovedOver t a (outcome t (carry a))

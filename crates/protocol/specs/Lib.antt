@@ -1,6 +1,5 @@
 pub mod Lists
 pub mod Polls
 pub mod Rows
-pub mod Moves
 pub mod Calls
 pub mod Claims

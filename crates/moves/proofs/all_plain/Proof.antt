@@ -9,7 +9,7 @@ use Rattle.sets.proofs.TestLaws.{every-more, every-not}
 use Rattle.fields.specs.Layout.{usedOf, rowBytes}
 use Rattle.table.specs.WellFormed.{plain}
 use Rattle.table.proofs.WellFormedLaws.{long}
-use Rattle.protocol.specs.Moves.{allPlain}
+use Rattle.carrying.specs.Moves.{allPlain}
 use Rattle.moves.proofs.all_plain.Statement.{statement}
 use Rattle.moves.proofs.all_plain.Tie as tie
 

@@ -10,7 +10,7 @@ use Rattle.bools.proofs.BoolLaws.{and-i}
 use Rattle.fields.specs.Layout.{formOf}
 use Rattle.table.specs.WellFormed.{ownForm}
 use Rattle.table.proofs.WellFormedLaws.{own-sized, header, long, few-rows}
-use Rattle.protocol.specs.Moves.{goesOver, allPlain, carriedLength}
+use Rattle.carrying.specs.Moves.{goesOver, allPlain, carriedLength}
 use Rattle.protocol.specs.Calls.{Carrying}
 use Rattle.moves.proofs.MoveLaws.{carry-answers, carry-no, carry-done, rough, form-small, end-long, end-small}
 use Rattle.moves.proofs.carry.Statement.{statement}

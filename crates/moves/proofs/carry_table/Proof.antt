@@ -7,7 +7,7 @@ use lib.ListN.{length, take}
 use Rattle.bytes.specs.Bytes.{bytesOf, part}
 use Rattle.fields.specs.Layout.{strideIn, capacityOf, fileLengthOf, rowLength, rowsEnd}
 use Rattle.table.proofs.WellFormedLaws.{header, long}
-use Rattle.protocol.specs.Moves.{carriedLength}
+use Rattle.carrying.specs.Moves.{carriedLength}
 use Rattle.blocks.specs.Blocks.{inTurn}
 use Rattle.carrying.proofs.CarryLaws.{rowTo}
 use Rattle.moves.proofs.MoveLaws.{Turn, from-fits, to-fits, end-fits, from-long, to-long, row-turn, turn-long, to-end, all-carried}

@@ -1,4 +1,4 @@
-use Rattle.protocol.specs.Moves.{goesOver}
+use Rattle.carrying.specs.Moves.{goesOver}
 use borrow.Author.Needs.{needs}
 use Rattle.moves.proofs.goes_over.Statement.{statement}
 use Rattle.moves.proofs.goes_over.Tie as tie
