@@ -29,10 +29,11 @@ use Rattle.protocol.proofs.ListLaws.{one-holds}
 use Rattle.protocol.proofs.PollLaws.{cut-in}
 use Rattle.protocol.proofs.QuestionLaws.{refusal-is, ByCoordinator}
 use Rattle.history.specs.Book.{Book, opened, order, nameIn, hasAll, holdsQuorum, someHasAll, writeSet, written, entered}
-use Rattle.history.specs.Claims.{tableAfter, bookAfter, after, aWrite, LimitReached}
+use Rattle.history.specs.Demand3.{verdict}
+use Rattle.history.specs.Claims.{tableAfter, bookAfter, Reached, after, aWrite, BelowTheLimit, AtTheLimit, WithWrites, LimitReached}
 use Rattle.history.proofs.State.{State, six-is, seven-is}
 use Rattle.history.proofs.Answers.{version-now, passed-seven}
-use Rattle.history.proofs.Theorems.{next, opens}
+use Rattle.history.proofs.Theorems.{next, opens, reached, below-the-limit, at-the-limit}
 
 -- the machine writes the only byte of its file
 unfoldable again : Writing
@@ -92,19 +93,20 @@ module _ (b : Book) (L : Lone b) where
         let u : usedOf t ≡ 1 = S .used ∙ ap length (L .names) in
         record { formed = well-formed-of t (S .formed); coordinator = omega arith; rows = rw u (omega arith); answered = refl }
 
-    seven : firstNo (before 8 (questions t (write again))) ≡ 0
+    -- it passes 1 to 5, and 6 and 7 too
+    passes-all : (firstNo (before 6 (questions t (write again))) ≡ 0) × (firstNo (before 8 (questions t (write again))) ≡ 0)
     unfolding again questions before byCoordinator firstNo isUsed between onlyRows inFile has
-    seven =
+    passes-all =
         let u : usedOf t ≡ 1 = S .used ∙ ap length (L .names) in
         let f : fileLengthOf t ≡ 1 = sym (S .file) ∙ L .file in
         let six : quorumHeld Write (orderOf t) (answers t 1) (workSet Write t 1 1) ≡ true = six-is t b e S 1 Write 1 by-one ∙ holds in
         let cur : current (answers t 1) (workSet Write t 1 1) ≡ true = seven-is t b e S 1 Write 1 by-one holds ∙ someone in
-        rw (well-formed-of t (S .formed), u, f, six, cur)
+        rw (well-formed-of t (S .formed), u, f, six, cur) (refl, refl)
 
     is-done : b .writes < 1_000_000 → outcome t (write again) .refusal ≡ 0
     unfolding again firstNo limit
     is-done l =
-        let a = passed-seven t b e S again seven in
+        let a = passed-seven t b e S again (passes-all .1) in
         refusal-is t (write again) ∙ a .3 ∙ rw (lt-ltb (goodVersion (answers t 1) (workSet Write t 1 1)) limit (omega (arith, version-now t b e S Write 1 1 (a .0) (a .1) (a .2))))
 
 -- one machine, named 10, and a file of one byte
@@ -124,29 +126,41 @@ first = record { names = refl; list = refl; file = refl; all = refl }
 
 -- m writes more
 many : (m : ℕ) (t : List ℕ) (b : Book) (e : ℕ) → State t b e → Lone b → b .writes + m ≤ 1_000_000
-    → let c = bookAfter t b (replicate m (write again)) in (c .writes ≡ b .writes + m) × (firstNo (before 8 (questions (tableAfter t (replicate m (write again))) (write again))) ≡ 0)
+    → let c = bookAfter t b (replicate m (write again)) in (c .writes ≡ b .writes + m) × Lone c
 unfolding again tableAfter bookAfter entered written
-many zero t b e S L h = (omega arith, seven b L t e S)
+many zero t b e S L h = (omega arith, L)
 many (suc m) t b e S L h =
     let d : outcome t (write again) .refusal ≡ 0 = is-done b L t e S (omega arith) in
     let n = next t b e S (write again) in
     let S′ : State (outcome t (write again) .table) (entered b (write again) true) (n .0) = rw d at (n .1) in
     let r = many m (outcome t (write again) .table) (entered b (write again) true) (n .0) S′ (more b L) (omega arith) in
-    let w : bookAfter (outcome t (write again) .table) (entered b (write again) (eqb (outcome t (write again) .refusal) 0)) (replicate m (write again)) .writes ≡ b .writes + 1 + m =
-    ap (λ (x : ℕ). bookAfter (outcome t (write again) .table) (entered b (write again) (eqb x 0)) (replicate m (write again)) .writes) d ∙ r .0 in
-    (w ∙ omega arith, r .1)
+    subst (λ (x : ℕ). let c = bookAfter (outcome t (write again) .table) (entered b (write again) (eqb x 0)) (replicate m (write again)) in (c .writes ≡ b .writes + suc m) × Lone c)
+    (sym d) (r .0 ∙ omega arith, r .1)
 
-pub limit-reached : LimitReached
-unfolding LimitReached again opened
-limit-reached n h =
+-- n writes, and then one more, whose answer is known of every such history
+reach : (n x : ℕ) → n ≤ 1_000_000 → ((t : List ℕ) (b : Book) → Reached t b → b .writes ≡ n → Lone b → outcome t (write again) .refusal ≡ x) → WithWrites n x
+unfolding again opened
+reach n x h answer =
     let r = many n (outcome blank (founding alone) .table) (opened alone) 0 (opens blank alone founds) first (omega arith) in
+    let w : bookAfter (outcome blank (founding alone) .table) (opened alone) (replicate n (write again)) .writes ≡ n = r .0 ∙ omega arith in
+    let R = after blank alone (replicate n (write again)) founds in
+    let l = reached _ _ R in
     record {
       table = _;
       book = _;
-      reached = after blank alone (replicate n (write again)) founds;
-      writes = r .0 ∙ omega arith;
+      reached = R;
+      writes = w;
       call = write again;
       rows = 1;
       asks = aWrite;
-      passes = r .1;
+      passes = passes-all _ (r .1) _ (l .0) (l .1) .1;
+      answer = answer _ _ R w (r .1);
     }
+
+-- so the premises of both claims about 1,000,000 are met with: below it the answer is the book's, at it 8
+pub limit-reached : LimitReached
+unfolding LimitReached BelowTheLimit AtTheLimit again verdict
+limit-reached = (
+  reach 999_999 0 (omega arith) (λ t b R w L. let l = reached t b R in below-the-limit t b R w (write again) Write 1 aWrite (passes-all b L t (l .0) (l .1) .0) ∙ rw (holds b L, someone b L)),
+  reach 1_000_000 8 (omega arith) (λ t b R w L. let l = reached t b R in at-the-limit t b R w .writes (write again) 1 aWrite (passes-all b L t (l .0) (l .1) .1)),
+)

@@ -110,8 +110,8 @@ pub record Full (t : List ℕ) (b : Book) : Type 0 where
 unfoldable pub AtTheLimit : Type 0
 AtTheLimit = (t : List ℕ) (b : Book) → Reached t b → b .writes ≡ 1_000_000 → Full t b
 
--- both are met with: there is a history with n done writes, after which a write passes 1 to 7
-pub record WithWrites (n : ℕ) : Type 0 where
+-- both are met with: there is a history with n done writes, after which a write that passes 1 to 7 is answered by the refusal x
+pub record WithWrites (n x : ℕ) : Type 0 where
   pub table : List ℕ
   pub book : Book
   pub reached : Reached table book
@@ -120,6 +120,7 @@ pub record WithWrites (n : ℕ) : Type 0 where
   pub rows : ℕ
   pub asks : Asks call Write rows
   pub passes : firstNo (before 8 (questions table call)) ≡ 0
+  pub answer : outcome table call .refusal ≡ x
 
 unfoldable pub LimitReached : Type 0
-LimitReached = (n : ℕ) → n ≤ 1_000_000 → WithWrites n
+LimitReached = WithWrites 999_999 0 × WithWrites 1_000_000 8
