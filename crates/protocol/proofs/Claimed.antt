@@ -1,26 +1,27 @@
 -- The claims of specs/Claims.antt, proved.
 use mathlib.Core.Path.{_≡_, refl, sym, _∙_, subst}
 use mathlib.Core.Bool.{Bool, true, false, cond}
-use mathlib.Core.List.{List}
-use Prim.Native.Nat.{ℕ, zero, suc, _+_, _^_, _≤_, _<_}
+use mathlib.Core.List.{List, [], _∷_}
+use Prim.Native.Nat.{ℕ, zero, suc, _+_, _*_, _^_, _≤_, _<_}
 use native.Mathlib.Omega.{arith}
 use lib.Dec.{eqb, ltb}
-use lib.ListN.{length}
-use borrow.Author.Tests.{eqb-true, ne-eqb, ltb-true}
+use lib.ListN.{length, replicate, length-replicate}
+use borrow.Author.Tests.{eqb-true, eq-eqb, ne-eqb, ltb-true}
 use Rattle.sets.specs.Sets.{has}
 use Rattle.bools.proofs.BoolLaws.{clash}
 use Rattle.quorums.specs.declared.Kind.the-variants.{Read, Write}
-use Rattle.bytes.specs.Bytes.{part}
-use Rattle.fields.specs.Layout.{usedOf, nameOf, versionOf, rowsEnd}
+use Rattle.bytes.specs.Bytes.{part, zeros}
+use Rattle.bytes.proofs.ByteLaws.{length-zeros}
+use Rattle.fields.specs.Layout.{stride, usedOf, nameOf, versionOf, rowsEnd}
 use Rattle.table.specs.Chain.{orderOf}
-use Rattle.table.specs.WellFormed.{limit, wellFormed}
+use Rattle.table.specs.WellFormed.{between, limit, wellFormed}
 use Rattle.table.proofs.FormLaws.{formed, well-formed-of, header-facts}
 use Rattle.table.proofs.WellFormedLaws.{header, own-sized}
 use Rattle.protocol.specs.Polls.{highestEpoch, inForce}
 use Rattle.protocol.specs.Calls
 use Rattle.asking.specs.Asking.{firstNo}
 use Rattle.asking.proofs.AskingLaws.{result-refusal, result-value}
-use Rattle.protocol.specs.Calls.{Call, founding, join, read, write, send, check, carry, questions, calledAfter, done, outcome, answers, workSet}
+use Rattle.protocol.specs.Calls.{Founding, Call, founding, join, read, write, send, check, carry, questions, calledAfter, done, outcome, answers, workSet}
 use Rattle.protocol.specs.Claims
 use Rattle.joining.proofs.FrameLaws.{joined-alters}
 use Rattle.joining.proofs.RowLaws.{more-formed}
@@ -149,3 +150,17 @@ founds-on-anything t u a e h =
     let q : firstNo (questions t (founding a)) ≡ firstNo (questions u (founding a)) = rw e in
     let z : firstNo (questions t (founding a)) ≡ 0 = sym (refusal-is t (founding a)) ∙ h in
     when-done t (founding a) h ∙ sym (when-done u (founding a) (refusal-is u (founding a) ∙ sym q ∙ z))
+
+-- met with: one machine, founded on a table of ones and on a table of zeros
+abbrev oneMachine : Founding
+oneMachine = record { capacity = 1; fileLength = 1; names = 10 ∷ 0 ∷ []; choice = 0 }
+
+abbrev ones : List ℕ
+ones = replicate (16 + stride 1) 1
+
+pub ones-leave-no-trace : outcome ones (founding oneMachine) ≡ outcome (zeros (16 + stride 1)) (founding oneMachine)
+unfolding Claims.FoundsOnAnything questions firstNo Calls.namesIn Calls.namesRising between
+ones-leave-no-trace =
+    let long : length ones ≡ 16 + stride 1 = length-replicate {A = ℕ} (16 + stride 1) 1 in
+    founds-on-anything ones (zeros (16 + stride 1)) oneMachine (long ∙ sym (length-zeros (16 + stride 1)))
+    (refusal-is ones (founding oneMachine) ∙ rw (eq-eqb (length ones) (16 + 1 * stride 1) (long ∙ omega arith)))

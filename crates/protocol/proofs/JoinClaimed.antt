@@ -2,7 +2,7 @@
 use mathlib.Core.Path.{_≡_, refl, sym, _∙_, ap, ap₂, fun-ext}
 use mathlib.Core.Bool.{Bool, true, false, not, cond, _&&_, and-false, and-true}
 use mathlib.Core.Logic.{⊎-elim}
-use mathlib.Core.List.{List, _++_}
+use mathlib.Core.List.{List, [], _∷_, _++_}
 use Prim.Native.Nat.{ℕ, zero, suc, _^_, _≤_, _<_}
 use native.Mathlib.Decide.{ℕ-discrete}
 use native.Mathlib.Omega.{arith}
@@ -17,11 +17,12 @@ use Rattle.sets.proofs.UptoLaws.{last, some-none, some-ext}
 use Rattle.sets.proofs.CountLaws.{count-to}
 use Rattle.sets.proofs.SetLaws.{empty-at, has-within}
 use Rattle.quorums.specs.declared.Kind.{Kind}
+use Rattle.quorums.specs.declared.Kind.the-variants.{Write}
 use Rattle.bytes.specs.Bytes.{part}
 use Rattle.grid.specs.Sizes.{gridBy}
 use Rattle.quorums.specs.Quorums.{choice}
 use Rattle.fields.specs.declared.Laid.{Laid}
-use Rattle.fields.specs.Layout.{isEmpty, capacity, capacityOf, usedOf, firstOf, nameOf, linkOf, rowBytes}
+use Rattle.fields.specs.Layout.{noList, isEmpty, capacity, capacityOf, usedOf, firstOf, nameOf, linkOf, rowBytes}
 use Rattle.table.specs.Chain.{orderOf}
 use Rattle.table.proofs.RisingLaws.{order-within}
 use Rattle.linking.specs.Linking.{lastOf, behind, inserted}
@@ -85,6 +86,20 @@ empty-works-on-r kind order p c a r z =
     let none : (i : ℕ) → (listChoice kind order (p .list c) a i && r i) ≡ false = λ i. ap (λ (b : Bool). b && r i) (no-choice kind order (p .list c) a i z) in
     let six = only-empty-refused kind order p (λ i. listChoice kind order (p .list c) a i && r i) (λ i m. absurd (clash (sym (none i) ∙ m))) in
     rw six
+
+-- met with: row 1 has no list, row 2 has one, and both answer
+abbrev oneUnlisted : Poll
+oneUnlisted = record {
+  stale = λ i. false;
+  version = λ i. 0;
+  desired = λ i. 0;
+  epoch = λ i. 0;
+  list = λ i. cond (eqb i 1) noList (record { members = 2; mark = 0 });
+}
+
+pub unlisted-works-on-r : (i : ℕ) → workedOn Write (1 ∷ 2 ∷ []) oneUnlisted 1 10 (has 3) i ≡ has 3 i
+unfolding Claims.EmptyWorksOnR isEmpty noList
+unlisted-works-on-r i = ap (λ (s : ℕ → Bool). s i) (empty-works-on-r Write (1 ∷ 2 ∷ []) oneUnlisted 1 10 (has 3) refl)
 
 -- ---- joining
 module _ (t : List ℕ) (a : Joining) (h : outcome t (join a) .refusal ≡ 0) where
