@@ -6,7 +6,7 @@ use Prim.Native.Nat.{ℕ, zero, suc, _+_, _*_, _^_, _≤_, _<_}
 use native.Mathlib.Omega.{arith}
 use lib.Dec.{eqb, ltb}
 use lib.ListN.{length, replicate, length-replicate}
-use borrow.Author.Tests.{eqb-true, eq-eqb, ne-eqb, ltb-true}
+use borrow.Author.Tests.{eqb-true, eq-eqb, ltb-true}
 use Rattle.sets.specs.Sets.{has}
 use Rattle.bools.proofs.BoolLaws.{clash}
 use Rattle.quorums.specs.declared.Kind.the-variants.{Read, Write}
@@ -77,10 +77,6 @@ refusal-alters-nothing t k d = let w = when-refused t k d in record { value = w 
 pub buffer-stays : Claims.BufferStays
 unfolding Claims.BufferStays Calls.lent
 buffer-stays t a d = when-refused t (read a) d .2
-
-pub other-lengths-stay : Claims.OtherLengthsStay
-unfolding Claims.OtherLengthsStay Calls.noted
-other-lengths-stay bytes n d = rw (ne-eqb (length bytes) 1 d)
 
 -- ---- a founding's value
 pub founding-counts : Claims.FoundingCounts

@@ -7,6 +7,7 @@ pub mod DoneLaws
 pub mod KeepLaws
 pub mod FoundedLaws
 pub mod Claimed
+pub mod NotedClaimed
 pub mod JoinClaimed
 pub mod Unanswered
 pub mod Histories

@@ -7,6 +7,7 @@ use lib.ListN.{length, take, drop}
 use Rattle.sets.specs.Upto.{Within}
 use Rattle.sets.specs.Sets.{has, losing}
 use Rattle.quorums.specs.declared.Kind.{Kind}
+use Rattle.quorums.specs.declared.Kind.the-variants.{Read, Write}
 use Rattle.fields.specs.declared.Laid.{Laid}
 use Rattle.fields.specs.Layout.{isEmpty, usedOf, nameOf, linkOf, rowsEnd, rowBytes}
 use Rattle.table.specs.Chain.{orderOf}
@@ -15,10 +16,10 @@ use Rattle.linking.specs.Linking.{inserted}
 use Rattle.carrying.specs.Moves.{carried}
 use Rattle.carrying.specs.Claims.{RightIn}
 use Rattle.joining.specs.Claims.{OneMore}
-use Rattle.asking.specs.Asking.{Question}
+use Rattle.asking.specs.Asking.{Question, firstNo, before}
 use Rattle.protocol.specs.Lists.{seats, listQuorum, listChoice}
 use Rattle.protocol.specs.Polls.{Poll, highestEpoch, inForce, quorumHeld, workedOn}
-use Rattle.protocol.specs.Calls.{Founding, Reading, Writing, Sending, Checking, Joining, Call, founding, join, read, write, send, check, Carrying, carry, Outcome, resultOf, questions, noted, lent, outcome}
+use Rattle.protocol.specs.Calls.{Founding, Reading, Writing, Sending, Checking, Joining, Call, founding, join, read, write, send, check, Carrying, carry, Outcome, resultOf, questions, calledBy, lent, outcome}
 
 -- "In this order, each to the calls it names (2 and 3 to all but founding)", joining and a move: the numbers of the questions put to a call
 unfoldable pub numbersPut : Call → List ℕ
@@ -55,9 +56,26 @@ RefusalAltersNothing = (t : List ℕ) (k : Call) → (outcome t k .refusal ≡ 0
 unfoldable pub BufferStays : Type 0
 BufferStays = (t : List ℕ) (a : Reading) → (outcome t (read a) .refusal ≡ 0 → ⊥) → outcome t (read a) .buffer ≡ a .buffer
 
--- "In C it is a list of one byte; one of another length is left alone"
+-- ---- "the size of the set called"
+-- a read or a write by c, with the answering set R and the bytes lent for the size of the set called
+pub data Counting : Call → Kind → ℕ → ℕ → List ℕ → Type 0 where
+  ofRead : {a : Reading} → Counting (read a) Read (a .c) (a .r) (a .called)
+  ofWrite : {a : Writing} → Counting (write a) Write (a .c) (a .r) (a .called)
+
+-- "It goes into a lent byte of its own, by refused calls too, as 0 before question 6": 0 by 1 to 5; by 6 and 7, having gone on to R, all used rows; by 8 what was called
+pub record NotedRefused (t : List ℕ) (kind : Kind) (c r : ℕ) (o : Outcome) : Type 0 where
+  pub early : Within 5 (o .refusal) → o .called ≡ 0 ∷ []
+  pub six : o .refusal ≡ 6 → o .called ≡ usedOf t ∷ []
+  pub seven : o .refusal ≡ 7 → o .called ≡ usedOf t ∷ []
+  pub eight : o .refusal ≡ 8 → o .called ≡ calledBy kind t c r ∷ []
+
+unfoldable pub RefusedNote : Type 0
+RefusedNote = (t : List ℕ) (k : Call) (kind : Kind) (c r : ℕ) (bytes : List ℕ) → Counting k kind c r bytes → length bytes ≡ 1 → NotedRefused t kind c r (outcome t k)
+
+-- "In C it is a list of one byte; one of another length is left alone and refused by 5, a write's too": by 5 where nothing is refused before
 unfoldable pub OtherLengthsStay : Type 0
-OtherLengthsStay = (bytes : List ℕ) (n : ℕ) → (length bytes ≡ 1 → ⊥) → noted bytes n ≡ bytes
+OtherLengthsStay = (t : List ℕ) (k : Call) (kind : Kind) (c r : ℕ) (bytes : List ℕ) → Counting k kind c r bytes → (length bytes ≡ 1 → ⊥)
+    → (outcome t k .called ≡ bytes) × (firstNo (before 5 (questions t k)) ≡ 0 → outcome t k .refusal ≡ 5)
 
 -- "Founding: value is the rows used."
 unfoldable pub FoundingCounts : Type 0
