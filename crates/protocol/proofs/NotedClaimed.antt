@@ -20,8 +20,8 @@ use Rattle.table.specs.WellFormed.{limit}
 use Rattle.asking.specs.Asking.{Question, firstNo, before}
 use Rattle.asking.proofs.AskingLaws.{yes-first}
 use Rattle.protocol.specs.Polls.{goodVersion, current, quorumHeld, ownTry, stays, workedOn}
-use Rattle.protocol.specs.Calls.{Reading, Writing, Call, read, write, inFile, questions, answers, workSet, calledBy, noted, fromSix, calledAfter, outcome}
-use Rattle.protocol.specs.Claims.{numbersPut, PutInOrder, Counting, ofRead, ofWrite, RefusedNote, OtherLengthsStay}
+use Rattle.protocol.specs.Calls.{Reading, Writing, Call, founding, join, read, write, send, check, carry, inFile, questions, answers, workSet, calledBy, noted, fromSix, calledAfter, outcome}
+use Rattle.protocol.specs.Claims.{numbersPut, PutInOrder, Counting, ofRead, ofWrite, RefusedNote, OtherLengthsStay, OthersNoteNone}
 use Rattle.protocol.proofs.QuestionLaws.{refusal-is, called-is, early-passed}
 use Rattle.protocol.proofs.Claimed.{put-in-order}
 
@@ -181,3 +181,14 @@ five-no t k kind c r bytes (ofWrite {a}) other h =
 pub other-lengths-stay : OtherLengthsStay
 unfolding OtherLengthsStay noted
 other-lengths-stay t k kind c r bytes x other = (notes t k kind c r bytes x ∙ rw (ne-eqb (length bytes) 1 other), five-no t k kind c r bytes x other)
+
+-- ---- the other calls
+pub others-note-none : OthersNoteNone
+unfolding OthersNoteNone calledAfter
+others-note-none t = record {
+  by-founding = λ a. called-is t (founding a);
+  by-join = λ a. called-is t (join a);
+  by-send = λ a. called-is t (send a);
+  by-check = λ a. called-is t (check a);
+  by-carry = λ a. called-is t (carry a);
+}

@@ -77,6 +77,17 @@ unfoldable pub OtherLengthsStay : Type 0
 OtherLengthsStay = (t : List ℕ) (k : Call) (kind : Kind) (c r : ℕ) (bytes : List ℕ) → Counting k kind c r bytes → (length bytes ≡ 1 → ⊥)
     → (outcome t k .called ≡ bytes) × (firstNo (before 5 (questions t k)) ≡ 0 → outcome t k .refusal ≡ 5)
 
+-- "with each single read and write": every other call is lent no byte for it, and leaves none
+pub record NoneNoted (t : List ℕ) : Type 0 where
+  pub by-founding : (a : Founding) → outcome t (founding a) .called ≡ []
+  pub by-join : (a : Joining) → outcome t (join a) .called ≡ []
+  pub by-send : (a : Sending) → outcome t (send a) .called ≡ []
+  pub by-check : (a : Checking) → outcome t (check a) .called ≡ []
+  pub by-carry : (a : Carrying) → outcome t (carry a) .called ≡ []
+
+unfoldable pub OthersNoteNone : Type 0
+OthersNoteNone = (t : List ℕ) → NoneNoted t
+
 -- "Founding: value is the rows used."
 unfoldable pub FoundingCounts : Type 0
 FoundingCounts = (t : List ℕ) (a : Founding) → outcome t (founding a) .refusal ≡ 0 → outcome t (founding a) .value ≡ usedOf (outcome t (founding a) .table)
