@@ -5,7 +5,7 @@ use mathlib.Core.Logic.{⊎-elim}
 use Prim.Native.Nat.{ℕ, _+_, _-_, _≤_}
 use native.Mathlib.Omega.{arith}
 use lib.Dec.{leb, eqb}
-use lib.ListN.{length}
+use lib.ListN.{length, replicate}
 use borrow.Author.Tests.{leb-true, eqb-true}
 use Rattle.bools.proofs.BoolLaws.{and-l, and-r, or-e}
 use Rattle.sets.specs.Upto.{Within, every, some, upward, keep}
@@ -13,10 +13,11 @@ use Rattle.sets.specs.Sets.{has, losing}
 use Rattle.sets.proofs.UptoLaws.{every-at}
 use Rattle.grid.specs.Sizes.{root, rootUp, published, newFive, exchanged, gridBy, markFits, columnOf}
 use Rattle.quorums.specs.Quorums.{touches, covers, readQuorum, writeQuorum, quorum}
+use Rattle.quorums.proofs.StarredLaws.{allPass, each-of}
 use Rattle.bytes.specs.Bytes.{bytesOf, put}
 use Rattle.asking.specs.Asking.{firstNo}
 use Rattle.charting.specs.Charts.{smallest, chart, inPlaces, hasChart, places, chartQuestions, charted}
-use Rattle.charting.specs.Claims.{PlacesSuffice, ChartsShown, ListShown, caseHolds, casesHold, cases}
+use Rattle.charting.specs.Claims.{PlacesSuffice, ChartsShown, ListShown, Case, Asked, Answered, cases, CasesHold}
 
 -- ---- charts and calls
 pub charts-shown : ChartsShown
@@ -27,9 +28,21 @@ pub list-shown : ListShown
 unfolding ListShown charted chartQuestions firstNo places hasChart markFits inPlaces bytesOf put chart smallest keep upward gridBy newFive exchanged root rootUp published columnOf every some has losing touches covers readQuorum writeQuorum quorum
 list-shown = refl
 
-pub cases-hold : casesHold cases ≡ true
-unfolding casesHold caseHolds cases charted chartQuestions firstNo places hasChart markFits inPlaces bytesOf put chart smallest keep upward gridBy newFive exchanged root rootUp published columnOf every some has losing touches covers readQuorum writeQuorum quorum
-cases-hold = refl
+-- a test of each case, which tells what the case says
+caseHolds : Case → Bool
+caseHolds (Asked N mark bytes refusal value) = let o = charted N mark (replicate bytes 0) in eqb (o .refusal) refusal && eqb (o .value) value
+
+case-says : (c : Case) → caseHolds c ≡ true → Answered c
+unfolding caseHolds Answered
+case-says (Asked N mark bytes refusal value) h = (eqb-true _ refusal (and-l _ _ h), eqb-true _ value (and-r (eqb (charted N mark (replicate bytes 0) .refusal) refusal) _ h))
+
+computed : allPass caseHolds cases ≡ true
+unfolding allPass caseHolds cases charted chartQuestions firstNo places hasChart markFits inPlaces bytesOf put chart smallest keep upward gridBy newFive exchanged root rootUp published columnOf every some has losing touches covers readQuorum writeQuorum quorum
+computed = refl
+
+pub cases-hold : CasesHold
+unfolding CasesHold cases
+cases-hold = (refl, each-of Answered caseHolds case-says cases computed)
 
 -- ---- no chart has more numbers than there are places: one test over the marks 0 to 2 and the lengths 1 to 9
 roomy : ℕ → ℕ → Bool

@@ -3,7 +3,7 @@ use mathlib.Core.Path.{_≡_}
 use mathlib.Core.Bool.{Bool, true, _&&_}
 use mathlib.Core.List.{List, [], _∷_}
 use Prim.Native.Nat.{ℕ, _*_, _^_, _≤_, _<_}
-use lib.Dec.{eqb, ltb}
+use lib.Dec.{ltb}
 use lib.ListN.{length, getD, drop, replicate}
 use Rattle.sets.specs.Upto.{Within, among, risesFrom}
 use Rattle.sets.specs.Sets.{has}
@@ -11,6 +11,7 @@ use Rattle.grid.specs.declared.Grid.{Grid}
 use Rattle.grid.specs.Sizes.{gridBy}
 use Rattle.quorums.specs.declared.Kind.the-variants.{Write}
 use Rattle.quorums.specs.Quorums.{quorum}
+use Rattle.quorums.specs.Starred.{Each}
 use Rattle.bytes.specs.Bytes.{number, part}
 use Rattle.charting.specs.Charts.{smallest, chart, hasChart, places, charted}
 
@@ -63,12 +64,8 @@ ListShown = charted 4 0 (replicate 129 9) .list ≡ 7 ∷ 0 ∷ 11 ∷ 0 ∷ 13 
 pub data Case : Type 0 where
   Asked : (N mark bytes refusal value : ℕ) → Case
 
-unfoldable pub caseHolds : Case → Bool
-caseHolds (Asked N mark bytes refusal value) = let o = charted N mark (replicate bytes 0) in eqb (o .refusal) refusal && eqb (o .value) value
-
-unfoldable pub casesHold : List Case → Bool
-casesHold [] = true
-casesHold (c ∷ cs) = caseHolds c && casesHold cs
+unfoldable pub Answered : Case → Type 0
+Answered (Asked N mark bytes refusal value) = let o = charted N mark (replicate bytes 0) in (o .refusal ≡ refusal) × (o .value ≡ value)
 
 -- each question from both sides, and 17 before 5
 unfoldable pub cases : List Case
@@ -92,3 +89,7 @@ cases =
     ∷ Asked 4 3 128 17 0
     ∷ Asked 5 257 128 17 0
     ∷ []
+
+-- all 18 hold
+unfoldable pub CasesHold : Type 0
+CasesHold = (length cases ≡ 18) × Each Answered cases

@@ -15,8 +15,8 @@ use Rattle.grid.specs.Sizes.{root, rootUp, published, newFive, exchanged, gridB
 use Rattle.grid.proofs.SizeLaws.{roomy}
 use Rattle.quorums.specs.declared.Kind.the-variants.{Write}
 use Rattle.quorums.specs.Quorums.{touches, covers, readQuorum, writeQuorum, quorum, isPosition}
-use Rattle.quorums.specs.Starred.{same}
-use Rattle.quorums.specs.Losses.{bears, AllButOne, RoomBearsLoss, FourBearLoss, lossHolds, lossesHold, shorter}
+use Rattle.quorums.specs.Starred.{Each}
+use Rattle.quorums.specs.Losses.{bears, AllButOne, RoomBearsLoss, FourBearLoss, Without, Bears, shorter, ShorterHold}
 use Rattle.quorums.proofs.PositionLaws.{position, cell-of}
 use Rattle.quorums.proofs.QuorumLaws.{position-yes, touch, cover}
 
@@ -74,7 +74,12 @@ pub four-bear-loss : FourBearLoss
 unfolding FourBearLoss RoomBearsLoss bears
 four-bear-loss tall N k four = let r = roomy tall N four in room-bears-loss (gridBy (newMark tall N) N) N (r .0) (r .1) _ (losing-one (isPosition N) k)
 
--- ---- shorter lists: by computing the definitions
-pub shorter-hold : lossesHold shorter ≡ true
-unfolding lossesHold shorter lossHolds same bears losing gridBy newMark newFive exchanged root rootUp published columnOf every some touches covers readQuorum writeQuorum quorum isPosition
-shorter-hold = refl
+-- ---- shorter lists: by computing the definitions, wide and tall
+both : (N k : ℕ) (answer : Bool) → bears (newMark false N) N k ≡ answer → bears (newMark true N) N k ≡ answer → Bears (Without N k answer)
+unfolding Bears
+both N k answer x y false = x
+both N k answer x y true = y
+
+pub shorter-hold : ShorterHold
+unfolding ShorterHold Each shorter bears losing gridBy newMark newFive exchanged root rootUp published columnOf every some touches covers readQuorum writeQuorum quorum isPosition
+shorter-hold = (refl, (both _ _ _ refl refl, (both _ _ _ refl refl, (both _ _ _ refl refl, (both _ _ _ refl refl, (both _ _ _ refl refl, (both _ _ _ refl refl, tt)))))))

@@ -1,15 +1,16 @@
 -- "One machine lost": what the members of a list hold without one of them, by positions.
 use mathlib.Core.Path.{_≡_}
-use mathlib.Core.Bool.{Bool, true, false, _&&_, _||_}
+use mathlib.Core.Bool.{Bool, true, false, _||_}
 use mathlib.Core.Logic.{_≢_}
 use mathlib.Core.List.{List, [], _∷_}
 use Prim.Native.Nat.{ℕ, _*_, _≤_}
+use lib.ListN.{length}
 use Rattle.sets.specs.Sets.{losing}
 use Rattle.grid.specs.declared.Grid.{Grid}
 use Rattle.grid.specs.Sizes.{gridBy, newMark}
 use Rattle.quorums.specs.declared.Kind.the-variants.{Write}
 use Rattle.quorums.specs.Quorums.{quorum, isPosition}
-use Rattle.quorums.specs.Starred.{same}
+use Rattle.quorums.specs.Starred.{Each}
 
 -- "the members without any one of them hold a write quorum": of N members laid by the mark, those at all positions but k
 unfoldable pub bears : ℕ → ℕ → ℕ → Bool
@@ -27,17 +28,14 @@ RoomBearsLoss = (g : Grid) (N : ℕ) → 2 ≤ g .cols → 2 * g .cols ≤ N →
 unfoldable pub FourBearLoss : Type 0
 FourBearLoss = (tall : Bool) (N k : ℕ) → 4 ≤ N → bears (newMark tall N) N k ≡ true
 
--- ---- shorter lists, as now laid in a wide table
+-- ---- shorter lists
 pub data Loss : Type 0 where
   -- of N, all positions but k hold a write quorum, or do not
   Without : (N k : ℕ) (answer : Bool) → Loss
 
-unfoldable pub lossHolds : Loss → Bool
-lossHolds (Without N k answer) = same (bears (newMark false N) N k) answer
-
-unfoldable pub lossesHold : List Loss → Bool
-lossesHold [] = true
-lossesHold (l ∷ ls) = lossHolds l && lossesHold ls
+-- as now laid, in a wide table and in a tall one
+unfoldable pub Bears : Loss → Type 0
+Bears (Without N k answer) = (tall : Bool) → bears (newMark tall N) N k ≡ answer
 
 -- "Three bear the loss of the first or third and not the second. Two or one bear none."
 unfoldable pub shorter : List Loss
@@ -49,3 +47,7 @@ shorter =
     ∷ Without 2 2 false
     ∷ Without 1 1 false
     ∷ []
+
+-- all six hold
+unfoldable pub ShorterHold : Type 0
+ShorterHold = (length shorter ≡ 6) × Each Bears shorter
