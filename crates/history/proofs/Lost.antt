@@ -2,14 +2,15 @@
 use mathlib.Core.Path.{_≡_, refl, sym, _∙_, ap}
 use mathlib.Core.Bool.{Bool, true, false, cond, or-true}
 use mathlib.Core.List.{List, [], _∷_}
-use Prim.Native.Nat.{ℕ, _+_, _*_, _≤_}
+use Prim.Native.Nat.{ℕ, _+_, _*_, _^_, _≤_}
 use native.Mathlib.Omega.{arith}
 use lib.Dec.{eqb}
 use lib.ListN.{length}
-use borrow.Author.Tests.{eq-eqb}
-use Rattle.sets.specs.Upto.{every, some, count}
+use borrow.Author.Tests.{eq-eqb, le-leb, lt-ltb}
+use Rattle.sets.specs.Upto.{Within, every, some, count}
 use Rattle.sets.specs.Sets.{has, losing}
-use Rattle.sets.proofs.SetLaws.{has-lose}
+use Rattle.bools.proofs.BoolLaws.{and-l}
+use Rattle.sets.proofs.SetLaws.{has-lose, has-within, inside-lt}
 use Rattle.quorums.specs.declared.Kind.the-variants.{Write}
 use Rattle.quorums.proofs.LossLaws.{losing-one}
 use Rattle.bytes.specs.Bytes.{zeros}
@@ -19,15 +20,15 @@ use Rattle.table.specs.WellFormed.{between, onlyRows}
 use Rattle.table.proofs.FormLaws.{well-formed-of}
 use Rattle.asking.specs.Asking.{firstNo, before}
 use Rattle.protocol.specs.Lists.{laidNow, listQuorum}
-use Rattle.protocol.specs.Calls.{Founding, Call, founding, join, read, write, send, check, carry, isUsed, byCoordinator, questions, outcome, namesIn, namesRising, foundedList}
+use Rattle.protocol.specs.Calls.{Founding, Checking, Call, founding, join, read, write, send, check, carry, isUsed, byCoordinator, questions, outcome, namesIn, namesRising, foundedList}
 use Rattle.protocol.proofs.ListLaws.{laid-shape}
 use Rattle.protocol.proofs.QuestionLaws.{refusal-is}
 use Rattle.seats.specs.Seats.{ListBearsLoss}
 use Rattle.seats.proofs.LossLaws.{list-bears-loss}
 use Rattle.history.specs.Book.{Book, opened, hasAll, holdsQuorum, someHasAll, written, passedOn, agreed, checked, admitted, entered}
-use Rattle.history.specs.Claims.{tableAfter, bookAfter, Reached, after, ChecksByBook, OneLost, OneLostMet}
+use Rattle.history.specs.Claims.{tableAfter, bookAfter, Reached, after, ChecksByBook, AllButOneCheck, OneLost, OneLostMet}
 use Rattle.history.proofs.State.{State, chain-is}
-use Rattle.history.proofs.Theorems.{opens, reached, checks-by-book}
+use Rattle.history.proofs.Theorems.{reached, checks-by-book}
 
 -- ---- the list in force is as now laid: of the book alone
 abbrev LaidSo : Book → Type 0
@@ -69,11 +70,28 @@ others-hold t b r four x =
     ap (λ (o : List ℕ). listQuorum Write o (b .inForce) (losing (has (b .inForce .members)) x)) (sym (chain-is t b (l .0) S))
     ∙ list-bears-loss t (well-formed-of t (S .formed)) (isTall (b .inForce)) (b .inForce) (laid-reached t b r) (S .inv .epochs .bound) four (losing (has (b .inForce .members)) x) (losing-one (has (b .inForce .members)) x)
 
+-- such a check passes 1 to 3: its rows are members, and so used rows
+passes-three : (t : List ℕ) (b : Book) → Reached t b → (x : ℕ) (a : Checking) → AllButOneCheck b x a → firstNo (before 6 (questions t (check a))) ≡ 0
+unfolding questions before byCoordinator firstNo isUsed between onlyRows losing
+passes-three t b r x a c = rw (
+  well-formed-of t (S .formed),
+  le-leb 1 (a .c) (used (a .c) (c .coordinator) .0),
+  le-leb (a .c) (usedOf t) (used (a .c) (c .coordinator) .1),
+  lt-ltb (a .r) (2 ^ usedOf t) (inside-lt (usedOf t) (a .r) used),
+  c .coordinator,
+)
+  where
+    S : State t b (reached t b r .0)
+    S = reached t b r .1
+
+    used : (i : ℕ) → has (a .r) i ≡ true → Within (usedOf t) i
+    used i m = has-within (usedOf t) (b .inForce .members) i (S .inv .epochs .bound) (and-l _ _ (sym (ap (λ (s : ℕ → Bool). s i) (c .others)) ∙ m))
+
 pub one-lost : OneLost
 unfolding OneLost ChecksByBook
 one-lost t b r x a c =
     let q : holdsQuorum b Write (has (a .r)) ≡ true = ap (holdsQuorum b Write) (c .others) ∙ others-hold t b r (omega (arith, c .four)) x in
-    checks-by-book t b r a (c .passes) ∙ rw (q, c .current, or-true (eqb (a .r) (b .inForce .members)))
+    checks-by-book t b r a (passes-three t b r x a c) ∙ rw (q, c .current, or-true (eqb (a .r) (b .inForce .members)))
 
 -- ---- four machines, just founded: the fourth is lost
 unfoldable pub fourMachines : Founding
@@ -86,10 +104,6 @@ pub founds : outcome blank (founding fourMachines) .refusal ≡ 0
 unfolding fourMachines blank questions firstNo namesIn namesRising between
 founds = refusal-is blank (founding fourMachines) ∙ rw (eq-eqb (length (zeros (16 + 4 * stride 1))) (16 + 4 * stride 1) (length-zeros (16 + 4 * stride 1)))
 
-passes-three : (t : List ℕ) → State t (opened fourMachines) 0 → firstNo (before 6 (questions t (check (record { c = 1; r = 7 })))) ≡ 0
-unfolding fourMachines opened foundedList namesIn questions before byCoordinator firstNo isUsed between onlyRows has
-passes-three t S = let u : usedOf t ≡ 4 = S .used in rw (well-formed-of t (S .formed), u)
-
 pub one-lost-met : OneLostMet
 unfolding OneLostMet fourMachines opened foundedList namesIn laidNow someHasAll hasAll every some count has tableAfter bookAfter
 one-lost-met = (
@@ -98,5 +112,6 @@ one-lost-met = (
   4,
   record { c = 1; r = 7 },
   after blank fourMachines [] founds,
-  record { four = omega arith; member = refl; others = has-lose 15 4 (omega arith); current = refl; passes = passes-three _ (opens blank fourMachines founds) },
+  record { four = omega arith; others = has-lose 15 4 (omega arith); current = refl; coordinator = refl },
+  refl,
 )

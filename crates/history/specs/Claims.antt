@@ -74,21 +74,20 @@ unfoldable pub BothWaysMet : Type 0
 BothWaysMet = SendBehind 16 true × SendBehind 17 false
 
 -- ---- "One machine lost"
--- "a list of four or more .. in force, a check by all its members but one, some one of them having every done write": x is not there, and 1 to 3 are passed
-pub record AllButOneCheck (t : List ℕ) (b : Book) (x : ℕ) (a : Checking) : Type 0 where
+-- "a list of four or more .. in force, a check by all its members but one, some one of them having every done write": x is not there; the coordinator answers
+pub record AllButOneCheck (b : Book) (x : ℕ) (a : Checking) : Type 0 where
   pub four : 4 ≤ count 64 (has (b .inForce .members))
-  pub member : has (b .inForce .members) x ≡ true
   pub others : has (a .r) ≡ losing (has (b .inForce .members)) x
   pub current : someHasAll b (has (a .r)) ≡ true
-  pub passes : firstNo (before 6 (questions t (check a))) ≡ 0
+  pub coordinator : has (a .r) (a .c) ≡ true
 
--- it "is not refused by 6 or 7". "so laid" is no premise: in a founded history every list in force was laid by its founding or by a check
+-- it "is not refused by 6 or 7", nor before. "so laid" is no premise: in a founded history every list in force was laid by its founding or by a check
 unfoldable pub OneLost : Type 0
-OneLost = (t : List ℕ) (b : Book) → Reached t b → (x : ℕ) (a : Checking) → AllButOneCheck t b x a → firstNo (before 8 (questions t (check a))) ≡ 0
+OneLost = (t : List ℕ) (b : Book) → Reached t b → (x : ℕ) (a : Checking) → AllButOneCheck b x a → firstNo (before 8 (questions t (check a))) ≡ 0
 
--- it is met with: there is such a history, such a member and such a check
+-- it is met with: there is such a history, such a check, and a member that is not there
 unfoldable pub OneLostMet : Type 0
-OneLostMet = (t : List ℕ) × (b : Book) × (x : ℕ) × (a : Checking) × Reached t b × AllButOneCheck t b x a
+OneLostMet = (t : List ℕ) × (b : Book) × (x : ℕ) × (a : Checking) × Reached t b × AllButOneCheck b x a × (has (b .inForce .members) x ≡ true)
 
 -- ---- 1,000,000 from both sides
 -- k is a read or a write, with the answering set R
