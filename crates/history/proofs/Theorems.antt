@@ -6,24 +6,27 @@ use Prim.Native.Nat.{ℕ, zero, suc}
 use native.Mathlib.Omega.{arith}
 use lib.Dec.{eqb, ltb, eqb·suc-zero}
 use borrow.Author.Tests.{eqb-true, ltb-true}
+use Rattle.sets.specs.Upto.{Within}
 use Rattle.sets.specs.Sets.{has}
+use Rattle.sets.proofs.SetLaws.{has-within}
 use Rattle.quorums.specs.declared.Kind.{Kind}
 use Rattle.quorums.specs.declared.Kind.the-variants.{Read, Write}
-use Rattle.fields.specs.Layout.{usedOf}
+use Rattle.fields.specs.Layout.{usedOf, listOf}
 use Rattle.table.specs.Chain.{orderOf}
 use Rattle.table.specs.WellFormed.{limit, onlyRows, wellFormed}
 use Rattle.table.proofs.FormLaws.{well-formed-of}
-use Rattle.protocol.specs.Polls.{highestEpoch, inForce, current, quorumHeld}
+use Rattle.protocol.specs.Lists.{laidNow}
+use Rattle.protocol.specs.Polls.{polled, highestEpoch, inForce, current, quorumHeld}
 use Rattle.asking.specs.Asking.{firstNo, before}
 use Rattle.protocol.specs.Calls.{Founding, Checking, Call, founding, join, read, write, send, check, carry, isUsed, byCoordinator, questions, done, outcome, answers}
 use Rattle.asking.proofs.AskingLaws.{yes-first}
 use Rattle.protocol.proofs.QuestionLaws.{ByCoordinator, passed-first, refusal-is, when-done, when-refused, join-yes, write-yes, send-yes, CheckYes, check-yes}
 use Rattle.protocol.proofs.FoundedLaws.{founds-of}
 use Rattle.protocol.proofs.DoneLaws.{writeTable, sendTable, checkTable}
-use Rattle.history.specs.Book.{Book, opened, holdsQuorum, someHasAll, entered, checked}
+use Rattle.history.specs.Book.{Book, opened, holdsQuorum, someHasAll, entered, agreed, checked}
 use Rattle.history.specs.Demand3.{verdict, RefusedRight, Right, AllRight, Demand3}
-use Rattle.history.specs.Claims.{tableAfter, bookAfter, Reached, after, AlwaysWellFormed, ChecksByBook, Asks, aRead, aWrite, BelowTheLimit, AtTheLimit}
-use Rattle.history.proofs.State.{State, six-check, seven-check}
+use Rattle.history.specs.Claims.{tableAfter, bookAfter, Reached, after, AlwaysWellFormed, ChecksByBook, CheckAgrees, Asks, aRead, aWrite, BelowTheLimit, AtTheLimit}
+use Rattle.history.proofs.State.{State, whole, six-check, seven-check}
 use Rattle.history.proofs.Answers.{read-refused, write-full, right}
 use Rattle.history.proofs.Next.{next-join, next-write, next-send, next-same, next-check}
 use Rattle.history.proofs.Founded.{founded-state}
@@ -115,6 +118,36 @@ module _ (t : List ℕ) (b : Book) (e : ℕ) (S : State t b e) (a : Checking) wh
 pub checks-by-book : ChecksByBook
 unfolding ChecksByBook
 checks-by-book t b x a = let l = reached t b x in check-right t b (l .0) (l .1) a
+
+-- the list in force after a done check has the members of R
+agreed-members : (b : Book) (r : ℕ) → checked b r .inForce .members ≡ r
+unfolding checked agreed laidNow
+agreed-members b r = go (eqb r (b .inForce .members)) refl
+  where
+    go : (x : Bool) → eqb r (b .inForce .members) ≡ x → cond x b (agreed b r) .inForce .members ≡ r
+    go true q = sym (eqb-true r (b .inForce .members) q)
+    go false q = refl
+
+-- and by the invariant after it the rows of that list have it
+pub check-agrees : CheckAgrees
+unfolding CheckAgrees entered whole polled
+check-agrees t b x a h = record {
+  members = agreed-members b (a .r);
+  own = λ i m. S .inv .epochs .owned i (used i m) ∙ listed i m;
+  rows = listed;
+}
+  where
+    e : ℕ
+    e = reached t b x .0
+
+    S : State (outcome t (check a) .table) (checked b (a .r)) (next t b e (reached t b x .1) (check a) .0)
+    S = rw h at (next t b e (reached t b x .1) (check a) .1)
+
+    used : (i : ℕ) → has (a .r) i ≡ true → Within (usedOf (outcome t (check a) .table)) i
+    used i m = has-within _ (checked b (a .r) .inForce .members) i (S .inv .epochs .bound) (rw (agreed-members b (a .r)) m)
+
+    listed : (i : ℕ) → has (a .r) i ≡ true → listOf (outcome t (check a) .table) i ≡ checked b (a .r) .inForce
+    listed i m = S .inv .epochs .inside i (used i m) (rw (agreed-members b (a .r)) m) .1
 
 -- ---- 1,000,000 from both sides
 -- the claim of a list, for the call after it

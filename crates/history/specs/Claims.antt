@@ -9,7 +9,7 @@ use Rattle.sets.specs.Upto.{Within, count}
 use Rattle.sets.specs.Sets.{has, losing}
 use Rattle.quorums.specs.declared.Kind.{Kind}
 use Rattle.quorums.specs.declared.Kind.the-variants.{Read, Write}
-use Rattle.fields.specs.Layout.{usedOf, rowBytes, staleOf, versionOf, desiredOf, contentsOf}
+use Rattle.fields.specs.Layout.{usedOf, rowBytes, listOf, staleOf, versionOf, desiredOf, contentsOf}
 use Rattle.window.specs.Windows.{Kept, patches, windowOf}
 use Rattle.table.specs.WellFormed.{wellFormed}
 use Rattle.asking.specs.Asking.{firstNo, before}
@@ -39,6 +39,15 @@ AlwaysWellFormed = (t : List ℕ) (b : Book) → Reached t b → wellFormed t �
 unfoldable pub ChecksByBook : Type 0
 ChecksByBook = (t : List ℕ) (b : Book) → Reached t b → (a : Checking) → firstNo (before 6 (questions t (check a))) ≡ 0
     → firstNo (before 8 (questions t (check a))) ≡ cond (holdsQuorum b Write (has (a .r))) (cond (eqb (a .r) (b .inForce .members) || someHasAll b (has (a .r))) 0 7) 6
+
+-- "Done check: R becomes the list in force, and the own list of each row of R", in the book and in the table; also where R was the list in force and nothing changes
+pub record Agreed (t : List ℕ) (b : Book) (r : ℕ) : Type 0 where
+  pub members : b .inForce .members ≡ r
+  pub own : (i : ℕ) → has r i ≡ true → b .own i ≡ b .inForce
+  pub rows : (i : ℕ) → has r i ≡ true → listOf t i ≡ b .inForce
+
+unfoldable pub CheckAgrees : Type 0
+CheckAgrees = (t : List ℕ) (b : Book) → Reached t b → (a : Checking) → outcome t (check a) .refusal ≡ 0 → Agreed (outcome t (check a) .table) (entered b (check a) true) (a .r)
 
 -- ---- "Send the last results only"
 -- what row i keeps: its contents and its window
