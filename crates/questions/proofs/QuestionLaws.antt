@@ -11,10 +11,11 @@ use Rattle.bools.proofs.BoolLaws.{and-l, and-r, and-i, same-test}
 use Rattle.fields.specs.Layout.{usedOf}
 use Rattle.table.specs.WellFormed.{onlyRows, wellFormed}
 use Rattle.asking.specs.Asking.{Question, firstNo, before}
-use Rattle.protocol.specs.Calls.{Call, questions, byCoordinator, isUsed, inFile, fromSix, lent, outcome, resultOf}
+use Rattle.quorums.specs.declared.Kind.{Kind}
+use Rattle.protocol.specs.Calls.{Call, questions, byCoordinator, isUsed, inFile, calledBy, noted, fromSix, calledAfter, lent, outcome, resultOf}
 use Rattle.asking.proofs.AskingLaws.{yes-first, no-first, asked-more}
-use Rattle.protocol.proofs.QuestionLaws.{ByCoordinator, passed-first, early-is, refusal-is, when-refused}
-use Rattle.questions.specs.Stages.{toRange}
+use Rattle.protocol.proofs.QuestionLaws.{ByCoordinator, passed-first, early-is, refusal-is, called-is, when-refused}
+use Rattle.questions.specs.Stages.{toRange, Ranged, aRead, aWrite}
 
 pub range-test : (file offset count : ℕ) (b : Bool) → (b ≡ true → (1 ≤ count) × (offset + count ≤ file)) → (1 ≤ count → offset + count ≤ file → b ≡ true)
     → b ≡ (leb 1 count && leb (offset + count) file)
@@ -69,29 +70,39 @@ module _ (t : List ℕ) (c r : ℕ) where
     before-range qs n e h = asked-more (byCoordinator t c r (record { ask = 4; yes = inFile t offset count } ∷ [])) qs (omega (arith, e)) ∙ sym e
 
 -- ---- how many machines were called, noted from question 6 on
-module _ (t : List ℕ) (c r offset count : ℕ) (five six : Bool) (qs : List Question) where
-  abbrev asks : List Question
-  asks = byCoordinator t c r (record { ask = 4; yes = inFile t offset count } ∷ record { ask = 5; yes = five } ∷ record { ask = 6; yes = six } ∷ qs)
+-- questions 1 to 5
+abbrev toFive : List ℕ → ℕ → ℕ → ℕ → ℕ → Bool → List Question
+toFive t c r offset count five = byCoordinator t c r (record { ask = 4; yes = inFile t offset count } ∷ record { ask = 5; yes = five } ∷ [])
 
-  before-six : before 6 asks ≡ byCoordinator t c r (record { ask = 4; yes = inFile t offset count } ∷ record { ask = 5; yes = five } ∷ [])
-  unfolding before
-  before-six = early-is t c r _ 6 (omega arith)
+before-six : {k : Call} {kind : Kind} {c r offset count : ℕ} {bytes : List ℕ} {five : Bool} (t : List ℕ) → Ranged k kind c r offset count bytes five → before 6 (questions t k) ≡ toFive t c r offset count five
+unfolding questions before
+before-six t aRead = early-is t _ _ _ 6 (omega arith)
+before-six t aWrite = early-is t _ _ _ 6 (omega arith)
 
-  noted-if : (n m : ℕ) → firstNo (byCoordinator t c r (record { ask = 4; yes = inFile t offset count } ∷ record { ask = 5; yes = five } ∷ [])) ≡ n → fromSix asks m ≡ cond (eqb n 0) m 0
+after-call : {k : Call} {kind : Kind} {c r offset count : ℕ} {bytes : List ℕ} {five : Bool} (t : List ℕ) → Ranged k kind c r offset count bytes five
+    → calledAfter t k ≡ noted bytes (fromSix (questions t k) (calledBy kind t c r))
+unfolding calledAfter
+after-call t aRead = refl
+after-call t aWrite = refl
+
+module _ {k : Call} {kind : Kind} {c r offset count : ℕ} {bytes : List ℕ} {five : Bool} (t : List ℕ) (x : Ranged k kind c r offset count bytes five) where
+  -- the byte after the call, by the first no among 1 to 5
+  noted-is : (n : ℕ) → firstNo (toFive t c r offset count five) ≡ n → noted bytes (cond (eqb n 0) (calledBy kind t c r) 0) ≡ outcome t k .called
   unfolding fromSix
-  noted-if n m e = ap (λ (k : ℕ). cond (eqb k 0) m 0) (ap firstNo before-six ∙ e)
+  noted-is n e = sym (called-is t k ∙ after-call t x ∙ ap (λ (m : ℕ). noted bytes (cond (eqb m 0) (calledBy kind t c r) 0)) (ap firstNo (before-six t x) ∙ e))
 
   -- 0 where 1 to 4, or 5, is no
-  pub none-noted : (n m : ℕ) → n ≡ firstNo (toRange t c r offset count) → 1 ≤ n → fromSix asks m ≡ 0
-  none-noted n m e h = noted-if n m (before-range t c r offset count _ n e h) ∙ ap (λ (b : Bool). cond b m 0) (ne-eqb n 0 (λ z. omega arith))
+  pub called-early : (n : ℕ) → n ≡ firstNo (toRange t c r offset count) → 1 ≤ n → noted bytes 0 ≡ outcome t k .called
+  called-early n e h = ap (λ (b : Bool). noted bytes (cond b (calledBy kind t c r) 0)) (sym (ne-eqb n 0 (λ z. omega arith))) ∙ noted-is n (before-range t c r offset count _ n e h)
 
-  pub none-noted-five : (m : ℕ) → firstNo (toRange t c r offset count) ≡ 0 → five ≡ false → fromSix asks m ≡ 0
-  unfolding firstNo
-  none-noted-five m p e = noted-if 5 m (after-range t c r offset count _ p ∙ ap (λ (b : Bool). cond b 0 5) e)
+  module _ (p : firstNo (toRange t c r offset count) ≡ 0) where
+    pub called-long : five ≡ false → noted bytes 0 ≡ outcome t k .called
+    unfolding firstNo
+    called-long d = noted-is 5 (after-range t c r offset count _ p ∙ ap (λ (b : Bool). cond b 0 5) d)
 
-  pub six-noted : (m : ℕ) → firstNo (toRange t c r offset count) ≡ 0 → five ≡ true → fromSix asks m ≡ m
-  unfolding firstNo
-  six-noted m p e = noted-if 0 m (after-range t c r offset count _ p ∙ ap (λ (b : Bool). cond b 0 5) e)
+    pub called-by : five ≡ true → (n : ℕ) → n ≡ calledBy kind t c r → noted bytes n ≡ outcome t k .called
+    unfolding firstNo
+    called-by l n e = ap (noted bytes) e ∙ noted-is 0 (after-range t c r offset count _ p ∙ ap (λ (b : Bool). cond b 0 5) l)
 
 -- a refusal's result, and what it leaves
 pub record Refused (t : List ℕ) (k : Call) (n : ℕ) : Type 0 where

@@ -1,9 +1,19 @@
 -- The questions that a read and a write are asked before the poll.
+use mathlib.Core.Bool.{Bool, _&&_}
 use mathlib.Core.List.{List, [], _∷_}
 use Prim.Native.Nat.{ℕ}
+use lib.Dec.{eqb}
+use lib.ListN.{length}
+use Rattle.quorums.specs.declared.Kind.{Kind}
+use Rattle.quorums.specs.declared.Kind.the-variants.{Read, Write}
 use Rattle.asking.specs.Asking.{Question}
-use Rattle.protocol.specs.Calls.{byCoordinator, inFile}
+use Rattle.protocol.specs.Calls.{Reading, Writing, Call, read, write, byCoordinator, inFile}
 
 -- 1 to 4
 unfoldable pub toRange : List ℕ → ℕ → ℕ → ℕ → ℕ → List Question
 toRange t c r offset count = byCoordinator t c r (record { ask = 4; yes = inFile t offset count } ∷ [])
+
+-- a read or a write by c over r: its range, the bytes lent for the size of the set called, and the answer to its question 5
+pub data Ranged : Call → Kind → ℕ → ℕ → ℕ → ℕ → List ℕ → Bool → Type 0 where
+  aRead : {a : Reading} → Ranged (read a) Read (a .c) (a .r) (a .offset) (a .count) (a .called) (eqb (length (a .buffer)) (a .count) && eqb (length (a .called)) 1)
+  aWrite : {a : Writing} → Ranged (write a) Write (a .c) (a .r) (a .offset) (length (a .patch)) (a .called) (eqb (length (a .called)) 1)

@@ -19,13 +19,13 @@ use Rattle.table.specs.Chain.{orderOf}
 use Rattle.table.proofs.WellFormedLaws.{newest, sized, length-row}
 use Rattle.protocol.specs.Polls.{good, current, quorumHeld}
 use Rattle.asking.specs.Asking.{firstNo}
-use Rattle.protocol.specs.Calls.{Reading, Outcome, read, questions, answers, workSet, calledBy, noted, fromSix, calledAfter, done, outcome, resultOf}
+use Rattle.protocol.specs.Calls.{Reading, Outcome, read, questions, answers, workSet, done, outcome, resultOf}
 use Rattle.protocol.proofs.PollLaws.{lowest-good, worked-in}
-use Rattle.protocol.proofs.QuestionLaws.{read-yes, refusal-is, called-is, when-done}
+use Rattle.protocol.proofs.QuestionLaws.{read-yes, refusal-is, when-done}
 use Rattle.settle.specs.declared.Settled.{Settled}
 use Rattle.settle.specs.Works.{Works}
 use Rattle.questions.specs.Stages.{toRange}
-use Rattle.questions.proofs.QuestionLaws.{after-range, before-range, none-noted, none-noted-five, six-noted, Refused, refused-is}
+use Rattle.questions.proofs.QuestionLaws.{after-range, before-range, Refused, refused-is}
 
 module _ (t : List ℕ) (a : Reading) where
   -- refused by 1 to 4
@@ -33,15 +33,6 @@ module _ (t : List ℕ) (a : Reading) where
       → Refused t (read a) n
   unfolding questions
   read-early n e h = refused-is t (read a) n (before-range t (a .c) (a .r) (a .offset) (a .count) _ n e h) h
-
-  -- how many machines were called, noted
-  noted-is : (n : ℕ) → fromSix (questions t (read a)) (calledBy Read t (a .c) (a .r)) ≡ n → noted (a .called) n ≡ outcome t (read a) .called
-  unfolding calledAfter
-  noted-is n e = sym (called-is t (read a) ∙ ap (noted (a .called)) e)
-
-  pub called-early : (n : ℕ) → n ≡ firstNo (toRange t (a .c) (a .r) (a .offset) (a .count)) → 1 ≤ n → noted (a .called) 0 ≡ outcome t (read a) .called
-  unfolding questions
-  called-early n e h = noted-is 0 (none-noted t (a .c) (a .r) (a .offset) (a .count) _ _ _ n _ e h)
 
   -- question 5: both lent lists
   abbrev five : Bool
@@ -59,16 +50,7 @@ module _ (t : List ℕ) (a : Reading) where
         (after-four ∙ ap (λ (b : Bool). cond b (cond (quorumHeld Read (orderOf t) (answers t (a .r)) (workSet Read t (a .c) (a .r))) (cond (current (answers t (a .r)) (workSet Read t (a .c) (a .r))) 0 7) 6) 5) d)
         (omega arith)
 
-    pub called-long : five ≡ false → noted (a .called) 0 ≡ outcome t (read a) .called
-    unfolding questions
-    called-long d = noted-is 0 (none-noted-five t (a .c) (a .r) (a .offset) (a .count) five _ _ _ p d)
-
     module _ (l : five ≡ true) (v : Settled) (j : Works Read t (a .c) (a .r) v) where
-      -- from question 6 on
-      pub called-by : noted (a .called) (v .called) ≡ outcome t (read a) .called
-      unfolding questions
-      called-by = noted-is (v .called) (six-noted t (a .c) (a .r) (a .offset) (a .count) five _ _ _ p l ∙ sym (j .called))
-
       whole : length (a .buffer) ≡ a .count
       whole = eqb-true _ _ (and-l _ _ l)
 

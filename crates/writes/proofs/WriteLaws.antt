@@ -20,13 +20,13 @@ use Rattle.table.specs.WellFormed.{limit}
 use Rattle.protocol.specs.Polls.{goodVersion, good, current, quorumHeld}
 use Rattle.protocol.specs.Rows.{wroteRow}
 use Rattle.asking.specs.Asking.{firstNo}
-use Rattle.protocol.specs.Calls.{Writing, Outcome, write, questions, answers, workSet, calledBy, noted, fromSix, calledAfter, done, outcome, resultOf}
+use Rattle.protocol.specs.Calls.{Writing, Outcome, write, questions, answers, workSet, done, outcome, resultOf}
 use Rattle.protocol.proofs.PollLaws.{worked-in}
-use Rattle.protocol.proofs.QuestionLaws.{write-yes, refusal-is, called-is, when-done}
+use Rattle.protocol.proofs.QuestionLaws.{write-yes, refusal-is, when-done}
 use Rattle.settle.specs.declared.Settled.{Settled}
 use Rattle.settle.specs.Works.{Works}
 use Rattle.questions.specs.Stages.{toRange}
-use Rattle.questions.proofs.QuestionLaws.{after-range, before-range, none-noted, none-noted-five, six-noted, Refused, refused-is, no-in, yes-in}
+use Rattle.questions.proofs.QuestionLaws.{after-range, before-range, Refused, refused-is, no-in, yes-in}
 
 module _ (t : List ℕ) (a : Writing) where
   -- refused by 1 to 4
@@ -34,31 +34,13 @@ module _ (t : List ℕ) (a : Writing) where
   unfolding questions
   write-early n e h = refused-is t (write a) n (before-range t (a .c) (a .r) (a .offset) (length (a .patch)) _ n e h) h
 
-  -- how many machines were called, noted
-  noted-is : (n : ℕ) → fromSix (questions t (write a)) (calledBy Write t (a .c) (a .r)) ≡ n → noted (a .called) n ≡ outcome t (write a) .called
-  unfolding calledAfter
-  noted-is n e = sym (called-is t (write a) ∙ ap (noted (a .called)) e)
-
-  pub called-early : (n : ℕ) → n ≡ firstNo (toRange t (a .c) (a .r) (a .offset) (length (a .patch))) → 1 ≤ n → noted (a .called) 0 ≡ outcome t (write a) .called
-  unfolding questions
-  called-early n e h = noted-is 0 (none-noted t (a .c) (a .r) (a .offset) (length (a .patch)) _ _ _ n _ e h)
-
   -- refused by 5
   module _ (p : firstNo (toRange t (a .c) (a .r) (a .offset) (length (a .patch))) ≡ 0) (d : eqb (length (a .called)) 1 ≡ false) where
     pub write-long : Refused t (write a) 5
     unfolding questions firstNo
     write-long = refused-is t (write a) 5 (after-range t (a .c) (a .r) (a .offset) (length (a .patch)) _ p ∙ rw d) (omega arith)
 
-    pub called-long : noted (a .called) 0 ≡ outcome t (write a) .called
-    unfolding questions
-    called-long = noted-is 0 (none-noted-five t (a .c) (a .r) (a .offset) (length (a .patch)) (eqb (length (a .called)) 1) _ _ _ p d)
-
   module _ (p : firstNo (toRange t (a .c) (a .r) (a .offset) (length (a .patch))) ≡ 0) (l : eqb (length (a .called)) 1 ≡ true) (v : Settled) (j : Works Write t (a .c) (a .r) v) where
-    -- from question 6 on
-    pub called-by : noted (a .called) (v .called) ≡ outcome t (write a) .called
-    unfolding questions
-    called-by = noted-is (v .called) (six-noted t (a .c) (a .r) (a .offset) (length (a .patch)) (eqb (length (a .called)) 1) _ _ _ p l ∙ sym (j .called))
-
     after-four : firstNo (questions t (write a))
         ≡ cond (quorumHeld Write (orderOf t) (answers t (a .r)) (workSet Write t (a .c) (a .r))) (cond (current (answers t (a .r)) (workSet Write t (a .c) (a .r))) (cond (ltb (v .version) limit) 0 8) 7) 6
     unfolding questions firstNo

@@ -14,10 +14,10 @@ use Rattle.table.proofs.WellFormedLaws.{sized}
 use Rattle.asking.specs.Asking.{firstNo}
 use Rattle.protocol.specs.Calls.{Reading, lent, noted}
 use Rattle.protocol.proofs.QuestionLaws.{ByCoordinator}
-use Rattle.questions.specs.Stages.{toRange}
+use Rattle.questions.specs.Stages.{toRange, aRead}
 use Rattle.questions.specs.declared.Answered.{Answered}
-use Rattle.questions.proofs.QuestionLaws.{range-passed}
-use Rattle.reads.proofs.ReadLaws.{read-early, called-early, read-long, called-long, read-no, called-by, source-used, range-in, read-done}
+use Rattle.questions.proofs.QuestionLaws.{range-passed, called-early, called-long, called-by}
+use Rattle.reads.proofs.ReadLaws.{read-early, read-long, read-no, source-used, range-in, read-done}
 use Rattle.reads.proofs.answer.Statement.{statement}
 use Rattle.reads.proofs.answer.Tie as tie
 
@@ -67,7 +67,7 @@ returns c called e =
       ap (λ (x : Answered). x .result) (c .answer-of .ensures) ∙ no .result,
       no .table,
       no .buffer,
-      ap (λ (x : Answered). noted called (x .called)) (c .answer-of .ensures) ∙ called-early (start .args .t .now) (reading start called) _ (c .before .before .range-asked .ensures .0) (omega arith),
+      ap (λ (x : Answered). noted called (x .called)) (c .answer-of .ensures) ∙ called-early (start .args .t .now) (aRead {a = reading start called}) _ (c .before .before .range-asked .ensures .0) (omega arith),
     )
 
 both-requires : tie.Need-both-requires
@@ -86,7 +86,7 @@ returns-2 c called e =
       ap (λ (x : Answered). x .result) (c .answer-of2 .ensures) ∙ no .result,
       no .table,
       no .buffer,
-      ap (λ (x : Answered). noted called (x .called)) (c .answer-of2 .ensures) ∙ called-long (start .args .t .now) (reading start called) (passed (b .before)) five,
+      ap (λ (x : Answered). noted called (x .called)) (c .answer-of2 .ensures) ∙ called-long (start .args .t .now) (aRead {a = reading start called}) (passed (b .before)) five,
     )
 
 settle-requires : tie.Need-settle-requires
@@ -110,7 +110,7 @@ returns-3 c called e =
       ap (λ (x : Answered). x .result) (c .answer-of3 .ensures) ∙ no .result,
       no .table,
       no .buffer,
-      ap (λ (x : Answered). noted called (x .called)) (c .answer-of3 .ensures) ∙ called-by (start .args .t .now) (reading start called) (passed u) (fitting f called e) (s .result) (s .ensures),
+      ap (λ (x : Answered). noted called (x .called)) (c .answer-of3 .ensures) ∙ called-by (start .args .t .now) (aRead {a = reading start called}) (passed u) (fitting f called e) (s .result .called) (s .ensures .called),
     )
 
 lowest-requires : tie.Need-lowest-requires
@@ -158,7 +158,7 @@ returns-4 c called e =
       ap (λ (x : Answered). x .result) (c .answer-of4 .ensures) ∙ yes .0,
       yes .1,
       c .before .before .before .copy-out .ensures ∙ ap (λ x. part (start .args .offset) (length (start .args .buffer .now)) (contents x)) bytes ∙ yes .2,
-      ap (λ (x : Answered). noted called (x .called)) (c .answer-of4 .ensures) ∙ called-by (start .args .t .now) (reading start called) (passed u) (fitting f called e) (s .result) (s .ensures),
+      ap (λ (x : Answered). noted called (x .called)) (c .answer-of4 .ensures) ∙ called-by (start .args .t .now) (aRead {a = reading start called}) (passed u) (fitting f called e) (s .result .called) (s .ensures .called),
     )
 
 pub answer-spec : {M : Type 1} → statement M

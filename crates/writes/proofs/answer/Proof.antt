@@ -12,10 +12,10 @@ use Rattle.table.specs.WellFormed.{limit}
 use Rattle.asking.specs.Asking.{firstNo}
 use Rattle.protocol.specs.Calls.{Writing, noted}
 use Rattle.protocol.proofs.QuestionLaws.{ByCoordinator}
-use Rattle.questions.specs.Stages.{toRange}
+use Rattle.questions.specs.Stages.{toRange, aWrite}
 use Rattle.questions.specs.declared.Answered.{Answered}
-use Rattle.questions.proofs.QuestionLaws.{range-passed}
-use Rattle.writes.proofs.WriteLaws.{write-early, called-early, write-long, called-long, write-no, called-by, write-full, works-used, works-right, patch-in, write-done}
+use Rattle.questions.proofs.QuestionLaws.{range-passed, called-early, called-long, called-by}
+use Rattle.writes.proofs.WriteLaws.{write-early, write-long, write-no, write-full, works-used, works-right, patch-in, write-done}
 use Rattle.writes.proofs.answer.Statement.{statement}
 use Rattle.writes.proofs.answer.Tie as tie
 
@@ -59,7 +59,7 @@ returns c called e =
     let no = write-early (start .args .t .now) (writing start called) _ (q .range-asked .ensures .0) (omega arith) in (
       ap (λ (x : Answered). x .result) (c .answer-of .ensures) ∙ no .result,
       no .table,
-      ap (λ (x : Answered). noted called (x .called)) (c .answer-of .ensures) ∙ called-early (start .args .t .now) (writing start called) _ (q .range-asked .ensures .0) (omega arith),
+      ap (λ (x : Answered). noted called (x .called)) (c .answer-of .ensures) ∙ called-early (start .args .t .now) (aWrite {a = writing start called}) _ (q .range-asked .ensures .0) (omega arith),
     )
 
 answer-of-requires-2 : tie.Need-answer-of-requires-2
@@ -76,7 +76,7 @@ returns-2 c called e =
     let no = write-long (start .args .t .now) (writing start called) (passed u) five in (
       ap (λ (x : Answered). x .result) (c .answer-of2 .ensures) ∙ no .result,
       no .table,
-      ap (λ (x : Answered). noted called (x .called)) (c .answer-of2 .ensures) ∙ called-long (start .args .t .now) (writing start called) (passed u) five,
+      ap (λ (x : Answered). noted called (x .called)) (c .answer-of2 .ensures) ∙ called-long (start .args .t .now) (aWrite {a = writing start called}) (passed u) five,
     )
 
 settle-requires : tie.Need-settle-requires
@@ -101,7 +101,7 @@ returns-3 c called e =
     let no = write-no (start .args .t .now) (writing start called) (passed u) five (s .settle .result) (s .settle .ensures) (omega arith) in (
       ap (λ (x : Answered). x .result) (c .answer-of3 .ensures) ∙ no .result,
       no .table,
-      ap (λ (x : Answered). noted called (x .called)) (c .answer-of3 .ensures) ∙ called-by (start .args .t .now) (writing start called) (passed u) five (s .settle .result) (s .settle .ensures),
+      ap (λ (x : Answered). noted called (x .called)) (c .answer-of3 .ensures) ∙ called-by (start .args .t .now) (aWrite {a = writing start called}) (passed u) five (s .settle .result .called) (s .settle .ensures .called),
     )
 
 below-limit-requires : tie.Need-below-limit-requires
@@ -124,7 +124,7 @@ returns-4 c called e =
     let no = write-full (start .args .t .now) (writing start called) (passed u) five (s .settle .result) (s .settle .ensures) (settled-here (b .before)) (sym (b .below-limit .ensures) ∙ not-true _ (c .before .if4 .taken)) in (
       ap (λ (x : Answered). x .result) (c .answer-of4 .ensures) ∙ no .result,
       no .table,
-      ap (λ (x : Answered). noted called (x .called)) (c .answer-of4 .ensures) ∙ called-by (start .args .t .now) (writing start called) (passed u) five (s .settle .result) (s .settle .ensures),
+      ap (λ (x : Answered). noted called (x .called)) (c .answer-of4 .ensures) ∙ called-by (start .args .t .now) (aWrite {a = writing start called}) (passed u) five (s .settle .result .called) (s .settle .ensures .called),
     )
 
 add-version : tie.Need-add-version
@@ -165,7 +165,7 @@ returns-5 c called e =
     let yes = write-done (start .args .t .now) (writing start called) (passed u) five (s .settle .result) (s .settle .ensures) (settled-here (b .before)) (room l) in (
       ap (λ (x : Answered). x .result) (c .answer-of5 .ensures) ∙ yes .0,
       w .write-rows .ensures ∙ yes .1,
-      ap (λ (x : Answered). noted called (x .called)) (c .answer-of5 .ensures) ∙ called-by (start .args .t .now) (writing start called) (passed u) five (s .settle .result) (s .settle .ensures),
+      ap (λ (x : Answered). noted called (x .called)) (c .answer-of5 .ensures) ∙ called-by (start .args .t .now) (aWrite {a = writing start called}) (passed u) five (s .settle .result .called) (s .settle .ensures .called),
     )
 
 pub answer-spec : {M : Type 1} → statement M
