@@ -4,7 +4,7 @@
 #include <string.h>
 #include "dyngrid.h"
 
-enum { MACHINES = 4, FILE_BYTES = 16, TABLE_BYTES = GRID_HEADER + MACHINES * (GRID_ROW_HEADER + FILE_BYTES) };
+enum { MACHINES = 4, FILE_BYTES = 16, TABLE_BYTES = GRID_HEADER + MACHINES * (GRID_ROW_HEADER + FILE_BYTES + GRID_RECORDS) };
 /* Where the first row has the mark of its list's grid. */
 enum { GRID_MARK = GRID_HEADER + 24 };
 
@@ -24,9 +24,10 @@ static const char *meaning(uint32_t refusal)
     case GRID_SENDER_STALE: return "the sender is stale itself: send from another machine";
     case GRID_RECEIVER_NOT_BEHIND: return "the receiver is not stale, or desires more than the sender has";
     case GRID_BAD_NAMES: return "names must be 1 to 64, rise strictly, and none be 0; the choice must be wide or tall";
-    case GRID_BAD_SIZE: return "capacity, file length and table length do not fit together";
+    case GRID_BAD_SIZE: return "capacity, file length, table length or forms do not fit together";
     case GRID_NAME_NOT_FREE: return "the name is 0 or in use: join with another one";
     case GRID_NO_ROOM: return "every row of the table is in use: found a larger table";
+    case GRID_NOT_FORM_1: return "form 1 cannot hold the table: move it to form 2";
     case GRID_NO_CHART: return "a chart is of 1 to 9 machines with a grid mark that so many can have";
     default: return "no such refusal";
     }

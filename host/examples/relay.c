@@ -4,7 +4,8 @@
 #include <string.h>
 #include "dyngrid.h"
 
-enum { MACHINES = 4, FILE_BYTES = 16, ROW_BYTES = GRID_ROW_HEADER + FILE_BYTES, TABLE_BYTES = GRID_HEADER + MACHINES * ROW_BYTES };
+enum { MACHINES = 4, FILE_BYTES = 16 };
+enum { ROW_BYTES = GRID_ROW_HEADER + FILE_BYTES + GRID_RECORDS, TABLE_BYTES = GRID_HEADER + MACHINES * ROW_BYTES };
 /* A row begins with its name and link. */
 enum { NAME_AND_LINK = 3 };
 

@@ -9,7 +9,7 @@ static void line(int step, const char *call, uint64_t result)
 
 int main(void)
 {
-    uint8_t table[160], byte[1], called[1], names[] = {1, 0, 2, 0, 3, 0, 4, 0};
+    uint8_t table[GRID_HEADER + 4 * (GRID_ROW_HEADER + 4 + GRID_RECORDS)], byte[1], called[1], names[] = {1, 0, 2, 0, 3, 0, 4, 0};
     if (!grid_interface_agrees())
         return 1;
     if (grid_found(table, sizeof table, 4, 4, names, sizeof names, GRID_WIDE) != 4)

@@ -13,13 +13,14 @@
  *   read and a write say how many machines were called (see grid_read).
  *   A done call, founding and joining aside, alters only rows that answered.
  *
- * Tables of form 1
- *   The first byte of a table is its form: 2 (GRID_FORM). A table of form 1, as earlier versions founded it, is refused by 1
- *   until its first byte is set to 2; nothing else of it need change:
- *       if (table[0] == 1) table[0] = GRID_FORM;
- *   File, versions, epochs and lists stay, and every list keeps the grid that it was laid in. So a list of five that is in
- *   force then is still the published one, of which nobody can read, write or check while its third machine in name order
- *   is away. Two checks with that machine on lay it anew: one by four of the five, and one by all five (see grid_check).
+ * Tables of older forms
+ *   The first byte of a table is its form: 3 (GRID_FORM). A table of form 1 or 2, as earlier versions left it, is refused by 1 in
+ *   every call but grid_move, which carries it over into a second buffer:
+ *       uint64_t moved = grid_move(old, old_len, GRID_FORM, table, grid_table_length(capacity, file_len));
+ *   Capacity is byte 1 of the old table, and the length of the file bytes 4 and 5, low byte first. File, versions, epochs and
+ *   lists stay, and every list keeps the grid that it was laid in. So a list of five that comes from form 1 is still the
+ *   published one, of which nobody can read, write or check while its third machine in name order is away. Two checks with that
+ *   machine on lay it anew: one by four of the five, and one by all five (see grid_check).
  *
  * Calls at the same time
  *   Reads and choices of one table may run at the same time, also from several threads, each with its own lists: they alter
@@ -44,7 +45,7 @@ extern "C" {
 
 /* Rises with every signature in this header that is new or changed, and with nothing else: a new form of the table does not
    raise it, for a table tells its form itself, and one of another form is refused by 1. */
-#define DYNGRID_INTERFACE 6
+#define DYNGRID_INTERFACE 7
 
 /* The number of the archive. */
 uint64_t grid_interface(void);
@@ -56,11 +57,11 @@ static inline int grid_interface_agrees(void)
     return grid_interface() == DYNGRID_INTERFACE;
 }
 
-/* Why a call was refused. The questions behind the numbers are put in this order (a chart's 17 before its 5); the first no
-   counts. */
+/* Why a call was refused. The questions behind the numbers are put in this order (a chart's 17 before its 5, a move's
+   15 before its 12); the first no counts. */
 enum grid_refusals {
     GRID_DONE = 0,                 /* not refused */
-    GRID_MALFORMED = 1,            /* the table is not well formed: use a good copy of it, or found it anew; form 1: see above */
+    GRID_MALFORMED = 1,            /* the table is not well formed: use a good copy, or found it anew; older forms: see above */
     GRID_NO_SUCH_ROW = 2,          /* a row is not in use, or a send names one row twice */
     GRID_NOT_ANSWERING = 3,        /* the coordinator, or an end of a send, is not in the answering set */
     GRID_OUT_OF_RANGE = 4,         /* the range is empty or ends beyond the file; a choice is neither a read's nor a write's */
@@ -72,14 +73,16 @@ enum grid_refusals {
     GRID_SENDER_STALE = 9,         /* the sending row is stale itself: send from another one */
     GRID_RECEIVER_NOT_BEHIND = 10, /* the receiving row is not stale, or desires more than the sender has */
     GRID_BAD_NAMES = 11,           /* names must be 1 to 64, rise strictly, and none be 0; the choice must be wide or tall */
-    GRID_BAD_SIZE = 12,            /* capacity (1 to 64, no fewer than the names), file (1 to 4,096) and table length must fit */
+    GRID_BAD_SIZE = 12,            /* capacity (1 to 64, no fewer than the names), file (1 to 4,096) and table length must fit;
+                                      a move goes from form 1 or 2 to 3 or back, into a buffer of the new length */
     GRID_NAME_NOT_FREE = 13,       /* the name is 0 or in use: join with another one, 1 to 65,535 */
     GRID_NO_ROOM = 14,             /* every row of the table is in use: found a larger table and carry the file over */
+    GRID_NOT_FORM_1 = 15,          /* form 1 cannot hold the table: a list has a grid mark, or a row no list; move to form 2 */
     GRID_NO_CHART = 17             /* a chart is of 1 to 9 members with a grid mark that so many can have (see grid_chart) */
 };
 
-/* The form of a table, in its first byte. */
-enum grid_forms { GRID_FORM = 2 };
+/* The forms of a table, in its first byte. All calls but grid_move take the newest alone: GRID_FORM. */
+enum grid_forms { GRID_FORM_1 = 1, GRID_FORM_2 = 2, GRID_FORM = 3 };
 
 /* The choices of a founding. */
 enum grid_shapes { GRID_WIDE = 0, GRID_TALL = 1 };
@@ -93,8 +96,8 @@ enum grid_kinds { GRID_READ = 0, GRID_WRITE = 1 };
 /* The bytes of a set in a list. */
 enum grid_set_bytes { GRID_SET_BYTES = 8 };
 
-/* Limits of a table. */
-enum grid_limits { GRID_MAX_ROWS = 64, GRID_MAX_FILE = 4096, GRID_HEADER = 16, GRID_ROW_HEADER = 32 };
+/* Limits of a table. A row is its header, the file's contents, and the records of its window. */
+enum grid_limits { GRID_MAX_ROWS = 64, GRID_MAX_FILE = 4096, GRID_HEADER = 16, GRID_ROW_HEADER = 32, GRID_RECORDS = 576 };
 
 /* Limits of a chart: the members of a list, and the bytes that it is put into at least. */
 enum grid_chart_limits { GRID_MAX_CHART = 9, GRID_CHART_BYTES = 128 };
@@ -114,7 +117,13 @@ static inline uint32_t grid_value(uint64_t result)
 /* How many bytes a table of so many rows for a file of so many bytes takes. */
 static inline size_t grid_table_length(size_t capacity, size_t file_len)
 {
-    return GRID_HEADER + capacity * (GRID_ROW_HEADER + file_len);
+    return GRID_HEADER + capacity * (GRID_ROW_HEADER + file_len + GRID_RECORDS);
+}
+
+/* The same for any form, for a move: the rows of forms 1 and 2 have no records. */
+static inline size_t grid_length_in(uint64_t form, size_t capacity, size_t file_len)
+{
+    return grid_table_length(capacity, file_len) - (form < GRID_FORM ? capacity * GRID_RECORDS : 0);
 }
 
 /* The set in a list of eight bytes, as a choice leaves it there. */
@@ -188,7 +197,7 @@ uint64_t grid_join(uint8_t *table, size_t table_len, uint16_t name);
    on, each once; the other bytes stay. The list has at least 128 bytes (GRID_CHART_BYTES). No table is asked.
    Value: how many sets. Refusals: 17, then 5.
 
-   Mark 0 is for lists of any length (of five only in a table taken over from form 1), mark 1 for lists of five, mark 2 for
+   Mark 0 is for lists of any length (of five only in a table that comes from form 1), mark 1 for lists of five, mark 2 for
    lists of any length in a tall table. Four members with mark 0 give 7, 11, 13, 14. */
 uint64_t grid_chart(uint64_t length, uint64_t mark, uint8_t *list, size_t list_len);
 
@@ -202,6 +211,16 @@ uint64_t grid_chart(uint64_t length, uint64_t mark, uint8_t *list, size_t list_l
    list is the list in force and some row of the choice has every done write, that is enough (for a write: below version
    1,000,000); else call all used rows. Nothing is looked at but header, names, links and the coordinator's own row. */
 uint64_t grid_choice(const uint8_t *table, size_t table_len, uint64_t coordinator, uint64_t kind, uint8_t *set, size_t set_len);
+
+/* Carries a table over to another form: from form 1 or 2 up to form 3, with empty windows, or from form 3 down to form 1 or 2,
+   without windows. The new table goes into `to`, which has exactly the length that grid_length_in tells; the old one stays.
+   Value: the rows used. Refusals: 1, 15, 12. A refused move leaves `to` as it is.
+
+   A table is judged by its own form here. Up and down gives the original bytes; down and up gives the same rows with empty
+   windows. Form 1 knows no grid marks and no row without a list: a move to it is refused by 15 if there is one of these. A
+   table of form 1 that a machine has joined is of form 2 but for its first byte, and refused by 1: set that byte to GRID_FORM_2,
+   and then move it. */
+uint64_t grid_move(const uint8_t *table, size_t table_len, uint64_t form, uint8_t *to, size_t to_len);
 
 #ifdef __cplusplus
 }

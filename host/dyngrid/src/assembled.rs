@@ -44,7 +44,10 @@ impl fmt::Display for NotAssembled {
                 write!(f, "row {row} is there twice: take one answer of each machine")
             }
             NotAssembled::WrongLength { row, length } => {
-                write!(f, "{length} bytes are not row {row} of this table: a row takes 32 bytes and the file")
+                write!(
+                    f,
+                    "{length} bytes are not row {row} of this table: a row takes 608 bytes and the file"
+                )
             }
             NotAssembled::OtherName { row, name } => {
                 write!(f, "the bytes of row {row} have the name {name}, which is another machine's: ask that machine anew")

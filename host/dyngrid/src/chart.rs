@@ -9,7 +9,7 @@ const LIST: usize = 128;
 ///
 /// A set is a number, bit k - 1 for the k-th member in name order. The sets rise. A row that has a list tells its
 /// [grid mark](crate::RowView::grid_mark): 2 in a tall table, and in a wide one 1 for five and 0 for every other length (also for
-/// five in a table taken over from form 1).
+/// five in a table that comes from form 1).
 ///
 /// ```
 /// use dyngrid::{chart, Refusal};

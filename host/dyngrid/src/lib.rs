@@ -20,9 +20,11 @@
 
 mod assembled;
 mod called;
+mod carry;
 mod chart;
 mod choice;
 mod display;
+mod not_a_table;
 pub mod raw;
 mod refusal;
 mod rows;
@@ -31,9 +33,11 @@ mod view;
 
 pub use assembled::NotAssembled;
 pub use called::{Done, Refused};
+pub use carry::OlderForm;
 pub use chart::chart;
 pub use choice::Kind;
+pub use not_a_table::NotATable;
 pub use refusal::Refusal;
 pub use rows::{Rows, RowsIter};
-pub use table::{NotATable, Shape, Table};
+pub use table::{Shape, Table};
 pub use view::RowView;

@@ -11,7 +11,7 @@ use std::sync::OnceLock;
 
 /// Rises with every signature below that is new or changed, as in the archive, and with nothing else: a table tells its form
 /// itself.
-pub const INTERFACE: u64 = 6;
+pub const INTERFACE: u64 = 7;
 
 /// The choices of a founding: a wide table, or a tall one.
 pub const WIDE: u64 = 0;
@@ -102,6 +102,9 @@ extern "C" {
         set: *mut u8,
         set_len: usize,
     ) -> u64;
+
+    /// Carries a table over to another form, into a second buffer. Value: the rows used.
+    pub fn grid_move(table: *const u8, table_len: usize, form: u64, to: *mut u8, to_len: usize) -> u64;
 }
 
 #[cfg(test)]
@@ -115,9 +118,9 @@ mod tests {
 
     #[test]
     #[should_panic(
-        expected = "has interface 7, and this wrapper needs 6: build archive and wrapper from one checkout"
+        expected = "has interface 8, and this wrapper needs 7: build archive and wrapper from one checkout"
     )]
     fn another_archive_is_refused() {
-        agree(7);
+        agree(8);
     }
 }

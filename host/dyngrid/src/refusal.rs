@@ -30,12 +30,14 @@ pub enum Refusal {
     ReceiverNotBehind,
     /// 11: the names are not 1 to 64, strictly rising, none 0, or the choice is neither wide nor tall.
     BadNames,
-    /// 12: capacity and file length do not fit.
+    /// 12: capacity and file length do not fit, or a table is to be carried up that is of form 3 already.
     BadSize,
     /// 13: the name of a joining is 0 or in use.
     NameNotFree,
     /// 14: no unused row is left to join in.
     NoRoom,
+    /// 15: form 1 cannot hold the table, since a list has a grid mark or a row has no list.
+    NotForm1,
     /// 17: a chart of no member or of more than nine, or with a grid mark that no list of that length can have.
     NoChart,
     /// A number that this wrapper has no name for: the archive is newer than the wrapper.
@@ -44,7 +46,7 @@ pub enum Refusal {
 
 impl Refusal {
     /// Every refusal that has a name, in the order of their numbers.
-    pub const ALL: [Refusal; 15] = [
+    pub const ALL: [Refusal; 16] = [
         Refusal::Malformed,
         Refusal::NoSuchRow,
         Refusal::NotAnswering,
@@ -59,6 +61,7 @@ impl Refusal {
         Refusal::BadSize,
         Refusal::NameNotFree,
         Refusal::NoRoom,
+        Refusal::NotForm1,
         Refusal::NoChart,
     ];
 
@@ -79,6 +82,7 @@ impl Refusal {
             Refusal::BadSize => 12,
             Refusal::NameNotFree => 13,
             Refusal::NoRoom => 14,
+            Refusal::NotForm1 => 15,
             Refusal::NoChart => 17,
             Refusal::Unknown(number) => number,
         }
@@ -94,7 +98,8 @@ impl Refusal {
     pub fn sentence(self) -> &'static str {
         match self {
             Refusal::Malformed => {
-                "the table is malformed: restore its bytes from a good copy, or found it anew (of form 1: set byte 0 to 2)"
+                "the table is malformed: restore its bytes from a good copy, or found it anew (of an older form: carry it up; of \
+                 form 1 with machines that joined: set byte 0 to 2 before)"
             }
             Refusal::NoSuchRow => "a row is not in use, or a send names one row twice: name rows from 1 to the rows used",
             Refusal::NotAnswering => "the coordinator, or an end of a send, is not among the rows that answered: add it",
@@ -118,10 +123,14 @@ impl Refusal {
                  sort the names, each once"
             }
             Refusal::BadSize => {
-                "the sizes do not fit: up to 64 rows, no fewer than the names, and a file of 1 to 4,096 bytes"
+                "the sizes do not fit: up to 64 rows, no fewer than the names, and a file of 1 to 4,096 bytes (for a move: from \
+                 form 1 or 2 to 3 or back, into a buffer of exactly the new length)"
             }
             Refusal::NameNotFree => "the name is 0 or in use: join with a name from 1 to 65,535 that no row has",
             Refusal::NoRoom => "every row of the table is in use: found a table of more rows and carry the file over",
+            Refusal::NotForm1 => {
+                "form 1 cannot hold the table, since a list has a grid mark or a row has no list: carry it to form 2"
+            }
             Refusal::NoChart => {
                 "there is no such chart: name 1 to 9 members, and the grid mark 0, 2 or, of five, 1 (a list's is byte 24 of its row)"
             }
@@ -154,7 +163,7 @@ mod tests {
         assert_eq!(split(7), Ok(7));
         assert_eq!(split(6 << 32), Err(Refusal::NoQuorum));
         assert_eq!(split(14 << 32), Err(Refusal::NoRoom));
-        assert_eq!(split(15 << 32 | 5), Err(Refusal::Unknown(15)));
+        assert_eq!(split(16 << 32 | 5), Err(Refusal::Unknown(16)));
         assert_eq!(split(17 << 32), Err(Refusal::NoChart));
         assert_eq!(split(u64::MAX), Err(Refusal::Unknown(u32::MAX)));
     }

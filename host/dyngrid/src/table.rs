@@ -1,14 +1,13 @@
 use crate::called::answer;
 use crate::refusal::split;
-use crate::{raw, Done, NotAssembled, Refusal, Refused, Rows};
-use std::error::Error;
+use crate::{raw, Done, NotATable, NotAssembled, Refusal, Refused, Rows};
 use std::fmt;
 use std::ops::Range;
 
-/// The form of a table, in its first byte.
-const FORM: u8 = 2;
 const HEADER: usize = 16;
 const ROW_HEADER: usize = 32;
+/// Behind the contents of a row come the records of its window.
+const RECORDS: usize = 576;
 /// A row begins with its name, and then its link.
 const NAME: usize = 2;
 const NAME_AND_LINK: usize = 3;
@@ -27,14 +26,14 @@ pub enum Shape {
 
 /// A grid table that owns its bytes.
 ///
-/// Its length always agrees with its header, and no buffer, patch or list of names can overlap it. Rows have the
+/// It is of the newest form, 3. Its length always agrees with its header, and no buffer, patch or list of names can overlap it. Rows have the
 /// numbers 1 to [`Table::used`].
 ///
 /// Reads and choices of one table may run at the same time, also from several threads: they take the table by shared reference
 /// and alter nothing of it, and the library keeps no state of its own. Every other call has the table to itself.
 #[derive(Clone, PartialEq, Eq)]
 pub struct Table {
-    bytes: Vec<u8>,
+    pub(crate) bytes: Vec<u8>,
 }
 
 impl Table {
@@ -61,37 +60,16 @@ impl Table {
 
     /// Takes over the bytes of a table, as kept on a disk. If they are no well-formed table, the error gives them back.
     ///
-    /// The first byte of a table is its form, 2. A table of form 1 is taken over by setting that byte to 2. Every list then
-    /// keeps its grid: see [`Table::check`] for one of five.
-    ///
-    /// ```
-    /// # use dyngrid::{Refusal, Shape, Table};
-    /// # let mut kept = Table::found(4, 16, &[10, 20, 30, 40], Shape::Wide)?.into_bytes();
-    /// # kept[0] = 1;
-    /// let table = Table::from_bytes(kept).or_else(|error| {
-    ///     let form_1 = error.is_form_1();
-    ///     let mut bytes = error.into_bytes();
-    ///     if form_1 {
-    ///         bytes[0] = 2;
-    ///     }
-    ///     Table::from_bytes(bytes)
-    /// })?;
-    /// # assert_eq!(table.as_bytes()[0], 2);
-    /// # Ok::<(), Refusal>(())
-    /// ```
+    /// A table of an older form is not taken as it is: the error names its form, and [`Table::carry_up`] carries it over.
     ///
     /// Panics if the archive has another interface than this wrapper.
     pub fn from_bytes(bytes: Vec<u8>) -> Result<Table, NotATable> {
         raw::assert_interface();
         let mut table = Table { bytes };
-        let Err(refusal) = table.judge() else { return Ok(table) };
-        let mut form_1 = table.bytes.first() == Some(&1);
-        if form_1 {
-            table.bytes[0] = FORM;
-            form_1 = table.judge().is_ok();
-            table.bytes[0] = 1;
+        match table.judge() {
+            Ok(()) => Ok(table),
+            Err(refusal) => Err(NotATable::new(table.bytes, refusal)),
         }
-        Err(NotATable { bytes: table.bytes, refusal, form_1 })
     }
 
     /// Is the table well formed? A send between rows 0 is never done, and tells.
@@ -130,7 +108,7 @@ impl Table {
 
     /// Where a row lies in the table, if it is in use.
     fn place(&self, row: usize) -> Option<Range<usize>> {
-        let stride = ROW_HEADER + self.file_len();
+        let stride = ROW_HEADER + self.file_len() + RECORDS;
         self.rows().contains(row).then(|| HEADER + (row - 1) * stride..HEADER + row * stride)
     }
 
@@ -338,7 +316,7 @@ impl Table {
     /// Makes the rows that answered the list in force; gives the epoch number in force.
     ///
     /// The new list has the shape of the table. A list of five, founded or laid by a check, lies in 3 rows and 2 columns: any
-    /// one of its machines may be away. A check by the list in force changes nothing. So five in a table taken over from form 1 stay in the published grid, of
+    /// one of its machines may be away. A check by the list in force changes nothing. So five in a table that comes from form 1 stay in the published grid, of
     /// which nobody can read while the third machine in name order is away, until two checks with that machine on lay them
     /// anew: one by four of the five, and one by all five.
     pub fn check(&mut self, coordinator: usize, answering: Rows) -> Result<u32, Refusal> {
@@ -400,70 +378,12 @@ impl TryFrom<Vec<u8>> for Table {
     }
 }
 
-/// Bytes that are no well-formed table, and how the library refused them.
-#[derive(Clone, PartialEq, Eq)]
-pub struct NotATable {
-    bytes: Vec<u8>,
-    refusal: Refusal,
-    form_1: bool,
-}
-
-impl NotATable {
-    /// How the library refused them: `Malformed`.
-    pub fn refusal(&self) -> Refusal {
-        self.refusal
-    }
-
-    /// Are they a table of form 1, which is well formed once its first byte is set to 2?
-    pub fn is_form_1(&self) -> bool {
-        self.form_1
-    }
-
-    /// The bytes that were given to [`Table::from_bytes`].
-    pub fn as_bytes(&self) -> &[u8] {
-        &self.bytes
-    }
-
-    /// The bytes that were given to [`Table::from_bytes`], without a copy.
-    pub fn into_bytes(self) -> Vec<u8> {
-        self.bytes
-    }
-}
-
-/// How many bytes there are, and the refusal.
-impl fmt::Debug for NotATable {
-    fn fmt(&self, f: &mut fmt::Formatter) -> fmt::Result {
-        f.debug_struct("NotATable")
-            .field("length", &self.bytes.len())
-            .field("refusal", &self.refusal)
-            .finish_non_exhaustive()
-    }
-}
-
-impl fmt::Display for NotATable {
-    fn fmt(&self, f: &mut fmt::Formatter) -> fmt::Result {
-        let length = self.bytes.len();
-        if self.form_1 {
-            write!(f, "{length} bytes are a table of form 1: set byte 0 to 2, and it is taken over")
-        } else {
-            write!(f, "{length} bytes are no table: {}", self.refusal)
-        }
-    }
-}
-
-impl Error for NotATable {
-    fn source(&self) -> Option<&(dyn Error + 'static)> {
-        Some(&self.refusal)
-    }
-}
-
-impl From<NotATable> for Refusal {
-    fn from(error: NotATable) -> Refusal {
-        error.refusal
-    }
-}
-
 /// How many bytes a table takes; none if capacity or file length are beyond what a table can have.
-fn length(capacity: usize, file_len: usize) -> Option<usize> {
-    (capacity <= 64 && file_len <= 4096).then(|| HEADER + capacity * (ROW_HEADER + file_len))
+pub(crate) fn length(capacity: usize, file_len: usize) -> Option<usize> {
+    (capacity <= 64 && file_len <= 4096).then(|| HEADER + capacity * (ROW_HEADER + file_len + RECORDS))
+}
+
+/// How many bytes less it takes in an older form, whose rows have no records.
+pub(crate) fn saved(capacity: usize) -> usize {
+    capacity * RECORDS
 }

@@ -2,6 +2,9 @@
 
 use dyngrid::{Kind, NotAssembled, Refusal, RowView, Rows, Shape, Table};
 
+/// The bytes of a row of a file of 16 bytes.
+const ROW: usize = 32 + 16 + 576;
+
 fn rows(rows: &[usize]) -> Rows {
     Rows::of(rows).expect("rows")
 }
@@ -23,7 +26,7 @@ fn shown_in_the_pages() -> Table {
 /// No founding leads to it: row 4 has the epoch that the check gives to the others, and another list.
 fn damaged() -> Table {
     let mut bytes = found(4, &[10, 20, 30, 40], Shape::Wide).into_bytes();
-    let fourth = &mut bytes[16 + 3 * 48..];
+    let fourth = &mut bytes[16 + 3 * ROW..];
     (fourth[12], fourth[16]) = (1, 0b1000);
     let mut table = Table::from_bytes(bytes).expect("well formed");
     assert_eq!(table.check(1, Rows::first(3)), Ok(1));
@@ -50,7 +53,7 @@ fn a_view_tells_every_field() {
     let names: Vec<u16> = (1..=64).map(|rank| 1000 * rank).collect();
     let mut bytes = found(64, &names, Shape::Wide).into_bytes();
     let list: u64 = 0x8163_0245_c06f_21a9 | 1 << 40;
-    let row = &mut bytes[16 + 40 * 48..][..48];
+    let row = &mut bytes[16 + 40 * ROW..][..ROW];
     row[3..12].copy_from_slice(&[1, 0x12, 0x34, 0x05, 0, 0x67, 0x89, 0x0a, 0]);
     row[12..16].copy_from_slice(&[0xbc, 0xde, 0x0e, 0]);
     row[16..24].copy_from_slice(&list.to_le_bytes());
@@ -109,7 +112,7 @@ fn sends_of_a_known_table() {
     assert_eq!(table.sends_from_newest(), [(1, 3), (1, 4)]);
     let mut bytes = table.into_bytes();
     bytes[16 + 4] = 9; // row 1 has version 9
-    bytes[16 + 4 * 48 + 4] = 10; // and row 5 version 10
+    bytes[16 + 4 * ROW + 4] = 10; // and row 5 version 10
     let table = Table::from_bytes(bytes).expect("well formed");
     assert_eq!(table.sends_from_newest(), [(5, 3), (5, 4)]);
     assert_eq!(table.sends(), [3, 4].map(|to| [(1, to), (2, to), (5, to)]).as_flattened());
@@ -277,10 +280,10 @@ no row has a list"
     );
     let mut bytes = table.into_bytes();
     // Row 2 desires a version that no row has: nobody is current.
-    bytes[16 + 48 + 3..16 + 48 + 12].copy_from_slice(&[1, 9, 0, 0, 0, 0x40, 0x42, 0x0f, 0]);
+    bytes[16 + ROW + 3..16 + ROW + 12].copy_from_slice(&[1, 9, 0, 0, 0, 0x40, 0x42, 0x0f, 0]);
     bytes[16 + 4..16 + 8].copy_from_slice(&[0x3f, 0x42, 0x0f, 0]);
     for row in 0..4 {
-        bytes[16 + 48 * row + 12..16 + 48 * row + 15].copy_from_slice(&[0x40, 0x42, 0x0f]);
+        bytes[16 + ROW * row + 12..16 + ROW * row + 15].copy_from_slice(&[0x40, 0x42, 0x0f]);
     }
     assert_eq!(
         Table::from_bytes(bytes).expect("well formed").to_string(),
@@ -303,7 +306,7 @@ list in force, of epoch 1000000, in its grid:
     let new = ["list in force, of epoch 0, in its grid:", "    1     20", "  300   4000", "50000"];
     assert_eq!(grid(&five), new);
     let mut published = five.into_bytes();
-    published[16..].chunks_mut(48).for_each(|row| row[24] = 0);
+    published[16..].chunks_mut(ROW).for_each(|row| row[24] = 0);
     let published = Table::from_bytes(published).expect("five in the published grid");
     assert_eq!(grid(&published), [new[0], "    1     20    300", " 4000  50000"]);
     let six = found(6, &[1, 2, 3, 4, 5, 6], Shape::Tall);

@@ -1,6 +1,9 @@
 //! The wrapper keeps its promises: nothing panics, refusals have the right number, tables keep their length.
 
-use dyngrid::{chart, Done, Kind, NotAssembled, Refusal, Refused, Rows, Shape, Table};
+use dyngrid::{chart, Done, Kind, NotAssembled, OlderForm, Refusal, Refused, Rows, Shape, Table};
+
+/// The bytes of a row of a file of 4 bytes.
+const ROW: usize = 32 + 4 + 576;
 
 /// The version, or the refusal, of a read or write.
 fn version_of(answer: Result<Done, Refused>) -> Result<u32, Refusal> {
@@ -12,9 +15,9 @@ fn four() -> Table {
 }
 
 #[test]
-fn refusals_are_numbered_1_to_14_and_17() {
+fn refusals_are_numbered_1_to_15_and_17() {
     let numbers: Vec<u32> = Refusal::ALL.iter().map(|refusal| refusal.number()).collect();
-    assert_eq!(numbers, (1..=14).chain([17]).collect::<Vec<_>>());
+    assert_eq!(numbers, (1..=15).chain([17]).collect::<Vec<_>>());
     for refusal in Refusal::ALL {
         assert_eq!(Refusal::from_number(refusal.number()), Some(refusal));
     }
@@ -23,7 +26,7 @@ fn refusals_are_numbered_1_to_14_and_17() {
 #[test]
 fn a_number_without_a_name_is_kept() {
     assert_eq!(Refusal::from_number(0), None);
-    for number in [15, 16, 18, u32::MAX] {
+    for number in [16, 18, u32::MAX] {
         let refusal = Refusal::from_number(number).expect("a refusal");
         assert_eq!((refusal, refusal.number()), (Refusal::Unknown(number), number));
         assert!(refusal.to_string().starts_with(&format!("refused by {number}: ")));
@@ -51,26 +54,32 @@ fn what_is_shown_is_short() {
     assert!(error.to_string().starts_with("100000 bytes are no table: refused by 1: "));
 }
 
+/// The error names the form, and the table is carried up.
 #[test]
-fn a_table_of_form_1_is_told_and_taken_over() {
-    let mut bytes = four().into_bytes();
-    bytes[0] = 1;
-    let error = Table::from_bytes(bytes.clone()).expect_err("form 1");
-    assert_eq!((error.refusal(), error.is_form_1()), (Refusal::Malformed, true));
-    assert_eq!(error.to_string(), "160 bytes are a table of form 1: set byte 0 to 2, and it is taken over");
-    assert_eq!(error.into_bytes(), bytes);
-    bytes[0] = 2;
-    assert_eq!(Table::from_bytes(bytes.clone()), Ok(four()));
-    // With another rule broken, or of another form, it is not one of form 1.
-    bytes[0] = 3;
-    let other = Table::from_bytes(bytes.clone()).expect_err("form 3");
-    bytes[..2].copy_from_slice(&[1, 5]);
-    let damaged = Table::from_bytes(bytes.clone()).expect_err("a row is missing");
-    for error in [other, damaged] {
-        assert!(
-            !error.is_form_1() && error.to_string().starts_with("160 bytes are no table: refused by 1: ")
+fn a_table_of_an_older_form_is_told() {
+    let table = four();
+    for form in [OlderForm::One, OlderForm::Two] {
+        let bytes = table.carry_down(form).expect("no joined row, no grid mark");
+        assert_eq!((bytes[0], bytes.len()), (form as u8, 160));
+        let error = Table::from_bytes(bytes.clone()).expect_err("an older form");
+        assert_eq!((error.refusal(), error.older_form()), (Refusal::Malformed, Some(form)));
+        assert_eq!(
+            error.to_string(),
+            format!("160 bytes are a table of form {}: carry it up to form 3", form as u8)
         );
+        assert_eq!(Table::carry_up(error.as_bytes()), Ok(table.clone()));
+        assert_eq!(error.into_bytes(), bytes);
+        // With another rule broken, or of another form, it is no table of that form.
+        for (byte, value) in [(0, 0), (0, 3), (0, 4), (1, 5), (16 + 3, 2), (16 + 25, 1)] {
+            let mut bytes = bytes.clone();
+            bytes[byte] = value;
+            assert_eq!(Table::carry_up(&bytes), Err(Refusal::Malformed));
+            let error = Table::from_bytes(bytes).expect_err("damaged");
+            assert_eq!(error.older_form(), None);
+            assert!(error.to_string().starts_with("160 bytes are no table: refused by 1: "), "{error}");
+        }
     }
+    assert_eq!(Table::carry_up(table.as_bytes()), Err(Refusal::BadSize), "it is there already");
 }
 
 #[test]
@@ -222,7 +231,7 @@ fn choices_over_the_own_list() {
 #[test]
 fn five_taken_over_keep_their_grid_until_they_are_laid_anew() {
     let mut bytes = Table::found(5, 4, &[1, 2, 3, 4, 5], Shape::Wide).expect("a plain founding").into_bytes();
-    bytes[16..].chunks_mut(36).for_each(|row| row[24] = 0);
+    bytes[16..].chunks_mut(ROW).for_each(|row| row[24] = 0);
     let mut table = Table::from_bytes(bytes).expect("a list of five in the published grid");
     let (four, all) = (Rows::first(4), Rows::first(5));
     let but_the_third = Rows::of(&[1, 2, 4, 5]).expect("rows");
@@ -239,7 +248,7 @@ fn five_taken_over_keep_their_grid_until_they_are_laid_anew() {
 fn a_row_is_what_its_machine_holds() {
     let mut table = four();
     table.write(1, Rows::first(3), 1, b"ab").expect("a quorum answers");
-    assert_eq!(table.row_bytes(1).map(|row| (row.len(), &row[32..])), Some((36, &b"\0ab\0"[..])));
+    assert_eq!(table.row_bytes(1).map(|row| (row.len(), &row[32..36])), Some((ROW, &b"\0ab\0"[..])));
     let rows: Vec<u8> =
         table.rows().iter().flat_map(|row| table.row_bytes(row).expect("in use").to_vec()).collect();
     assert_eq!(rows, table.as_bytes()[16..]);
@@ -268,10 +277,10 @@ fn a_table_is_assembled_from_the_rows_that_answered() {
             if answering.contains(row) {
                 assert_eq!(whole, part);
             } else {
-                assert_eq!((&part[..3], &part[3..]), (&whole[..3], &[0; 33][..]));
+                assert_eq!((&part[..3], &part[3..]), (&whole[..3], &[0; ROW - 3][..]));
             }
         }
-        assert_eq!(assembled.as_bytes()[16 + 36 * table.used()..], [0; 36]);
+        assert_eq!(assembled.as_bytes()[16 + ROW * table.used()..], [0; ROW]);
         assert_eq!(assembled.frame(), table.frame());
     }
     // Row 2 was before row 3 until row 5 joined between them: the frame's link counts.
@@ -291,7 +300,7 @@ fn rows_that_do_not_fit_are_told() {
         assert_eq!(assemble(vec![(row, Vec::new())]), Err(NotAssembled::NoSuchRow { row }));
     }
     assert_eq!(assemble(vec![row(1), row(2), row(1)]), Err(NotAssembled::Twice { row: 1 }));
-    for length in [0, 1, 2, 35, 37] {
+    for length in [0, 1, 2, 36, ROW - 1, ROW + 1] {
         let bytes = vec![1; length];
         assert_eq!(assemble(vec![row(2), (1, bytes)]), Err(NotAssembled::WrongLength { row: 1, length }));
     }
@@ -304,7 +313,7 @@ fn rows_that_do_not_fit_are_told() {
     assert!(matches!(&refused, NotAssembled::Malformed(error) if error.refusal() == Refusal::Malformed));
     assert!(refused
         .to_string()
-        .starts_with("the rows do not fit together: 160 bytes are no table: refused by 1"));
+        .starts_with("the rows do not fit together: 2464 bytes are no table: refused by 1"));
     assert_eq!(Refusal::from(refused), Refusal::Malformed);
     assert_eq!(Refusal::from(NotAssembled::NoSuchRow { row: 7 }), Refusal::NoSuchRow);
     assert_eq!(assemble(Vec::new()), Ok(table.frame()));
@@ -402,14 +411,14 @@ fn a_joining_links_the_row_in_name_order() {
     assert_eq!([40, 10, 25].map(|name| table.join(name)), [Ok(3), Ok(4), Ok(5)]);
     assert_eq!((table.used(), table.rows()), (5, Rows::first(5)));
     let bytes = table.as_bytes();
-    assert_eq!(bytes[..4], [2, 5, 5, 4], "form 2, and the chain begins with row 4");
+    assert_eq!(bytes[..4], [3, 5, 5, 4], "form 3, and the chain begins with row 4");
     let names_and_links = table.rows().iter().map(|row| table.row_bytes(row).expect("in use")[..3].to_vec());
     let expected = [[20, 0, 5], [30, 0, 3], [40, 0, 0], [10, 0, 1], [25, 0, 2]];
     assert_eq!(names_and_links.collect::<Vec<_>>(), expected);
     for row in [3, 4, 5] {
         assert_eq!(
             table.row_bytes(row).map(|row| &row[3..]),
-            Some(&[0; 33][..]),
+            Some(&[0; ROW - 3][..]),
             "zero otherwise, the list too"
         );
     }

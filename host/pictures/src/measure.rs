@@ -5,7 +5,7 @@ use std::fmt;
 
 const FILE_LEN: usize = 1;
 const HEADER: usize = 16;
-const ROW: usize = 32 + FILE_LEN;
+const ROW: usize = 32 + FILE_LEN + 576;
 /// Where a row has its grid mark.
 const GRID_MARK: usize = 24;
 

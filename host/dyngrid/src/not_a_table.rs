@@ -1,0 +1,85 @@
+use crate::{OlderForm, Refusal};
+use std::error::Error;
+use std::fmt;
+
+/// Bytes that are no well-formed table of the newest form, and how the library refused them.
+#[derive(Clone, PartialEq, Eq)]
+pub struct NotATable {
+    bytes: Vec<u8>,
+    refusal: Refusal,
+    /// Their form, if they are a table of an older one.
+    older: Option<OlderForm>,
+    /// Are they of form 1, and a table of form 2 but for the first byte?
+    joined: bool,
+}
+
+impl NotATable {
+    pub(crate) fn new(mut bytes: Vec<u8>, refusal: Refusal) -> NotATable {
+        let older = OlderForm::of(&bytes);
+        let mut joined = older.is_none() && bytes.first() == Some(&1);
+        if joined {
+            bytes[0] = 2;
+            joined = OlderForm::of(&bytes).is_some();
+            bytes[0] = 1;
+        }
+        NotATable { bytes, refusal, older, joined }
+    }
+
+    /// How the library refused them: `Malformed`.
+    pub fn refusal(&self) -> Refusal {
+        self.refusal
+    }
+
+    /// The form of the bytes if they are a well-formed table of an older one, which [`Table::carry_up`](crate::Table::carry_up)
+    /// carries over.
+    pub fn older_form(&self) -> Option<OlderForm> {
+        self.older
+    }
+
+    /// The bytes that were given to [`Table::from_bytes`](crate::Table::from_bytes).
+    pub fn as_bytes(&self) -> &[u8] {
+        &self.bytes
+    }
+
+    /// The bytes that were given to [`Table::from_bytes`](crate::Table::from_bytes), without a copy.
+    pub fn into_bytes(self) -> Vec<u8> {
+        self.bytes
+    }
+}
+
+/// How many bytes there are, and the refusal.
+impl fmt::Debug for NotATable {
+    fn fmt(&self, f: &mut fmt::Formatter) -> fmt::Result {
+        f.debug_struct("NotATable")
+            .field("length", &self.bytes.len())
+            .field("refusal", &self.refusal)
+            .finish_non_exhaustive()
+    }
+}
+
+impl fmt::Display for NotATable {
+    fn fmt(&self, f: &mut fmt::Formatter) -> fmt::Result {
+        let length = self.bytes.len();
+        match self.older {
+            Some(form) => write!(f, "{length} bytes are a table of form {}: carry it up to form 3", form as u8),
+            None if self.joined => write!(
+                f,
+                "{length} bytes are a table of form 1 with grid marks or rows without a list, as form 2 has them: set byte 0 to 2, \
+                 and carry it up to form 3"
+            ),
+            None => write!(f, "{length} bytes are no table: {}", self.refusal),
+        }
+    }
+}
+
+impl Error for NotATable {
+    fn source(&self) -> Option<&(dyn Error + 'static)> {
+        Some(&self.refusal)
+    }
+}
+
+impl From<NotATable> for Refusal {
+    fn from(error: NotATable) -> Refusal {
+        error.refusal
+    }
+}
