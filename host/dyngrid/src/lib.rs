@@ -30,6 +30,7 @@ mod refusal;
 mod rows;
 mod table;
 mod view;
+mod window;
 
 pub use assembled::NotAssembled;
 pub use called::{Done, Refused};
@@ -41,3 +42,4 @@ pub use refusal::Refusal;
 pub use rows::{Rows, RowsIter};
 pub use table::{Shape, Table};
 pub use view::RowView;
+pub use window::Patch;

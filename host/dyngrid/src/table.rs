@@ -179,7 +179,7 @@ impl Table {
     }
 
     /// The rows that are to be shipped to their machines after a call: those whose bytes are others than in the table before
-    /// it, or that were not in use there.
+    /// it, or that were not in use there. Which of their bytes, [`Table::changed_ranges`] says.
     pub fn changed(&self, before: &Table) -> Rows {
         let differs = |&row: &usize| self.row_bytes(row) != before.row_bytes(row);
         (self.rows() | before.rows()).iter().filter(differs).collect()
@@ -262,6 +262,9 @@ impl Table {
     }
 
     /// Brings the stale row `to` up to the state of the row `from`; gives the version it then has.
+    ///
+    /// Where the [window](Table::window) of `from` reaches back to the version of `to`, only the missing patches are laid, else the whole
+    /// file is copied; in a table that a founding led to, the copy comes out the same. The window of `from` is taken over.
     pub fn send(&mut self, from: usize, to: usize, answering: Rows) -> Result<u32, Refusal> {
         let (from, to) = (from as u64, to as u64);
         // SAFETY: `&mut self` is live for the call, and its only slice.

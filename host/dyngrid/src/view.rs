@@ -1,3 +1,4 @@
+use crate::window::patches;
 use crate::{Rows, Table};
 
 /// What a row tells of its machine, the contents aside.
@@ -23,6 +24,8 @@ pub struct RowView {
     pub list: Rows,
     /// The mark of the grid that its list lies in: 0 published, 1 the new five, 2 tall; 0 with an empty list.
     pub grid_mark: u8,
+    /// How many patches its [window](Table::window) has, 0 to 16.
+    pub patches: usize,
 }
 
 impl Table {
@@ -45,7 +48,8 @@ impl Table {
     /// # Ok::<(), dyngrid::Refusal>(())
     /// ```
     pub fn row(&self, row: usize) -> Option<RowView> {
-        let header = self.row_bytes(row)?.first_chunk::<32>()?;
+        let bytes = self.row_bytes(row)?;
+        let header = bytes.first_chunk::<32>()?;
         let number = |at: usize| u32::from_le_bytes([0, 1, 2, 3].map(|byte| header[at + byte]));
         Some(RowView {
             row,
@@ -56,6 +60,7 @@ impl Table {
             epoch: number(12),
             list: Rows::from_bits(u64::from(number(20)) << 32 | u64::from(number(16))),
             grid_mark: header[24],
+            patches: patches(bytes),
         })
     }
 
