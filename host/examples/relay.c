@@ -1,4 +1,4 @@
-/* Machines that each hold their own row: ask whom to call, gather the rows that answer, make a call on them, ship the rows that
+/* Machines that each hold their own row: ask whom to call, gather the rows that answer, make a call on them, ship the bytes that
    changed. As examples/relay.rs, in C; docs/RELAY.md tells the steps. */
 #include <stdio.h>
 #include <string.h>
@@ -33,16 +33,20 @@ static void assemble(uint8_t *table, uint64_t answering)
             memcpy(table + row_at(row) + NAME_AND_LINK, machines[row - 1] + NAME_AND_LINK, ROW_BYTES - NAME_AND_LINK);
 }
 
-/* Ships the rows that a call changed, all of them or none: here they are at hand. Returns which. */
-static uint64_t ship(const uint8_t *table, const uint8_t *before)
+/* Ships what a call changed in each row, and nothing else, to all machines concerned or to none: here they are at hand. Tells which
+   rows changed, and returns in how many bytes. */
+static unsigned ship(const uint8_t *table, const uint8_t *before, uint64_t *changed)
 {
-    uint64_t changed = 0;
+    unsigned bytes = 0;
+    *changed = 0;
     for (unsigned row = 1; row <= MACHINES; row++)
-        if (memcmp(table + row_at(row), before + row_at(row), ROW_BYTES) != 0) {
-            memcpy(machines[row - 1], table + row_at(row), ROW_BYTES);
-            changed |= grid_row(row);
-        }
-    return changed;
+        for (size_t at = 0; at < ROW_BYTES; at++)
+            if (table[row_at(row) + at] != before[row_at(row) + at]) {
+                machines[row - 1][at] = table[row_at(row) + at];
+                *changed |= grid_row(row);
+                bytes++;
+            }
+    return bytes;
 }
 
 /* The machines that a coordinator calls first, and itself. Of the rows it needs its own only. */
@@ -75,9 +79,10 @@ static uint64_t write_score(unsigned coordinator, uint64_t up, const char *score
         if (!wants_more(result))
             break;
     }
-    const uint64_t changed = ship(table, before);
-    printf("write by row %u: refusal %u, version %u, %u machines called, rows 0x%x change\n", coordinator,
-           (unsigned)grid_refusal(result), (unsigned)grid_value(result), (unsigned)called[0], (unsigned)changed);
+    uint64_t changed;
+    const unsigned bytes = ship(table, before, &changed);
+    printf("write by row %u: refusal %u, version %u, %u machines called, rows 0x%x change in %u bytes\n", coordinator,
+           (unsigned)grid_refusal(result), (unsigned)grid_value(result), (unsigned)called[0], (unsigned)changed, bytes);
     return result;
 }
 

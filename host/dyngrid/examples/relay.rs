@@ -1,9 +1,12 @@
 //! Machines that each hold their own row: a relay asks whom to call, gathers the rows that answer, makes a call on them, and
-//! ships the rows that changed. Four are founded, and a fifth joins. Run with `cargo run --example relay`.
+//! ships the bytes that changed. Four are founded, and a fifth joins. Run with `cargo run --example relay`.
 
 use dyngrid::{Done, Kind, Refusal, Rows, Shape, Table};
+use std::ops::Range;
 
 const FILE_LEN: usize = 16;
+/// A row is its head, the file, and its window.
+const FILE: Range<usize> = 32..32 + FILE_LEN;
 
 struct Relay {
     /// Header, names and links, which all calls must agree on. The relay keeps them: a joining alters the link of a
@@ -50,21 +53,35 @@ impl Relay {
         }
     }
 
-    /// Makes a call on the rows that answer, and ships the rows that it changed to their machines.
-    /// A real relay locks the rows before, and sees to it that all machines store what they get, or none.
+    /// Makes a call on the rows that answer, and ships what it changed to their machines.
     fn call<T>(
         &mut self,
         answering: Rows,
         call: impl FnOnce(&mut Table) -> Result<T, Refusal>,
     ) -> Result<T, Refusal> {
         let before = self.gather(answering)?;
+        self.call_on(before, answering, call)
+    }
+
+    /// The same on a table that is put together already. Over the line goes not a whole row but the bytes that are others than
+    /// before. A real relay locks the rows before, and sees to it that all machines store what they get, or none.
+    fn call_on<T>(
+        &mut self,
+        before: Table,
+        answering: Rows,
+        call: impl FnOnce(&mut Table) -> Result<T, Refusal>,
+    ) -> Result<T, Refusal> {
         let mut table = before.clone();
         let value = call(&mut table)?;
-        let changed = table.changed(&before);
+        let (changed, mut shipped) = (table.changed(&before), 0);
         for row in changed {
-            self.machines[row - 1] = table.row_bytes(row).unwrap_or_default().to_vec();
+            let (held, new) = (&mut self.machines[row - 1], table.row_bytes(row).unwrap_or_default());
+            for range in table.changed_ranges(&before, row) {
+                held[range.clone()].copy_from_slice(&new[range.clone()]);
+                shipped += range.len();
+            }
         }
-        println!("rows {answering} answer, rows {changed} change");
+        println!("rows {answering} answer, rows {changed} change in {shipped} bytes");
         Ok(value)
     }
 
@@ -80,10 +97,21 @@ impl Relay {
         Ok(score)
     }
 
+    /// The receiver makes the send itself. The sender gives head and window, and the file only where the window does not reach
+    /// back to the receiver's version: else a send looks at nothing else of its row.
     fn send(&mut self, from: usize, to: usize) -> Result<u32, Refusal> {
         let ends = Rows::of(&[from, to])?;
-        print!("send from row {from} to row {to}: ");
-        self.call(ends, |table| table.send(from, to, ends))
+        let mut given = self.machines[from - 1].clone();
+        given[FILE].fill(0);
+        let rows = [(from, &given), (to, &self.machines[to - 1])];
+        let mut table = Table::assemble(&self.frame, rows)?;
+        let [sender, receiver] = [from, to].map(|row| table.row(row));
+        let reached = sender.map(|row| row.reaches_back_to()) <= receiver.map(|row| row.version);
+        print!("send {} from row {from} to row {to}: ", if reached { "of patches" } else { "of the file" });
+        if !reached {
+            table = self.gather(ends)?;
+        }
+        self.call_on(table, ends, |table| table.send(from, to, ends))
     }
 
     fn check(&mut self, by: usize, up: Rows) -> Result<u32, Refusal> {

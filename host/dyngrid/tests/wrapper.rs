@@ -227,23 +227,6 @@ fn choices_over_the_own_list() {
     assert_eq!(table.choice(5, Kind::Write), Ok(rows(&[1, 3, 5])));
 }
 
-/// Its third machine is a column by itself, until two checks that it answers have laid the five anew.
-#[test]
-fn five_taken_over_keep_their_grid_until_they_are_laid_anew() {
-    let mut bytes = Table::found(5, 4, &[1, 2, 3, 4, 5], Shape::Wide).expect("a plain founding").into_bytes();
-    bytes[16..].chunks_mut(ROW).for_each(|row| row[24] = 0);
-    let mut table = Table::from_bytes(bytes).expect("a list of five in the published grid");
-    let (four, all) = (Rows::first(4), Rows::first(5));
-    let but_the_third = Rows::of(&[1, 2, 4, 5]).expect("rows");
-    let mut got = [0; 3];
-    assert_eq!(table.check(1, all), Ok(0));
-    assert_eq!(version_of(table.read(1, but_the_third, 0, &mut got)), Err(Refusal::NoQuorum));
-    assert_eq!(table.check(1, but_the_third), Err(Refusal::NoQuorum));
-    assert_eq!(version_of(table.read(1, Rows::first(3), 0, &mut got)), Ok(0));
-    assert_eq!((table.check(1, four), table.check(1, all)), (Ok(1), Ok(2)));
-    assert_eq!(version_of(table.read(1, but_the_third, 0, &mut got)), Ok(0));
-}
-
 #[test]
 fn a_row_is_what_its_machine_holds() {
     let mut table = four();
