@@ -209,7 +209,9 @@ uint64_t grid_chart(uint64_t length, uint64_t mark, uint8_t *list, size_t list_l
    A row whose own list is empty has no choice: the set is empty and the value 0, and all used rows are called. The coordinator
    need not be in its own choice, but must answer its call; call the choice and the coordinator. If all of them answer, its own
    list is the list in force and some row of the choice has every done write, that is enough (for a write: below version
-   1,000,000); else call all used rows. Nothing is looked at but header, names, links and the coordinator's own row. */
+   1,000,000); else call all used rows. Question 1 is put to the whole table, as in every call; after it the choice goes by
+   header, names, links and the coordinator's own row alone, so that a table with its own row and no other tells it too (see
+   docs/RELAY.md). */
 uint64_t grid_choice(const uint8_t *table, size_t table_len, uint64_t coordinator, uint64_t kind, uint8_t *set, size_t set_len);
 
 /* Carries a table over to another form: from form 1 or 2 up to form 3, with empty windows, or from form 3 down to form 1 or 2,

@@ -16,7 +16,8 @@ impl Table {
     ///
     /// The coordinator need not be in it, but must answer its call: call the choice and the coordinator. If all of them
     /// answer, its own list is the list in force and some row of the choice has every done write, that is enough; else call
-    /// all rows in use. Nothing is looked at but header, names, links and the coordinator's own row.
+    /// all rows in use. Question 1 is put to the whole table, as in every call; after it the choice goes by header, names,
+    /// links and the coordinator's own row alone, so that a table [assembled](Table::assemble) from its own row tells it too.
     ///
     /// ```
     /// use dyngrid::{Kind, Refusal, Rows, Shape, Table};

@@ -125,6 +125,28 @@ fn up_and_down_gives_the_original_bytes() {
     }
 }
 
+/// Where each machine holds its own row, each carries its own, in a frame of form 2.
+#[test]
+fn each_machine_carries_its_own_row() {
+    for season in all() {
+        let table = up(season.table);
+        let stride = HEAD + table.file_len();
+        let place = |row: usize| 16 + (row - 1) * stride..16 + row * stride;
+        let mut frame = vec![0; season.table.len()];
+        frame[..16].copy_from_slice(&season.table[..16]);
+        frame[0] = 2;
+        for at in table.rows().iter().map(|row| place(row).start) {
+            frame[at..at + 3].copy_from_slice(&season.table[at..at + 3]);
+        }
+        assert_eq!(up(&frame), table.frame(), "{}", season.name);
+        for row in table.rows() {
+            let mut own = frame.clone();
+            own[place(row)].copy_from_slice(&season.table[place(row)]);
+            assert_eq!(up(&own).row_bytes(row), table.row_bytes(row), "{}, row {row}", season.name);
+        }
+    }
+}
+
 /// Carried up, they answer as they did, and the library of that season could go on with what they leave.
 #[test]
 fn the_season_goes_on() {
