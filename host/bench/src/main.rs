@@ -85,8 +85,13 @@ fn time(state: &State, task: Task) -> Timing {
     let calls = (RUN_TIME.as_nanos() / (trial.as_nanos() / u128::from(TRIAL)).max(1)) as u32;
     let calls = calls.clamp(10, MOST_CALLS);
     let each = |time: Duration| time.as_nanos() as f64 / f64::from(calls);
-    let mut best =
-        Timing { state: state.title.clone(), call: task.to_string(), library: f64::MAX, reference: f64::MAX };
+    let mut best = Timing {
+        state: state.title.clone(),
+        call: task.to_string(),
+        library: f64::MAX,
+        reference: f64::MAX,
+        carried: task.carried(state),
+    };
     for _ in 0..RUNS {
         best.library = best.library.min(each(task.run(&Library, state, calls).0));
         best.reference = best.reference.min(each(task.run(&reference, state, calls).0));

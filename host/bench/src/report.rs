@@ -1,5 +1,6 @@
 //! What was measured, as a page in Markdown.
 
+use crate::tasks::Carried;
 use std::fmt::Write;
 use std::process::Command;
 
@@ -9,6 +10,8 @@ pub struct Timing {
     pub call: String,
     pub library: f64,
     pub reference: f64,
+    /// Of a send where windows are full.
+    pub carried: Option<Carried>,
 }
 
 impl Timing {
@@ -18,14 +21,24 @@ impl Timing {
 
     /// As one process tells another: the parts with tabs between them.
     pub fn line(&self) -> String {
-        format!("{}\t{}\t{}\t{}", self.state, self.call, self.library, self.reference)
+        let line = format!("{}\t{}\t{}\t{}", self.state, self.call, self.library, self.reference);
+        match &self.carried {
+            Some(Carried { given, changed, ranges }) => format!("{line}\t{given}\t{changed}\t{ranges}"),
+            None => line,
+        }
     }
 
     pub fn of_line(line: &str) -> Option<Timing> {
         let mut parts = line.split('\t');
         let (state, call) = (parts.next()?.into(), parts.next()?.into());
         let (library, reference) = (parts.next()?.parse().ok()?, parts.next()?.parse().ok()?);
-        Some(Timing { state, call, library, reference })
+        let numbers: Option<Vec<usize>> = parts.map(|part| part.parse().ok()).collect();
+        let carried = match numbers?[..] {
+            [given, changed, ranges] => Some(Carried { given, changed, ranges }),
+            [] => None,
+            _ => return None,
+        };
+        Some(Timing { state, call, library, reference, carried })
     }
 
     /// Takes the better times of two processes.
@@ -40,9 +53,23 @@ pub fn table(timings: &[Timing]) -> String {
     let mut text = String::from("| table | call | library, ns | reference, ns | library / reference |\n");
     text.push_str("|---|---|---:|---:|---:|\n");
     for timing in timings {
-        let Timing { state, call, library, reference } = timing;
+        let Timing { state, call, library, reference, .. } = timing;
         writeln!(text, "| {state} | {call} | {library:.0} | {reference:.0} | {:.2} |", timing.ratio())
             .expect("a string takes all");
+    }
+    text
+}
+
+/// What sends carry, as a table.
+fn carried(timings: &[Timing]) -> String {
+    let mut text = String::from("| table | call | library, ns | the sender gives, bytes | change in the receiver's row, bytes | in ranges |\n");
+    text.push_str("|---|---|---:|---:|---:|---:|\n");
+    for timing in timings {
+        if let Some(Carried { given, changed, ranges }) = timing.carried {
+            let Timing { state, call, library, .. } = timing;
+            writeln!(text, "| {state} | {call} | {library:.0} | {given} | {changed} | {ranges} |")
+                .expect("a string takes all");
+        }
     }
     text
 }
@@ -70,7 +97,8 @@ pub fn page(timings: &[Timing], load: &str, runs: usize, processes: usize) -> St
          same table.\n\n\
          {}\n\n\
          The tables:\n\n\
-         - founded: as a founding leaves it; all machines answer;\n\
+         - founded: as a founding leaves it, all windows empty; all machines answer;\n\
+         - full windows: after 40 writes of 16 bytes that every machine has, so that every window has its 16 patches; all machines answer;\n\
          - two epochs by turns: the odd rows have a list of their own and a higher epoch than the even ones; the odd rows answer;\n\
          - reversed chain: names rise while the indexes of their rows fall; all machines answer;\n\
          - list of three quarters: after a check that a quarter of the machines missed; the others answer;\n\
@@ -81,15 +109,22 @@ pub fn page(timings: &[Timing], load: &str, runs: usize, processes: usize) -> St
          - a joined row coordinates: the same table; it has no choice of its own, so that the call works on all that answered; all machines answer;\n\
          - 5 of 64 rows used: founded, with 59 unused rows to be found all zero; all five answer;\n\
          - tall: founded tall, all others wide; all machines answer.\n\n\
-         Row 1 coordinates, if nothing else is said. Before each send the receiver is made stale again, which is in the times of both. A refused send\n\
-         has a receiver that is not stale. A check with a new list leaves out the last row and takes it in again by turns. A joining comes in the middle\n\
+         Row 1 coordinates, if nothing else is said. Before each send the receiver is made stale again, which is in the times of both. A send of the\n\
+         whole file has a sender whose window does not reach back to the receiver's version; a refused send has a receiver that is not stale. A write of\n\
+         16 bytes fills the windows of the rows that it writes within a run's first 16 calls, wherever it begins. A check with a new list leaves out the last row and takes it in again by turns. A joining comes in the middle\n\
          of the chain, and is undone before the next one, which is in the times of both. A chart is of as many members as there are machines, in the\n\
          published grid, and looks at no table; the reference puts its sets together from columns. A choice is that of row 1, whose own list is of all\n\
          machines.\n\n\
          {}\n\
+         ## What a send carries\n\n\
+         Where the sender's window reaches back to the receiver's version, a send looks at nothing of the sender's row but its head and its window, and\n\
+         so its machine need not give the file ([RELAY.md](RELAY.md#what-a-send-carries)). What then changes in the receiver's row does not grow with the\n\
+         file. Patches have 16 bytes here; the receiver of a whole file is 17 patches behind.\n\n\
+         {}\n\
          - machine: {}, load {load} when the run began\n- compiler of the reference: {}\n- to measure again: `make bench`\n",
         verdict(timings),
         table(timings),
+        carried(timings),
         processor(),
         compiler(),
     )

@@ -1,7 +1,7 @@
 //! The tables that the calls are timed on.
 
 use crate::tasks::{Task, EVERY_TASK};
-use dyngrid::raw;
+use dyngrid::{raw, Rows};
 use reference::rows::{self, Order};
 use reference::{Engine, Grid, Layout, Quorum, Rules, Shape, Table};
 
@@ -15,7 +15,23 @@ pub struct State {
     /// The rows that answer them, the coordinator's among them.
     pub answering: u64,
     pub tasks: &'static [Task],
+    /// How many patches every window has.
+    pub kept: u32,
+    /// The version of the sender in a send.
+    pub newest: u32,
 }
+
+/// Where a row has its stale mark, its version, what it desires, the oldest record's index, and its contents.
+const STALE: usize = 3;
+const VERSION: usize = 4;
+const DESIRED: usize = 8;
+const OLDEST: usize = 25;
+const CONTENTS: usize = 32;
+
+/// The patches that a window has room for.
+const PLACES: u32 = 16;
+/// Writes of 16 bytes each until a table is as "full windows" has it; more than a whole send and a window need.
+const WRITES: u32 = 40;
 
 #[derive(Clone, Copy)]
 pub struct Size {
@@ -40,6 +56,17 @@ const SPARSE: Size = Size { title: "5 of 64 rows used, 4,096 bytes", used: 5, ca
 
 const SOME_TASKS: &[Task] = &[Task::Read(16), Task::Write(16), Task::Send, Task::CheckSame];
 const SPARSE_TASKS: &[Task] = &[Task::Read(16), Task::Write(16), Task::Send, Task::CheckSame, Task::Join];
+const FULL_TASKS: &[Task] = &[
+    Task::Read(16),
+    Task::Write(16),
+    Task::Send,
+    Task::SendPatches(1),
+    Task::SendPatches(PLACES),
+    Task::RefusedSend,
+    Task::CheckSame,
+    Task::CheckNew,
+    Task::Choice(raw::WRITE),
+];
 const READ_AND_WRITE: &[Task] = &[Task::Read(16), Task::Write(16)];
 const READ_WRITE_AND_CHECK: &[Task] = &[Task::Read(16), Task::Write(16), Task::CheckSame];
 
@@ -50,6 +77,7 @@ pub fn all() -> Vec<State> {
         .flat_map(|size| {
             [
                 founded(size),
+                full_windows(size),
                 two_epochs(size),
                 falling_rows(size),
                 partial_list(size),
@@ -102,7 +130,54 @@ fn founded_as(size: Size, choice: u64) -> State {
     let mut table = vec![0; Table::length(size.capacity, size.file_len)];
     Engine::default().found(&mut table, size.capacity as u64, size.file_len as u64, &size.names(), choice);
     let answering = rows::first(size.used);
-    State { title: size.title("founded"), size, table, coordinator: 1, answering, tasks: &EVERY_TASK }
+    let title = size.title("founded");
+    State { title, size, table, coordinator: 1, answering, tasks: &EVERY_TASK, kept: 0, newest: 1 }
+}
+
+/// Every row has every write, and a full window.
+fn full_windows(size: Size) -> State {
+    let mut state = founded(size);
+    let copy = written(size.file_len, WRITES);
+    (1..=size.used).for_each(|row| lay_copy(&mut state.table[size.row_at(row)..], &copy));
+    State { title: size.title("full windows"), tasks: FULL_TASKS, kept: PLACES, newest: WRITES, ..state }
+}
+
+/// A row after so many writes of 16 bytes.
+fn written(file_len: usize, writes: u32) -> Vec<u8> {
+    let mut table = dyngrid::Table::found(1, file_len, &[1], dyngrid::Shape::Wide).expect("a plain founding");
+    for write in 0..writes as usize {
+        let offset = 16 * write % (file_len - 15);
+        table.write(1, Rows::first(1), offset, &[write as u8 + 1; 16]).expect("one is enough");
+    }
+    table.row_bytes(1).expect("in use").to_vec()
+}
+
+/// Gives the row that begins here the version, contents and window of another.
+fn lay_copy(row: &mut [u8], copy: &[u8]) {
+    for part in [VERSION..DESIRED, OLDEST..OLDEST + 1, CONTENTS..copy.len()] {
+        row[part.clone()].copy_from_slice(&copy[part]);
+    }
+}
+
+/// Marks the row that begins here: of this version, desiring another.
+pub fn make_stale(table: &mut [u8], row: usize, version: u32, desired: u32) {
+    table[row + STALE] = 1;
+    table[row + VERSION..row + DESIRED].copy_from_slice(&version.to_le_bytes());
+    table[row + DESIRED..row + DESIRED + 4].copy_from_slice(&desired.to_le_bytes());
+}
+
+impl State {
+    /// The table for a send whose receiver, row 2, is so many writes behind row 1; for another call that of the state.
+    pub fn with_receiver(&self, behind: u32) -> Vec<u8> {
+        let (mut table, size) = (self.table.clone(), self.size);
+        if behind > 0 && self.kept == 0 {
+            // Row 1 has a version that its empty window says nothing of.
+            table[size.row_at(1) + VERSION] = self.newest as u8;
+        } else if behind > 0 {
+            lay_copy(&mut table[size.row_at(2)..], &written(size.file_len, self.newest - behind));
+        }
+        table
+    }
 }
 
 /// The odd rows are a list of their own with a higher epoch, so that no two neighbours are of one epoch.

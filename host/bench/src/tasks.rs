@@ -2,10 +2,11 @@
 
 use crate::engines::{Asked, Calls};
 use crate::states::{self, State};
-use dyngrid::raw;
+use dyngrid::{raw, Rows, Table};
 use reference::{rows, CHART_PLACES};
 use std::fmt;
 use std::hint::black_box;
+use std::ops::Range;
 use std::time::{Duration, Instant};
 
 /// Stands for the whole file in a `Task`.
@@ -17,7 +18,10 @@ pub enum Task {
     /// So many bytes, or the whole file if it is shorter.
     Read(usize),
     Write(usize),
+    /// Of the whole file: the sender's window does not reach back to the receiver's version.
     Send,
+    /// By window: so many patches are missing.
+    SendPatches(u32),
     RefusedSend,
     CheckSame,
     CheckNew,
@@ -51,7 +55,9 @@ impl fmt::Display for Task {
             Task::Read(length) => write!(f, "read, {length} bytes"),
             Task::Write(WHOLE) => f.write_str("write, whole file"),
             Task::Write(length) => write!(f, "write, {length} bytes"),
-            Task::Send => f.write_str("send"),
+            Task::Send => f.write_str("send, whole file"),
+            Task::SendPatches(1) => f.write_str("send, 1 patch"),
+            Task::SendPatches(patches) => write!(f, "send, {patches} patches"),
             Task::RefusedSend => f.write_str("send, refused"),
             Task::CheckSame => f.write_str("check, same list"),
             Task::CheckNew => f.write_str("check, new list"),
@@ -75,7 +81,8 @@ impl Task {
     /// Makes `calls` calls on a fresh copy of the table; gives the time of all, and what they leave.
     pub fn run(self, engine: &impl Calls, state: &State, calls: u32) -> (Duration, Left) {
         let State { size, coordinator, answering, .. } = *state;
-        let mut table = state.table.clone();
+        let behind = self.behind(state);
+        let mut table = state.with_receiver(behind);
         let (all, but_one) = (answering, answering & !rows::only(size.used));
         let names = size.names();
         let mut bytes = match self {
@@ -84,13 +91,10 @@ impl Task {
             Task::Choice(_) => vec![7; 8],
             _ => Vec::new(),
         };
-        let (one, two) = (size.row_at(1), size.row_at(2));
+        let two = size.row_at(2);
         let (middle, next) = (size.used / 2, size.used + 1);
         let name = u16::from_le_bytes(states::name(middle)) + 1;
-        if let Task::Send = self {
-            // Row 1 has version 1; row 2 is behind it.
-            table[one + 4] = 1;
-        }
+        let newest = state.newest;
         let asked = Asked { coordinator, answering, offset: 0 };
         let mut called = [0];
         let mut result = 0;
@@ -109,8 +113,8 @@ impl Task {
                 Task::Write(_) => {
                     engine.write(black_box(&mut table), asked, black_box(&bytes), black_box(&mut called))
                 }
-                Task::Send => {
-                    make_stale(&mut table, two);
+                Task::Send | Task::SendPatches(_) => {
+                    states::make_stale(&mut table, two, newest - behind, newest);
                     engine.send(black_box(&mut table), 1, 2, 3)
                 }
                 Task::RefusedSend => engine.send(black_box(&mut table), 1, 2, 3),
@@ -133,6 +137,46 @@ impl Task {
         let time = started.elapsed();
         (time, Left { table, bytes, called, result })
     }
+
+    /// How many writes the receiver of a send misses.
+    fn behind(self, state: &State) -> u32 {
+        match self {
+            Task::Send => state.kept + 1,
+            Task::SendPatches(patches) => patches,
+            _ => 0,
+        }
+    }
+
+    /// What a send carries, where windows are full; none for other calls.
+    pub fn carried(self, state: &State) -> Option<Carried> {
+        let State { size, newest, kept, .. } = *state;
+        let behind = self.behind(state);
+        if kept == 0 || behind == 0 {
+            return None;
+        }
+        let mut table = state.with_receiver(behind);
+        states::make_stale(&mut table, size.row_at(2), newest - behind, newest);
+        let before = Table::from_bytes(table).expect("well formed");
+        let mut after = before.clone();
+        after.send(1, 2, Rows::first(2)).expect("row 2 is stale");
+        let ranges = after.changed_ranges(&before, 2);
+        let row = size.row_at(2) - size.row_at(1);
+        Some(Carried {
+            given: if behind <= kept { row - size.file_len } else { row },
+            changed: ranges.iter().map(Range::len).sum(),
+            ranges: ranges.len(),
+        })
+    }
+}
+
+/// What a send carries, in bytes.
+pub struct Carried {
+    /// What the sender's machine gives: its row, without the file if the send is by window.
+    pub given: usize,
+    /// What changes in the receiver's row.
+    pub changed: usize,
+    /// In so many ranges.
+    pub ranges: usize,
 }
 
 /// What the calls of a task leave: the table, the other bytes that were lent, how many machines the last read or write
@@ -143,11 +187,6 @@ pub struct Left {
     bytes: Vec<u8>,
     called: [u8; 1],
     result: u64,
-}
-
-/// Marks the row that begins here: version 0, desiring version 1.
-fn make_stale(table: &mut [u8], row: usize) {
-    table[row + 3..row + 12].copy_from_slice(&[1, 0, 0, 0, 0, 1, 0, 0, 0]);
 }
 
 /// Takes the row that begins at `joined` out of the chain, if it is in; it comes behind the row that begins at `before`.
