@@ -1,7 +1,7 @@
 //! A table that machines hold, and the calls that the model makes on it: the library's, the reference's, or both at once.
 
 use dyngrid::{raw, Refusal, Rows, Shape};
-use reference::{Engine, Row, Rules, ROW_HEADER};
+use reference::{Engine, Row, Rules, HEADER, ROW_HEADER};
 
 /// The file has one byte.
 const FILE_LEN: usize = 1;
@@ -16,8 +16,10 @@ pub trait Held: Clone {
 
     /// What a row says before its contents.
     fn row(&self, row: usize) -> Row {
-        let at = reference::Table::length(row - 1, FILE_LEN);
-        Row::read(self.bytes()[at..].first_chunk::<ROW_HEADER>().expect("the row is in the table"))
+        let bytes = self.bytes();
+        let stride = (bytes.len() - HEADER) / usize::from(bytes[1]);
+        let at = HEADER + (row - 1) * stride;
+        Row::read(bytes[at..].first_chunk::<ROW_HEADER>().expect("the row is in the table"))
     }
 }
 
@@ -81,7 +83,7 @@ impl Second {
             Shape::Wide => raw::WIDE,
             Shape::Tall => raw::TALL,
         };
-        let mut bytes = vec![0; reference::Table::length(machines, FILE_LEN)];
+        let mut bytes = vec![0; rules.table_length(machines, FILE_LEN)];
         let founded = engine.found(&mut bytes, machines as u64, FILE_LEN as u64, &names, choice);
         assert_eq!(founded, machines as u64, "a founding of rising names is done");
         Second { engine, bytes }

@@ -1,7 +1,8 @@
 //! Mistakes to make on purpose: each turns the engine into a wrong one that the tests must find.
 
 use crate::rows::{self, Order};
-use crate::{Laid, Layout, Quorum, Row, Shape, Table, HEADER, ROW_HEADER};
+use crate::window::{self, Window, LONGEST_PATCH};
+use crate::{Laid, Layout, Quorum, Row, Rules, Shape, Table, HEADER, ROW_HEADER};
 
 #[derive(Clone, Copy, Debug, PartialEq, Eq)]
 pub enum Blunder {
@@ -81,10 +82,20 @@ pub enum Blunder {
     StaleSender,
     /// A send to a row that is behind without a mark is listed, too.
     BehindReceiver,
+    /// A send goes by the sender's window also where it reaches back to the version after the receiver's only.
+    ReachTooFar,
+    /// A send lays the missing patches younger first.
+    YoungerFirst,
+    /// The receiver of a send keeps its own window.
+    WindowKept,
+    /// A patch of 32 bytes empties the window.
+    LongestEmpties,
+    /// A patch takes the oldest record although another one is free.
+    RecordPassedOver,
 }
 
 impl Blunder {
-    pub const ALL: [Blunder; 38] = [
+    pub const ALL: [Blunder; 43] = [
         Blunder::OutsidersCount,
         Blunder::ShortColumnWhole,
         Blunder::DesiredIgnored,
@@ -123,6 +134,11 @@ impl Blunder {
         Blunder::SetAtAnyLength,
         Blunder::StaleSender,
         Blunder::BehindReceiver,
+        Blunder::ReachTooFar,
+        Blunder::YoungerFirst,
+        Blunder::WindowKept,
+        Blunder::LongestEmpties,
+        Blunder::RecordPassedOver,
     ];
 
     /// Its name on a command line.
@@ -166,6 +182,11 @@ impl Blunder {
             Blunder::SetAtAnyLength => "set-at-any-length",
             Blunder::StaleSender => "stale-sender",
             Blunder::BehindReceiver => "behind-receiver",
+            Blunder::ReachTooFar => "reach-too-far",
+            Blunder::YoungerFirst => "younger-first",
+            Blunder::WindowKept => "window-kept",
+            Blunder::LongestEmpties => "longest-empties",
+            Blunder::RecordPassedOver => "record-passed-over",
         }
     }
 
@@ -181,7 +202,7 @@ pub fn highest_of_all(table: &Table, bytes: &[u8], set: u64) -> (u32, Laid) {
 }
 
 /// Reads a table that is well formed once each list of five has mark 0.
-pub fn decode_any_marks(bytes: &[u8]) -> Option<Table> {
+pub fn decode_any_marks(rules: Rules, bytes: &[u8]) -> Option<Table> {
     let mut unmarked = bytes.to_vec();
     for header in row_headers(&mut unmarked)? {
         let list = Row::read(header).list;
@@ -189,11 +210,11 @@ pub fn decode_any_marks(bytes: &[u8]) -> Option<Table> {
             header[24] = 0;
         }
     }
-    Table::decode(&unmarked)
+    Table::decode_by(rules, &unmarked)
 }
 
 /// Reads a table that is well formed once each list of mark 2 whose epoch has that mark throughout has mark 0.
-pub fn decode_any_shapes(bytes: &[u8]) -> Option<Table> {
+pub fn decode_any_shapes(rules: Rules, bytes: &[u8]) -> Option<Table> {
     let mut unmarked = bytes.to_vec();
     let listed = |row: &Row| !row.list.is_empty();
     let rows: Vec<Row> = row_headers(&mut unmarked)?.map(|header| Row::read(header)).filter(listed).collect();
@@ -204,7 +225,7 @@ pub fn decode_any_shapes(bytes: &[u8]) -> Option<Table> {
             header[24] = 0;
         }
     }
-    Table::decode(&unmarked)
+    Table::decode_by(rules, &unmarked)
 }
 
 /// The headers of all rows, used or not, of bytes that need be no table.
@@ -213,6 +234,36 @@ fn row_headers(bytes: &mut [u8]) -> Option<impl Iterator<Item = &mut [u8; ROW_HE
     let (_, rows) = bytes.split_at_mut_checked(HEADER)?;
     let stride = rows.len().checked_div(capacity)?;
     Some(rows.chunks_mut(stride.max(1)).filter_map(|row| row.first_chunk_mut()))
+}
+
+/// Empties the window where a patch is as long as a record takes.
+pub fn add_shorter(window: &mut Window, oldest: u8, offset: usize, patch: &[u8]) -> u8 {
+    let too_long = [0; LONGEST_PATCH + 1];
+    window::add(window, oldest, offset, if patch.len() == LONGEST_PATCH { &too_long } else { patch })
+}
+
+/// Puts a short patch into the oldest record, if there is one.
+pub fn add_in_oldest(window: &mut Window, oldest: u8, offset: usize, patch: &[u8]) -> u8 {
+    if oldest == 0 || patch.len() > LONGEST_PATCH {
+        return window::add(window, oldest, offset, patch);
+    }
+    let (_, youngest) = window::chain(window, oldest);
+    window::put(window, oldest, youngest, oldest, offset, patch)
+}
+
+/// Lays the sender's latest patches over the receiver's contents, the youngest first.
+pub fn lay_younger_first(table: &Table, bytes: &mut [u8], from: usize, to: usize, behind: usize) {
+    let window = table.window(bytes, from);
+    let mut records = Vec::new();
+    let mut index = table.row(bytes, from).oldest;
+    while index != 0 {
+        records.push(window::record(window, index));
+        index = window::record(window, index).next;
+    }
+    for record in records.iter().rev().take(behind) {
+        let patch = table.window_at(from) + record.at;
+        bytes.copy_within(patch..patch + record.length, table.contents_at(to) + record.offset);
+    }
 }
 
 /// Counts each row outside the list in the place of the next member.

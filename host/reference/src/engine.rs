@@ -3,7 +3,8 @@
 use crate::blunder::{self, Blunder};
 use crate::chart::{Chart, CHART_PLACES, LONGEST_CHARTED};
 use crate::rows::{self, Order};
-use crate::{Grid, Laid, Layout, Quorum, Row, Rules, Shape, Table, LIMIT, MAX_FILE, MAX_ROWS, ROW_HEADER};
+use crate::window;
+use crate::{Grid, Laid, Layout, Quorum, Row, Rules, Shape, Table, LIMIT, MAX_FILE, MAX_ROWS};
 use std::iter;
 
 /// Answers the calls on a table's bytes; with a blunder, wrongly.
@@ -180,6 +181,7 @@ impl Engine {
                 state.version = version;
                 if stored {
                     table.contents_mut(bytes, row)[offset as usize..][..patch.len()].copy_from_slice(patch);
+                    state.oldest = self.add_patch(&table, bytes, row, state.oldest, offset as usize, patch);
                 }
             } else {
                 mark(&mut state, desired);
@@ -230,11 +232,66 @@ impl Engine {
         let (sender, receiver) = (table.row(bytes, from), table.row(bytes, to));
         ask(9, !sender.stale)?;
         ask(10, receiver.stale && receiver.desired <= sender.version)?;
-        let caught_up = Row { version: sender.version, stale: false, desired: 0, ..receiver };
+        let (mut oldest, mut end) = (sender.oldest, table.row_at(from + 1));
+        if self.makes(Blunder::WindowKept) {
+            (oldest, end) = (receiver.oldest, table.window_at(from));
+        }
+        let caught_up = Row { version: sender.version, stale: false, desired: 0, oldest, ..receiver };
         table.write_row(bytes, to, &caught_up);
-        let source = table.row_at(from) + ROW_HEADER..table.row_at(from + 1);
-        bytes.copy_within(source, table.row_at(to) + ROW_HEADER);
+        // The window lies behind the contents: it is taken over alone, or with them.
+        let behind = (sender.version - receiver.version) as usize;
+        let laid = self.lay_missing(&table, bytes, from, to, behind);
+        let start = if laid { Table::window_at } else { Table::contents_at };
+        bytes.copy_within(start(&table, from)..end, start(&table, to));
         Ok(sender.version)
+    }
+
+    /// Adds a patch to a row's window, in a table that has windows. Gives the oldest record then.
+    fn add_patch(
+        &self,
+        table: &Table,
+        bytes: &mut [u8],
+        row: usize,
+        oldest: u8,
+        offset: usize,
+        patch: &[u8],
+    ) -> u8 {
+        if !table.rules.has_windows() {
+            return 0;
+        }
+        let window = table.window_mut(bytes, row);
+        match self.blunder {
+            Some(Blunder::LongestEmpties) => blunder::add_shorter(window, oldest, offset, patch),
+            Some(Blunder::RecordPassedOver) => blunder::add_in_oldest(window, oldest, offset, patch),
+            _ => window::add(window, oldest, offset, patch),
+        }
+    }
+
+    /// Lays the sender's latest patches over the receiver's contents, older first, if its window reaches back so far.
+    fn lay_missing(&self, table: &Table, bytes: &mut [u8], from: usize, to: usize, behind: usize) -> bool {
+        if !table.rules.has_windows() {
+            return false;
+        }
+        let oldest = table.row(bytes, from).oldest;
+        let (count, _) = window::chain(table.window(bytes, from), oldest);
+        let reach = if count > 0 && self.makes(Blunder::ReachTooFar) { count + 1 } else { count };
+        if reach < behind {
+            return false;
+        }
+        if self.makes(Blunder::YoungerFirst) {
+            blunder::lay_younger_first(table, bytes, from, to, behind);
+            return true;
+        }
+        let mut index = oldest;
+        for place in 0..count {
+            let record = window::record(table.window(bytes, from), index);
+            if place + behind >= count {
+                let patch = table.window_at(from) + record.at;
+                bytes.copy_within(patch..patch + record.length, table.contents_at(to) + record.offset);
+            }
+            index = record.next;
+        }
+        true
     }
 
     fn try_join(&self, bytes: &mut [u8], name: u16) -> Answer {
@@ -298,8 +355,8 @@ impl Engine {
     /// Question 1.
     fn judge(&self, bytes: &[u8]) -> Result<Table, u32> {
         let judged = match self.blunder {
-            Some(Blunder::MarksOfEpoch) => blunder::decode_any_marks(bytes),
-            Some(Blunder::ShapesOfTable) => blunder::decode_any_shapes(bytes),
+            Some(Blunder::MarksOfEpoch) => blunder::decode_any_marks(self.rules, bytes),
+            Some(Blunder::ShapesOfTable) => blunder::decode_any_shapes(self.rules, bytes),
             _ => Table::decode_by(self.rules, bytes),
         };
         judged.ok_or(1)
@@ -411,16 +468,15 @@ fn found(rules: Rules, bytes: &mut [u8], capacity: u64, file_len: u64, names: &[
     let capacity_fits = (used as u64..=MAX_ROWS as u64).contains(&capacity);
     ask(12, capacity_fits && (1..=MAX_FILE as u64).contains(&file_len))?;
     let (capacity, file_len) = (capacity as usize, file_len as usize);
-    ask(12, bytes.len() == Table::length(capacity, file_len))?;
+    ask(12, bytes.len() == rules.table_length(capacity, file_len))?;
 
-    let table = Table { capacity, used, file_len, chain: Order::first(used) };
+    let table = Table { rules, capacity, used, file_len, chain: Order::first(used) };
     bytes.fill(0);
     table.write_header(bytes, 1);
     let list = rules.lay(shape, table.all_used());
     for (index, name) in (1..).zip(names) {
         let next = if index < used { index + 1 } else { 0 };
-        let row = Row { name, next, stale: false, version: 0, desired: 0, epoch: 0, list };
-        table.write_row(bytes, index, &row);
+        table.write_row(bytes, index, &Row::new(name, next, list));
     }
     Ok(used as u32)
 }
@@ -549,7 +605,7 @@ mod tests {
     fn a_write_at_its_limit_called_its_choice() {
         let mut table = founded(4, &[10, 20, 30, 40], 0);
         for row in 0..4 {
-            table[16 + 36 * row + 4..][..4].copy_from_slice(&LIMIT.to_le_bytes());
+            table[Table::length(row, 4) + 4..][..4].copy_from_slice(&LIMIT.to_le_bytes());
         }
         assert_eq!(call(&mut table, Write, 1, 0b1111, 1), (8, vec![3]));
         assert_eq!(call(&mut table, Write, 1, 0b1011, 1), (8, vec![4]));
@@ -625,5 +681,101 @@ mod tests {
                 assert!(layout.choice(Write, name).count_ones() as usize <= rows + columns - 1);
             }
         }
+    }
+
+    /// A done write by row 1.
+    fn write(table: &mut [u8], answering: u64, offset: u64, patch: &[u8]) {
+        let result = Engine::default().write(table, 1, answering, offset, patch, &mut [0]);
+        assert_eq!(result >> 32, 0);
+    }
+
+    /// A row's window: byte 25, and the 576 bytes behind the contents.
+    fn window_of(table: &[u8], row: usize) -> (u8, &[u8]) {
+        let judged = Table::decode(table).expect("well formed");
+        (judged.row(table, row).oldest, judged.window(table, row))
+    }
+
+    /// A file of 40 bytes on four machines: row 3 misses the first writes, row 4 the others, and a check marks both.
+    fn behind(before: usize, missed: usize, long: Option<usize>) -> Vec<u8> {
+        let names: Vec<u8> = [10_u16, 20, 30, 40].into_iter().flat_map(u16::to_le_bytes).collect();
+        let mut table = vec![0; Table::length(4, 40)];
+        let engine = Engine::default();
+        assert_eq!(engine.found(&mut table, 4, 40, &names, 0), 4);
+        for number in 0..before {
+            let patch = [number as u8 + 1; 2];
+            // Not all of the choice of 10 answer, so that all that answer take part.
+            assert_eq!(engine.write(&mut table, 1, 0b1011, number as u64 % 39, &patch, &mut [0]) >> 32, 0);
+        }
+        assert_eq!(engine.check(&mut table, 1, 0b0111), 1);
+        for number in 0..missed {
+            let length = if long == Some(number) { 33 } else { 1 + number % 32 };
+            write(&mut table, 0b0111, number as u64 % 8, &vec![100 + number as u8; length]);
+        }
+        assert_eq!(engine.check(&mut table, 1, 0b1111), 2);
+        table
+    }
+
+    /// The window reaches back sixteen versions; a long patch cuts it short.
+    #[test]
+    fn a_send_by_window_leaves_what_a_whole_one_does() {
+        for before in [0, 5, 20] {
+            for (missed, long) in [(1, None), (15, None), (16, None), (17, None), (9, Some(4)), (9, Some(8))]
+            {
+                let mut table = behind(before, missed, long);
+                let judged = Table::decode(&table).expect("well formed");
+                let from = (1..=3).find(|&row| !judged.row(&table, row).stale).expect("a current row");
+                let version = (before + missed) as u32;
+                assert_eq!(judged.row(&table, 4).version, before as u32);
+                assert_eq!(Engine::default().send(&mut table, from as u64, 4, 0b1111), u64::from(version));
+                let (sent, sender) = (judged.row(&table, 4), judged.row(&table, from));
+                assert_eq!((sent.version, sent.stale, sent.desired), (version, false, 0));
+                assert_eq!(judged.contents(&table, 4), judged.contents(&table, from));
+                assert_eq!((sent.oldest, window_of(&table, 4)), (sender.oldest, window_of(&table, from)));
+            }
+        }
+    }
+
+    /// Other contents show which bytes a send lays: the missing patches where the window reaches back, else all.
+    #[test]
+    fn a_send_lays_the_missing_patches_only() {
+        for (missed, whole) in [(1, false), (16, false), (17, true)] {
+            let mut table = behind(3, missed, None);
+            let judged = Table::decode(&table).expect("well formed");
+            judged.contents_mut(&mut table, 4).fill(0xee);
+            let from = (1..=3).find(|&row| !judged.row(&table, row).stale).expect("a current row");
+            Engine::default().send(&mut table, from as u64, 4, 0b1111);
+            let kept = judged.contents(&table, 4).iter().filter(|&&byte| byte == 0xee).count();
+            // Sixteen patches: the last begins in byte 7 and has 16 bytes.
+            assert_eq!(kept, if whole { 0 } else { 40 - if missed == 1 { 1 } else { 23 } });
+        }
+    }
+
+    /// Only good rows of the set get the patch; a mark and a check leave windows alone.
+    #[test]
+    fn the_window_of_a_good_row_grows() {
+        let mut table = behind(2, 3, None);
+        let windows = |table: &[u8]| [1, 2, 3, 4].map(|row| window_of(table, row).1.to_vec());
+        let judged = Table::decode(&table).expect("well formed");
+        assert_eq!(window::chain(judged.window(&table, 1), 1), (5, 5));
+        assert_eq!(window::chain(judged.window(&table, 4), 1), (2, 2), "row 4 keeps its own");
+        let before = windows(&table);
+        write(&mut table, 0b1111, 0, &[1]);
+        let after = windows(&table);
+        assert_eq!([0, 1, 2, 3].map(|row| before[row] == after[row]), [false, false, true, true]);
+        write(&mut table, 0b1111, 0, &[1; 33]);
+        assert_eq!((window_of(&table, 1), window_of(&table, 4).1), ((0, &[0; 576][..]), &after[3][..]));
+    }
+
+    /// By the scope's rules alone a table has form 1 and no windows.
+    #[test]
+    fn the_scope_knows_no_windows() {
+        let engine = Engine { rules: Rules::Published, ..Engine::default() };
+        let mut table = vec![0; 16 + 2 * 36];
+        assert_eq!(engine.found(&mut table, 2, 4, &[1, 0, 2, 0], 0), 2);
+        assert_eq!(table[0], 1);
+        assert_eq!(engine.write(&mut table, 1, 3, 0, &[7; 4], &mut [0]), 1);
+        assert_eq!(Engine::default().check(&mut table, 1, 3) >> 32, 1);
+        assert_eq!(engine.check(&mut table, 1, 3), 0);
+        assert_eq!(table[16 + 24..16 + 36], [0, 0, 0, 0, 0, 0, 0, 0, 7, 7, 7, 7]);
     }
 }

@@ -11,6 +11,7 @@ mod engine;
 mod grid;
 pub mod rows;
 mod table;
+pub mod window;
 
 pub use blunder::Blunder;
 pub use book::Book;

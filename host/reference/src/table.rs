@@ -1,39 +1,72 @@
 //! The table in memory: judging it, reading its rows, writing them.
 
 use crate::rows::{self, Order};
+use crate::window::{self, Window, WINDOW};
 use crate::{Laid, Shape, TALL};
 
 pub const HEADER: usize = 16;
 pub const ROW_HEADER: usize = 32;
 pub const MAX_ROWS: usize = 64;
 pub const MAX_FILE: usize = 4096;
-/// The form of a table, in its first byte.
-pub const FORM: u8 = 2;
+/// The newest form of a table, in its first byte.
+pub const FORM: u8 = 3;
 /// The highest version, desired version and epoch number.
 pub const LIMIT: u32 = 1_000_000;
 
-/// Which papers a table is judged by; its form is the newest by all of them.
+/// Which papers a table is founded and judged by: each form of a table has its own.
 #[derive(Clone, Copy, Debug, Default, PartialEq, Eq)]
 pub enum Rules {
-    /// The scope alone: every row has a list, and every list lies in the published grid.
+    /// Form 1, the scope alone: every row has a list, and every list lies in the published grid.
     Published,
-    /// The requests too: a row may have an empty list, and a list is laid in the new grid of five or in the tall one.
+    /// Form 2: a row may have an empty list, and a list is laid in the new grid of five or in the tall one.
+    Windowless,
+    /// Form 3: besides, each row has a window on its latest patches.
     #[default]
     Newest,
 }
 
 impl Rules {
+    pub const ALL: [Rules; 3] = [Rules::Published, Rules::Windowless, Rules::Newest];
+
+    /// The rules of the tables of this form.
+    pub fn of_form(form: u8) -> Option<Rules> {
+        Rules::ALL.into_iter().find(|rules| rules.form() == form)
+    }
+
+    /// The first byte of a table by these rules.
+    pub fn form(self) -> u8 {
+        match self {
+            Rules::Published => 1,
+            Rules::Windowless => 2,
+            Rules::Newest => FORM,
+        }
+    }
+
+    pub fn has_windows(self) -> bool {
+        self == Rules::Newest
+    }
+
+    /// How many bytes a row takes.
+    pub fn row_length(self, file_len: usize) -> usize {
+        ROW_HEADER + file_len + if self.has_windows() { WINDOW } else { 0 }
+    }
+
+    /// How many bytes a table takes.
+    pub fn table_length(self, capacity: usize, file_len: usize) -> usize {
+        HEADER + capacity * self.row_length(file_len)
+    }
+
     /// Is a row with this list exempt from the rules on its own row and on one list for an epoch?
     pub fn exempt(self, list: Laid) -> bool {
-        list.is_empty() && self == Rules::Newest
+        list.is_empty() && self != Rules::Published
     }
 
     /// The list of these members, laid now in a table of this shape; the scope knows one shape.
     pub fn lay(self, shape: Shape, members: u64) -> Laid {
         let mark = match (self, shape) {
             (Rules::Published, _) => 0,
-            (Rules::Newest, Shape::Wide) => u8::from(members.count_ones() == 5),
-            (Rules::Newest, Shape::Tall) => TALL,
+            (_, Shape::Wide) => u8::from(members.count_ones() == 5),
+            (_, Shape::Tall) => TALL,
         };
         Laid { members, mark }
     }
@@ -42,13 +75,13 @@ impl Rules {
     pub fn allow(self, length: usize, mark: u64) -> bool {
         match mark {
             0 => true,
-            1 => self == Rules::Newest && length == 5,
-            _ => self == Rules::Newest && mark == u64::from(TALL),
+            1 => self != Rules::Published && length == 5,
+            _ => self != Rules::Published && mark == u64::from(TALL),
         }
     }
 }
 
-/// A used row without its contents.
+/// A used row without its contents and its window.
 #[derive(Clone, Copy, Debug, PartialEq, Eq)]
 pub struct Row {
     pub name: u16,
@@ -58,9 +91,16 @@ pub struct Row {
     pub desired: u32,
     pub epoch: u32,
     pub list: Laid,
+    /// The oldest record of its window; 0 for none.
+    pub oldest: u8,
 }
 
 impl Row {
+    /// A row as it is founded or joined.
+    pub fn new(name: u16, next: usize, list: Laid) -> Row {
+        Row { name, next, stale: false, version: 0, desired: 0, epoch: 0, list, oldest: 0 }
+    }
+
     /// Reads the bytes before the contents.
     pub fn read(bytes: &[u8; ROW_HEADER]) -> Row {
         let number = |at: usize| u32::from_le_bytes([bytes[at], bytes[at + 1], bytes[at + 2], bytes[at + 3]]);
@@ -72,6 +112,7 @@ impl Row {
             desired: number(8),
             epoch: number(12),
             list: Laid { members: u64::from(number(16)) | u64::from(number(20)) << 32, mark: bytes[24] },
+            oldest: bytes[25],
         }
     }
 
@@ -84,7 +125,7 @@ impl Row {
         bytes[8..12].copy_from_slice(&self.desired.to_le_bytes());
         bytes[12..16].copy_from_slice(&self.epoch.to_le_bytes());
         bytes[16..24].copy_from_slice(&self.list.members.to_le_bytes());
-        bytes[24..32].copy_from_slice(&u64::from(self.list.mark).to_le_bytes());
+        bytes[24..32].copy_from_slice(&[self.list.mark, self.oldest, 0, 0, 0, 0, 0, 0]);
     }
 
     /// Is every field before the grid mark in its range, whatever the other rows hold?
@@ -95,9 +136,10 @@ impl Row {
     }
 }
 
-/// A well-formed table: its sizes and the order of its rows. The rows themselves stay in the bytes.
+/// A well-formed table: its rules, its sizes and the order of its rows. The rows themselves stay in the bytes.
 #[derive(Clone, Debug, PartialEq, Eq)]
 pub struct Table {
+    pub rules: Rules,
     pub capacity: usize,
     pub used: usize,
     pub file_len: usize,
@@ -106,12 +148,12 @@ pub struct Table {
 }
 
 impl Table {
-    /// How many bytes a table takes.
+    /// How many bytes a table of the newest form takes.
     pub fn length(capacity: usize, file_len: usize) -> usize {
-        HEADER + capacity * (ROW_HEADER + file_len)
+        Rules::Newest.table_length(capacity, file_len)
     }
 
-    /// Reads a table, if it is well formed.
+    /// Reads a table, if it is well formed and of the newest form.
     pub fn decode(bytes: &[u8]) -> Option<Table> {
         Table::decode_by(Rules::default(), bytes)
     }
@@ -121,16 +163,16 @@ impl Table {
         let header = bytes.first_chunk::<HEADER>()?;
         let [capacity, used, first] = [1, 2, 3].map(|at| usize::from(header[at]));
         let file_len = usize::from(u16::from_le_bytes([header[4], header[5]]));
-        let header_fits = header[0] == FORM
+        let header_fits = header[0] == rules.form()
             && (1..=MAX_ROWS).contains(&capacity)
             && (1..=capacity).contains(&used)
             && (1..=MAX_FILE).contains(&file_len)
             && all_zero(&header[6..]);
-        if !header_fits || bytes.len() != Table::length(capacity, file_len) {
+        if !header_fits || bytes.len() != rules.table_length(capacity, file_len) {
             return None;
         }
-        let mut table = Table { capacity, used, file_len, chain: Order::EMPTY };
-        let well_formed = table.rows_fit(rules, bytes)
+        let mut table = Table { rules, capacity, used, file_len, chain: Order::EMPTY };
+        let well_formed = table.rows_fit(bytes)
             && table.follow_chain(bytes, first)
             && all_zero(&bytes[table.row_at(used + 1)..]);
         well_formed.then_some(table)
@@ -139,7 +181,7 @@ impl Table {
     /// Writes the header; it begins the chain with row `first`.
     pub fn write_header(&self, bytes: &mut [u8], first: usize) {
         bytes[..HEADER].fill(0);
-        bytes[0] = FORM;
+        bytes[0] = self.rules.form();
         bytes[1] = self.capacity as u8;
         bytes[2] = self.used as u8;
         bytes[3] = first as u8;
@@ -150,8 +192,7 @@ impl Table {
     pub fn link_in(&self, bytes: &mut [u8], name: u16, place: usize) -> usize {
         let row = self.used + 1;
         let next = self.chain.get(place).map_or(0, |&row| row.into());
-        let joined = Row { name, next, stale: false, version: 0, desired: 0, epoch: 0, list: Laid::EMPTY };
-        self.write_row(bytes, row, &joined);
+        self.write_row(bytes, row, &Row::new(name, next, Laid::EMPTY));
         let link = match place.checked_sub(1) {
             Some(before) => self.row_at(self.chain[before].into()) + 2,
             None => 3,
@@ -167,7 +208,7 @@ impl Table {
 
     /// Where a row begins.
     pub fn row_at(&self, row: usize) -> usize {
-        Table::length(row - 1, self.file_len)
+        self.rules.table_length(row - 1, self.file_len)
     }
 
     pub fn row(&self, bytes: &[u8], row: usize) -> Row {
@@ -180,21 +221,40 @@ impl Table {
     }
 
     pub fn contents<'a>(&self, bytes: &'a [u8], row: usize) -> &'a [u8] {
-        &bytes[self.row_at(row) + ROW_HEADER..self.row_at(row + 1)]
+        &bytes[self.contents_at(row)..][..self.file_len]
     }
 
     pub fn contents_mut<'a>(&self, bytes: &'a mut [u8], row: usize) -> &'a mut [u8] {
-        &mut bytes[self.row_at(row) + ROW_HEADER..self.row_at(row + 1)]
+        &mut bytes[self.contents_at(row)..][..self.file_len]
+    }
+
+    /// Where a row's contents begin.
+    pub fn contents_at(&self, row: usize) -> usize {
+        self.row_at(row) + ROW_HEADER
+    }
+
+    /// Where a row's window begins, if it has one.
+    pub fn window_at(&self, row: usize) -> usize {
+        self.contents_at(row) + self.file_len
+    }
+
+    /// The window of a row, in a table that has windows.
+    pub fn window<'a>(&self, bytes: &'a [u8], row: usize) -> &'a Window {
+        bytes[self.window_at(row)..].first_chunk().expect("the row is in the table")
+    }
+
+    pub fn window_mut<'a>(&self, bytes: &'a mut [u8], row: usize) -> &'a mut Window {
+        bytes[self.window_at(row)..].first_chunk_mut().expect("the row is in the table")
     }
 
     fn row_header<'a>(&self, bytes: &'a [u8], row: usize) -> &'a [u8; ROW_HEADER] {
         bytes[self.row_at(row)..].first_chunk().expect("the row is in the table")
     }
 
-    /// Is every used row in order by itself, does its list name used rows only, and unless the row is exempt, its own
+    /// Is every used row in order by itself, its window too, does its list name used rows only, and unless the row is exempt, its own
     /// row among them, and is it the one list of its epoch, in one grid, and in the shape of all lists?
-    fn rows_fit(&self, rules: Rules, bytes: &[u8]) -> bool {
-        let all_used = self.all_used();
+    fn rows_fit(&self, bytes: &[u8]) -> bool {
+        let (rules, all_used) = (self.rules, self.all_used());
         // The first row of each epoch; most tables have few epochs, and most rows that of the row before.
         let mut leaders = Order::EMPTY;
         // Epoch, list and grid mark of the last row that is not exempt; an empty list stands for none.
@@ -205,8 +265,13 @@ impl Table {
             let header = self.row_header(bytes, index);
             let row = Row::read(header);
             let Laid { members, .. } = row.list;
-            let mark = mark_and_zeros(header);
+            let mark = mark_and_zeros(rules, header);
             if !row.fits(header) || members & !all_used != 0 {
+                return false;
+            }
+            if rules.has_windows()
+                && !window::fits(self.window(bytes, index), row.oldest, row.version, self.file_len)
+            {
                 return false;
             }
             if !rows::has(members, index) {
@@ -252,14 +317,19 @@ impl Table {
     }
 }
 
-/// The last bytes of a row's header as one number: the grid mark, if there are zeros behind it.
-fn mark_and_zeros(header: &[u8; ROW_HEADER]) -> u64 {
-    u64::from_le_bytes(*header.last_chunk().expect("eight bytes of 32"))
+/// The last bytes of a row's header as one number, the oldest record aside: the grid mark, if there are zeros elsewhere.
+fn mark_and_zeros(rules: Rules, header: &[u8; ROW_HEADER]) -> u64 {
+    let last = u64::from_le_bytes(*header.last_chunk().expect("eight bytes of 32"));
+    if rules.has_windows() {
+        last & !0xff00
+    } else {
+        last
+    }
 }
 
 /// Folds blocks of bytes, which vectorizes. (Without blocks the loop takes two vectors a turn, and its same instructions were
 /// seen to take 1.8 times as long in another place of the program.)
-fn all_zero(bytes: &[u8]) -> bool {
+pub fn all_zero(bytes: &[u8]) -> bool {
     fn zero(bytes: &[u8]) -> bool {
         bytes.iter().fold(0, |bits, byte| bits | byte) == 0
     }
