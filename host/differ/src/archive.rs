@@ -7,7 +7,7 @@ use std::ffi::c_int;
 use std::sync::atomic::{AtomicPtr, AtomicU64, Ordering};
 
 /// A little above the longest table and the longest list that a case can have.
-const LONGEST_TABLE: usize = 300_000;
+const LONGEST_TABLE: usize = 310_000;
 const LONGEST_LIST: usize = 12_000;
 const LONGEST_CALLED: usize = 16;
 

@@ -2,32 +2,36 @@
 
 use crate::random::Random;
 use crate::tables::{self, Picture, Size};
-use reference::{rows, Shape, Table, FORM, HEADER, LIMIT, ROW_HEADER, TALL};
+use reference::window::{LONGEST_PATCH, RECORD, RECORDS, WINDOW};
+use reference::{rows, Rules, Shape, Table, FORM, HEADER, LIMIT, ROW_HEADER, TALL};
 
 /// Breaks one rule of a well-formed table.
-type Damage = fn(&mut Vec<u8>, &Picture, &mut Random);
+pub type Damage = fn(&mut Vec<u8>, &Picture, &mut Random);
 
 /// What a table must have for a rule to be broken, besides two used rows.
 #[derive(Clone, Copy, PartialEq, Eq)]
-enum Needs {
+pub enum Needs {
     Nothing,
     /// A number that is no used row, but has a bit in a list.
     FewerThan64,
     UnusedRow,
     /// So many used rows.
     Rows(usize),
+    /// A file that is longer than a record's patch.
+    LongFile,
 }
-use Needs::{FewerThan64, Nothing, Rows, UnusedRow};
+use Needs::{FewerThan64, LongFile, Nothing, Rows, UnusedRow};
 
-const RULES: [(&str, Needs, Damage); 56] = [
+pub const RULES: [(&str, Needs, Damage); 72] = [
     ("empty", Nothing, |bytes, _, _| bytes.clear()),
     ("truncated", Nothing, |bytes, _, random| bytes.truncate(random.between(1, bytes.len() - 2))),
     ("a byte short", Nothing, |bytes, _, _| bytes.truncate(bytes.len() - 1)),
     ("a byte over", Nothing, |bytes, _, _| bytes.push(0)),
-    ("a row short", Nothing, |bytes, table, _| bytes.truncate(bytes.len() - ROW_HEADER - table.file_len)),
-    ("a row over", Nothing, |bytes, table, _| bytes.resize(bytes.len() + ROW_HEADER + table.file_len, 0)),
-    ("form", Nothing, |bytes, _, random| bytes[0] = random.pick(&[0, FORM + 1, 255])),
-    ("form 1", Nothing, |bytes, _, _| bytes[0] = 1),
+    ("a row short", Nothing, |bytes, table, _| bytes.truncate(bytes.len() - stride(table))),
+    ("a row over", Nothing, |bytes, table, _| bytes.resize(bytes.len() + stride(table), 0)),
+    ("form", Nothing, |bytes, _, random| bytes[0] = random.pick(&[0, 1, 2, FORM + 1, 255])),
+    ("no window", Nothing, |bytes, table, _| bytes.truncate(bytes.len() - table.capacity * WINDOW)),
+    ("form 2", Nothing, |bytes, _, _| *bytes = tables::without_windows(bytes, Rules::Windowless)),
     ("capacity 0", Nothing, |bytes, _, _| {
         bytes[1] = 0;
         bytes.truncate(HEADER);
@@ -200,7 +204,7 @@ const RULES: [(&str, Needs, Damage); 56] = [
     }),
     ("joined row not zero", Nothing, |bytes, table, random| {
         let row = unlisted_row(bytes, table, random);
-        put(bytes, table, row, random.between(25, 31), &[1]);
+        put(bytes, table, row, random.between(26, 31), &[1]);
     }),
     ("joined row, list of another row", Nothing, |bytes, table, random| {
         let row = any_row(table, random);
@@ -213,7 +217,87 @@ const RULES: [(&str, Needs, Damage); 56] = [
     }),
     ("row not zero", Nothing, |bytes, table, random| {
         let value = random.pick(&[1, 128, 255]);
-        put(bytes, table, any_row(table, random), random.between(25, 31), &[value]);
+        put(bytes, table, any_row(table, random), random.between(26, 31), &[value]);
+    }),
+    ("byte 26 of a row", LongFile, |bytes, table, random| {
+        let (row, _) = windowed_row(bytes, table, random, 0, RECORDS);
+        put(bytes, table, row, 26, &[random.pick(&[1, 16, 255])]);
+    }),
+    ("window: oldest 0, and there are records", LongFile, |bytes, table, random| {
+        let (row, _) = windowed_row(bytes, table, random, 1, RECORDS);
+        put(bytes, table, row, OLDEST, &[0]);
+    }),
+    ("window: oldest is an empty record", LongFile, |bytes, table, random| {
+        let (row, order) = windowed_row(bytes, table, random, 0, RECORDS - 1);
+        put(bytes, table, row, OLDEST, &[random.between(order.len() + 1, RECORDS) as u8]);
+    }),
+    ("window: oldest 17", LongFile, |bytes, table, random| {
+        let (row, _) = windowed_row(bytes, table, random, 0, RECORDS);
+        put(bytes, table, row, OLDEST, &[random.pick(&[17, 17, 128, 255])]);
+    }),
+    ("window: in a ring", LongFile, |bytes, table, random| {
+        let (row, order) = windowed_row(bytes, table, random, 1, RECORDS);
+        put_record(bytes, table, row, order[order.len() - 1], NEXT, &[random.pick(&order)]);
+    }),
+    ("window: chain cut short", LongFile, |bytes, table, random| {
+        let (row, order) = windowed_row(bytes, table, random, 2, RECORDS);
+        put_record(bytes, table, row, order[random.between(0, order.len() - 2)], NEXT, &[0]);
+    }),
+    ("window: a record left out", LongFile, |bytes, table, random| {
+        let (row, order) = windowed_row(bytes, table, random, 3, RECORDS);
+        let place = random.between(0, order.len() - 3);
+        put_record(bytes, table, row, order[place], NEXT, &[order[place + 2]]);
+    }),
+    ("window: a gap between records", LongFile, |bytes, table, random| {
+        // The last record moves up by one place, and leaves its own empty.
+        let (row, order) = windowed_row(bytes, table, random, 1, RECORDS - 1);
+        let last = order.len() as u8;
+        let moved = record_at(table, row, last)..record_at(table, row, last + 1);
+        bytes.copy_within(moved.clone(), moved.end);
+        bytes[moved].fill(0);
+        match order.iter().position(|&record| record == last) {
+            Some(0) => put(bytes, table, row, OLDEST, &[last + 1]),
+            Some(place) => put_record(bytes, table, row, order[place - 1], NEXT, &[last + 1]),
+            None => unreachable!("the last record is in the chain"),
+        }
+    }),
+    ("window: next record 17", LongFile, |bytes, table, random| {
+        let (row, order) = windowed_row(bytes, table, random, 1, RECORDS);
+        put_record(bytes, table, row, order[order.len() - 1], NEXT, &[random.pick(&[17, 255])]);
+    }),
+    ("window: more records than versions", LongFile, |bytes, table, random| {
+        let (row, order) = windowed_row(bytes, table, random, 1, RECORDS);
+        put_numbers(bytes, table, row, 0, order.len() as u32 - 1, 0);
+    }),
+    ("window: first or last byte of the rest", LongFile, |bytes, table, random| {
+        let (row, order) = windowed_row(bytes, table, random, 0, RECORDS - 1);
+        let first = record_at(table, row, order.len() as u8 + 1);
+        bytes[random.pick(&[first, table.row_at(row + 1) - 1])] = random.pick(&[1, 16, 255]);
+    }),
+    ("window: patch of no byte", LongFile, |bytes, table, random| {
+        let (row, order) = windowed_row(bytes, table, random, 1, RECORDS);
+        let record = random.pick(&order);
+        put_record(bytes, table, row, record, LENGTH, &[0; 35]);
+    }),
+    ("window: patch of 33 bytes", LongFile, |bytes, table, random| {
+        let (row, order) = windowed_row(bytes, table, random, 1, RECORDS);
+        put_record(bytes, table, row, random.pick(&order), LENGTH, &[random.pick(&[33, 33, 128, 255]), 0, 0]);
+    }),
+    ("window: patch that ends beyond the file", LongFile, |bytes, table, random| {
+        let (row, order) = windowed_row(bytes, table, random, 1, RECORDS);
+        let record = random.pick(&order);
+        let length = usize::from(bytes[record_at(table, row, record) + LENGTH]);
+        let beyond = table.file_len - length + 1;
+        let offset = random.pick(&[beyond, beyond, 65_535]) as u16;
+        put_record(bytes, table, row, record, LENGTH + 1, &offset.to_le_bytes());
+    }),
+    ("window: first or last byte behind a short patch", LongFile, |bytes, table, random| {
+        let (row, order) = windowed_row(bytes, table, random, 1, RECORDS);
+        let (record, length) = (random.pick(&order), random.pick(&[1, 15, 16, 17, 31]));
+        put_record(bytes, table, row, record, LENGTH, &[length]);
+        put_record(bytes, table, row, record, PATCH, &[0; LONGEST_PATCH]);
+        let behind = random.pick(&[usize::from(length), LONGEST_PATCH - 1]);
+        put_record(bytes, table, row, record, PATCH + behind, &[random.pick(&[1, 128])]);
     }),
     ("unused row not zero", UnusedRow, |bytes, table, random| {
         let at = random.between(table.row_at(table.used + 1), bytes.len() - 1);
@@ -230,10 +314,17 @@ const RULES: [(&str, Needs, Damage); 56] = [
 const FREE_EPOCH: u32 = 500_000;
 const OTHER_EPOCH: u32 = 400_000;
 
-/// A well-formed table, and the same with one rule broken.
-pub fn damaged(random: &mut Random) -> (Picture, Vec<u8>) {
+/// Where a row keeps the oldest record of its window, and a record its parts.
+const OLDEST: usize = 25;
+const NEXT: usize = 0;
+const LENGTH: usize = 1;
+const PATCH: usize = 4;
+
+/// A rule by its place in `RULES`, a well-formed table, and the same with that rule broken.
+pub fn damaged(random: &mut Random) -> (usize, Picture, Vec<u8>) {
     let rule = random.between(0, RULES.len() - 1);
-    damaged_by(random, rule)
+    let (table, bytes) = damaged_by(random, rule);
+    (rule, table, bytes)
 }
 
 fn damaged_by(random: &mut Random, rule: usize) -> (Picture, Vec<u8>) {
@@ -255,7 +346,38 @@ fn size(random: &mut Random, needs: Needs) -> Size {
         2 => (used + 1).min(64),
         _ => random.between((used + 1).min(64), 64),
     };
-    Size { used, capacity, file_len: random.pick(&[1, 4, 17]) }
+    let file_len = if needs == LongFile { random.pick(&[33, 40]) } else { random.pick(&[1, 4, 17]) };
+    Size { used, capacity, file_len }
+}
+
+/// Gives some row a window of so many patches, at least and at most, and versions enough; gives the row, and the records from the
+/// oldest to the youngest.
+fn windowed_row(
+    bytes: &mut [u8],
+    table: &Picture,
+    random: &mut Random,
+    least: usize,
+    most: usize,
+) -> (usize, Vec<u8>) {
+    let row = any_row(table, random);
+    let count = random.between(least, most);
+    put_numbers(bytes, table, row, 0, (count + random.between(0, 3)) as u32, 0);
+    (row, tables::put_window(random, table, bytes, row, count))
+}
+
+/// Where the record of a row's window begins.
+fn record_at(table: &Picture, row: usize, record: u8) -> usize {
+    table.window_at(row) + RECORD * (usize::from(record) - 1)
+}
+
+/// Writes into a record, from its byte `at` on.
+fn put_record(bytes: &mut [u8], table: &Picture, row: usize, record: u8, at: usize, new: &[u8]) {
+    let start = record_at(table, row, record) + at;
+    bytes[start..start + new.len()].copy_from_slice(new);
+}
+
+fn stride(table: &Picture) -> usize {
+    table.row_at(2) - table.row_at(1)
 }
 
 /// Gives some row an empty list, as after a joining.
@@ -325,13 +447,15 @@ fn put_marked(bytes: &mut [u8], table: &Picture, random: &mut Random, length: u3
     members
 }
 
-/// Gives every row another file length, and the table the length that goes with it.
+/// Gives every row another file length and an empty window, and the table the length that goes with it.
 fn restride(bytes: &mut Vec<u8>, table: &Picture, file_len: usize) {
     let mut wider = bytes[..HEADER].to_vec();
     wider[4..6].copy_from_slice(&(file_len as u16).to_le_bytes());
-    for row in bytes[HEADER..].chunks(ROW_HEADER + table.file_len) {
+    for row in bytes[HEADER..].chunks(stride(table)) {
+        let head = wider.len();
         wider.extend_from_slice(&row[..ROW_HEADER]);
-        wider.resize(wider.len() + file_len, 0);
+        wider[head + OLDEST] = 0;
+        wider.resize(head + table.rules.row_length(file_len), 0);
     }
     *bytes = wider;
 }
@@ -355,7 +479,7 @@ mod tests {
     fn a_wrong_mark_or_form_is_the_only_rule_broken() {
         let mut mended = 0;
         for (rule, (name, ..)) in RULES.iter().enumerate() {
-            if !name.starts_with("grid mark") && !name.starts_with("form") {
+            if !name.starts_with("grid mark") && *name != "form" {
                 continue;
             }
             for case in 0..200 {
@@ -366,7 +490,27 @@ mod tests {
             }
             mended += 1;
         }
-        assert_eq!(mended, 15);
+        assert_eq!(mended, 14);
+    }
+
+    /// Where a window is wrong, nothing else is: with other windows the table is well formed.
+    #[test]
+    fn a_wrong_window_is_the_only_rule_broken() {
+        let mut mended = 0;
+        for (rule, (name, ..)) in
+            RULES.iter().enumerate().filter(|(_, (name, ..))| name.starts_with("window"))
+        {
+            for case in 0..200 {
+                let (table, mut bytes) = damaged_by(&mut Random::new(2, case), rule);
+                for row in 1..=table.used {
+                    put(&mut bytes, &table, row, OLDEST, &[0]);
+                    table.window_mut(&mut bytes, row).fill(0);
+                }
+                assert!(Table::decode(&bytes).is_some(), "{name}");
+            }
+            mended += 1;
+        }
+        assert_eq!(mended, 14);
     }
 
     #[test]

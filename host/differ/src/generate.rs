@@ -5,6 +5,7 @@ use crate::damage;
 use crate::ledger::Ledger;
 use crate::random::Random;
 use crate::tables::{self, Picture, Size};
+use reference::window::LONGEST_PATCH;
 use reference::{rows, Engine, Layout, Quorum, Rules, Table, MAX_FILE, MAX_ROWS};
 
 /// What every chart is asked for: the lengths of lists of members, some beyond nine; grid marks; bytes of the list to fill.
@@ -32,14 +33,78 @@ pub struct Plan {
     known: Option<Picture>,
     /// Rows whose machines are up.
     up: u64,
+    /// A row that falls behind before any other calls are made.
+    straggler: Option<Straggler>,
+    /// The rule that the table breaks, by its place in `damage::RULES`.
+    pub damage: Option<usize>,
+}
+
+/// A row that misses some writes, is marked by a check and then gets a send.
+struct Straggler {
+    /// How many writes are left to be made before.
+    writes: usize,
+    /// The row, once it stays away.
+    row: Option<usize>,
+    /// How many writes are left that it misses; the one with a long patch, if there is one.
+    missed: usize,
+    long: Option<usize>,
+    marked: bool,
+}
+
+impl Straggler {
+    fn pick(random: &mut Random) -> Straggler {
+        let missed = random.pick(&[1, 15, 16, 17]);
+        let long = random.chance(1, 4).then(|| random.between(1, missed));
+        Straggler { writes: random.pick(&[0, 1, 17]), row: None, missed, long, marked: false }
+    }
+
+    /// The next call; the send is the last one.
+    fn next(&mut self, random: &mut Random, table: &Picture) -> (Call, bool) {
+        let all = table.all_used();
+        let newest = (1..=table.used).max_by_key(|&row| table.row(row).version).expect("a row");
+        let Some(row) = self.row.or_else(|| (self.writes == 0).then_some(newest)) else {
+            self.writes -= 1;
+            return (short_write(random, table, all, false), false);
+        };
+        let others = all & !rows::only(row);
+        let check = |random: &mut Random, answering| Call::Check {
+            coordinator: random.row(others) as u64,
+            answering,
+        };
+        if self.row.is_none() {
+            self.row = Some(row);
+            return (check(random, others), false);
+        }
+        if self.missed > 0 {
+            let long = self.long == Some(self.missed);
+            self.missed -= 1;
+            return (short_write(random, table, others, long), false);
+        }
+        if !self.marked {
+            self.marked = true;
+            return (check(random, all), false);
+        }
+        let answering = rows::only(newest) | rows::only(row);
+        (Call::Send { from: newest as u64, to: row as u64, answering }, true)
+    }
+}
+
+/// A write that these rows answer, of 1 to 32 bytes, or a long one.
+fn short_write(random: &mut Random, table: &Picture, answering: u64, long: bool) -> Call {
+    let any = random.between(1, LONGEST_PATCH);
+    let length = if long { LONGEST_PATCH + 1 } else { random.pick(&[1, 31, 32, any]) };
+    let offset = random.between(0, table.file_len - length) as u64;
+    let (coordinator, patch) = (random.row(answering) as u64, random.bytes(length));
+    Call::Write { coordinator, answering, offset, patch, called: vec![0xee] }
 }
 
 impl Plan {
     pub fn pick(random: &mut Random) -> Plan {
         match random.between(0, 99) {
-            0..=10 => Plan::founded(random),
-            11..=13 => Plan::carried_over(random),
-            14..=59 => Plan::unfounded(random),
+            0..=9 => Plan::founded(random),
+            10..=11 => Plan::falling_behind(random),
+            12..=14 => Plan::carried_over(random),
+            15..=59 => Plan::unfounded(random),
             60..=84 => Plan::damaged(random),
             _ => Plan::foundings(random),
         }
@@ -65,14 +130,31 @@ impl Plan {
             foundings: None,
             known: None,
             up,
+            straggler: None,
+            damage: None,
         }
+    }
+
+    /// A founded history that begins with a row that falls behind.
+    pub fn falling_behind(random: &mut Random) -> Plan {
+        // Four machines and more bear the loss of one.
+        let used = random.between(4, 9);
+        let size = Size { used, capacity: random.between(used, 10), file_len: random.pick(&[33, 40, 64]) };
+        let choice = choice(random);
+        let mut plan = Plan::founded_as(random, size, choice);
+        let straggler = Straggler::pick(random);
+        plan.calls = straggler.writes + straggler.missed + 4 + random.between(0, 20);
+        plan.straggler = Some(straggler);
+        plan
     }
 
     /// A history that began before there were requests: its lists, some of five among them, lie in the published grid.
     pub fn carried_over(random: &mut Random) -> Plan {
         let size = Size { used: random.pick(&[5, 5, 5, 6, 7, 9]), ..Size::pick(random) };
-        let mut plan = Plan::founded_as(random, Size { capacity: size.capacity.max(size.used), ..size }, 0);
+        let size = Size { capacity: size.capacity.max(size.used), ..size };
+        let mut plan = Plan::founded_as(random, size, 0);
         let engine = Engine { rules: Rules::Published, ..Engine::default() };
+        plan.start = random.bytes(engine.rules.table_length(size.capacity, size.file_len));
         plan.ledger = Ledger::published();
         for _ in 0..random.between(1, 12) {
             let mut table = plan.table();
@@ -93,6 +175,7 @@ impl Plan {
             }
         }
         plan.ledger.take_over();
+        plan.start = tables::with_empty_windows(&plan.start);
         plan
     }
 
@@ -110,12 +193,14 @@ impl Plan {
             foundings: None,
             known,
             up,
+            straggler: None,
+            damage: None,
         }
     }
 
     /// A few calls on a table with one rule broken.
     fn damaged(random: &mut Random) -> Plan {
-        let (table, start) = damage::damaged(random);
+        let (rule, table, start) = damage::damaged(random);
         let up = table.all_used();
         Plan {
             start,
@@ -125,6 +210,8 @@ impl Plan {
             foundings: None,
             known: Some(table),
             up,
+            straggler: None,
+            damage: Some(rule),
         }
     }
 
@@ -132,7 +219,9 @@ impl Plan {
     fn foundings(random: &mut Random) -> Plan {
         let size = Size::pick(random);
         let length = Table::length(size.capacity, size.file_len);
-        let wrong = random.pick(&[0, 1, 15, 16, 17, length - 1, length + 1, length + 32 + size.file_len]);
+        let older = Rules::Windowless.table_length(size.capacity, size.file_len);
+        let longer = Table::length(size.capacity + 1, size.file_len);
+        let wrong = random.pick(&[0, 1, 15, 16, 17, length - 1, length + 1, older, longer]);
         let length = if random.chance(1, 3) { wrong } else { length };
         let choice = choice(random);
         let opening = founding(random, size, choice);
@@ -145,6 +234,8 @@ impl Plan {
             foundings: Some(size),
             known: None,
             up: 0,
+            straggler: None,
+            damage: None,
         }
     }
 
@@ -192,6 +283,8 @@ impl Plan {
             foundings: None,
             known: None,
             up: 0,
+            straggler: None,
+            damage: None,
         }
     }
 
@@ -217,8 +310,15 @@ impl Plan {
             return bad_founding(random, size);
         }
         let used_before = self.known.as_ref().map(|table| table.all_used());
-        self.known = Picture::of(bytes).or(self.known.take());
+        self.known = Picture::of_any_form(bytes).or(self.known.take());
         let table = self.known.as_ref().expect("founded by now, or known from the start");
+        if let Some(straggler) = &mut self.straggler {
+            let (call, last) = straggler.next(random, table);
+            if last {
+                self.straggler = None;
+            }
+            return call;
+        }
         // Who joined is mostly up.
         self.up |= random.subset(table.all_used() & !used_before.unwrap_or(u64::MAX), 3, 4);
         if random.chance(1, 8) {
@@ -314,7 +414,7 @@ fn fitting(random: &mut Random, table: &Picture, up: u64) -> Call {
         }
         30..=61 => {
             let answering = answering(random, table, up, coordinator, Quorum::Write);
-            let (offset, length) = range(random, table);
+            let (offset, length) = patch_range(random, table);
             let (patch, called) = (random.bytes(length), called(random));
             Call::Write { coordinator: coordinator as u64, answering, offset, patch, called }
         }
@@ -370,6 +470,16 @@ fn range(random: &mut Random, table: &Picture) -> (u64, usize) {
     let rest = table.file_len - offset;
     let length = if random.chance(3, 4) { random.between(1, rest.min(8)) } else { random.between(1, rest) };
     (offset as u64, length)
+}
+
+/// The range of a patch: in a third of the cases about as long as a record takes, if the file is.
+fn patch_range(random: &mut Random, table: &Picture) -> (u64, usize) {
+    let length = random.pick(&[LONGEST_PATCH - 1, LONGEST_PATCH, LONGEST_PATCH + 1]);
+    if length <= table.file_len && random.chance(1, 3) {
+        (random.between(0, table.file_len - length) as u64, length)
+    } else {
+        range(random, table)
+    }
 }
 
 /// The list for the number of machines called: mostly of one byte, of none or two now and then.

@@ -6,7 +6,7 @@ use crate::generate::Plan;
 use crate::guard::Edge;
 use crate::ledger::Ledger;
 use crate::random::Random;
-use crate::tables::{names_in_bytes, Picture};
+use crate::tables::{self, names_in_bytes, Picture};
 use crate::trial::{Case, Trial};
 use reference::{rows, Engine, Rules, Table, TALL};
 
@@ -86,15 +86,16 @@ fn expect_from(case: &Case, calls: &[(Call, u64, u64)]) -> Vec<u8> {
     marks(trial.table())
 }
 
-/// The machines as a founding by the scope's rules alone leaves them, with the newest form.
+/// The machines as a founding by the scope's rules alone leaves them, with empty windows in the newest form.
 fn carried_over(names: &[u16], file_len: usize) -> Case {
     let founding = found(names.len(), names, file_len, WIDE_TABLE);
     let engine = Engine { rules: Rules::Published, ..Engine::default() };
-    let mut case = Case { ledger: Ledger::published(), ..blank(names.len(), file_len) };
-    let answer = founding.refer(engine, &mut case.table);
-    case.ledger.hear(&founding, &answer).expect("a plain founding");
-    case.ledger.take_over();
-    case
+    let mut table = vec![0; engine.rules.table_length(names.len(), file_len)];
+    let mut ledger = Ledger::published();
+    let answer = founding.refer(engine, &mut table);
+    ledger.hear(&founding, &answer).expect("a plain founding");
+    ledger.take_over();
+    Case { table: tables::with_empty_windows(&table), ledger, ..blank(names.len(), file_len) }
 }
 
 /// The grid mark of each row.

@@ -141,8 +141,11 @@ mod tests {
         let mut made = 0;
         for case in 0.. {
             let mut random = Random::new(3, case);
-            let mut plan =
-                if case % 4 == 0 { Plan::carried_over(&mut random) } else { Plan::founded(&mut random) };
+            let mut plan = match case % 4 {
+                0 => Plan::carried_over(&mut random),
+                1 => Plan::falling_behind(&mut random),
+                _ => Plan::founded(&mut random),
+            };
             let mut table = plan.table();
             let mut ledger = plan.ledger();
             for _ in 0..plan.calls() {
@@ -168,9 +171,10 @@ mod tests {
     /// Good rows of a founded history hold the same bytes, so the book cannot tell which of them was read; no history
     /// leads to two marks in one epoch, or to two shapes in one table; the book keeps no charts, and does not look at a list
     /// for the number called that has another length than one byte, nor in which order a write's range and that list are
-    /// asked for, nor at the list of a choice that was refused; and it lists no sends.
+    /// asked for, nor at the list of a choice that was refused; it lists no sends; and a send goes whole where a window is
+    /// shorter than it should be.
     #[test]
-    fn the_book_alone_finds_all_blunders_but_thirteen() {
+    fn the_book_alone_finds_all_blunders_but_fifteen() {
         let hidden = [
             Blunder::HighestGood,
             Blunder::MarksOfEpoch,
@@ -185,6 +189,8 @@ mod tests {
             Blunder::SetAtAnyLength,
             Blunder::StaleSender,
             Blunder::BehindReceiver,
+            Blunder::LongestEmpties,
+            Blunder::RecordPassedOver,
         ];
         for blunder in Blunder::ALL {
             assert_eq!(book_finds(Some(blunder), 50_000), !hidden.contains(&blunder), "{}", blunder.name());

@@ -97,6 +97,9 @@ impl Run {
             2..=7 => (Edge::End, Plan::choices(&mut random)),
             _ => (edge, Plan::pick(&mut random)),
         };
+        if let Some(rule) = plan.damage {
+            self.counts.add_damage(rule);
+        }
         let mut case = Case { table: plan.table(), ledger: plan.ledger(), calls: Vec::new(), edge };
         let mut trial = Trial::new(&mut self.archive, self.reference, &case).slipping(self.slip);
         for _ in 0..plan.calls() {

@@ -199,7 +199,7 @@ mod tests {
     #[test]
     fn every_byte_is_compared() {
         let mut archive = Archive::new();
-        let mut whole = vec![0; HEADER + 5 * 36];
+        let mut whole = vec![0; reference::Table::length(5, 4)];
         let names = names_in_bytes(&[10, 20, 30, 40]);
         let found = Call::Found { capacity: 5, file_len: 4, names, choice: 0 };
         archive.call(&mut whole, &found).expect("no stray write");
@@ -212,7 +212,7 @@ mod tests {
             relay.call(&mut archive, &write, answer, whole).is_ok()
         };
         assert!(relayed(&answer, &whole));
-        for at in 0..HEADER + 4 * 36 {
+        for at in 0..reference::Table::length(4, 4) {
             let mut altered = whole.clone();
             altered[at] ^= 1;
             assert!(!relayed(&answer, &altered), "byte {at}");

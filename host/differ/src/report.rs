@@ -1,7 +1,9 @@
 //! How often each call was done and refused, on which kinds of tables, and at which sizes its twin was asked.
 
 use crate::call::Call;
+use crate::damage;
 use crate::tables::Picture;
+use reference::window::RECORDS;
 use reference::{Quorum, Shape};
 use std::collections::{BTreeMap, BTreeSet};
 use std::fmt;
@@ -31,6 +33,12 @@ pub struct Counts {
     chosen: [u64; CHOICES.len()],
     /// For each kind of call, how often a relay made it too.
     relayed: [u64; KINDS],
+    /// How many done sends were of each of `SENDS`, in founded histories and elsewhere.
+    sent: [[u64; SENDS.len()]; 2],
+    /// For each length of `PATCHES` and each of `FILLS`, how many done writes added such a patch to such a window.
+    added: [[u64; FILLS.len()]; PATCHES.len()],
+    /// How many tables broke each rule.
+    damages: [u64; damage::RULES.len()],
     /// How many well-formed tables were looked at through the wrapper, and how many sends would be done there.
     looked: u64,
     sends: u64,
@@ -41,6 +49,60 @@ pub const RELAYED: u64 = 200_000;
 
 /// So many sends must be listed by the wrapper.
 pub const LISTED: u64 = 100_000;
+
+/// What a done send did.
+#[derive(Clone, Copy, Debug, PartialEq, Eq)]
+pub struct Sent {
+    /// In a founded history?
+    pub founded: bool,
+    /// How many versions the receiver was behind.
+    pub behind: usize,
+    /// How many patches the sender's window has.
+    pub patches: usize,
+    /// Has the receiver the sender's contents?
+    pub like_whole: bool,
+}
+
+impl Sent {
+    /// Does the sender's window reach back to the receiver's version?
+    pub fn by_window(self) -> bool {
+        self.behind <= self.patches
+    }
+}
+
+/// What a done write added to the window of a row.
+#[derive(Clone, Copy, Debug, PartialEq, Eq)]
+pub struct Added {
+    pub length: usize,
+    /// How many patches the window had before.
+    pub patches: usize,
+}
+
+/// The kinds of sends, in founded histories and elsewhere.
+const SENDS: [(&str, fn(Sent) -> bool); 7] = [
+    ("by window, 1 behind", |sent| sent.by_window() && sent.behind == 1),
+    ("by window, 15 behind", |sent| sent.by_window() && sent.behind == 15),
+    ("by window, 16 behind", |sent| sent.by_window() && sent.behind == 16),
+    ("whole, 17 behind a full window", |sent| sent.behind == 17 && sent.patches == 16),
+    ("whole, from an emptied window", |sent| sent.patches == 0),
+    ("by window, like a whole one", |sent| sent.by_window() && sent.like_whole),
+    ("by window, unlike a whole one", |sent| !sent.like_whole),
+];
+/// In a founded history none is of this kind.
+const UNLIKE: usize = 6;
+const HISTORIES: [&str; 2] = ["on a table that no founding leads to", "in a founded history"];
+
+/// The lengths of patches on either side of a record's limits, and the windows that they are added to.
+const PATCHES: [usize; 4] = [1, 31, 32, 33];
+const FILLS: [&str; 3] = ["an empty window", "a window with room", "a full window"];
+
+fn fill(patches: usize) -> usize {
+    match patches {
+        0 => 0,
+        RECORDS.. => 2,
+        _ => 1,
+    }
+}
 
 /// The answers that each kind of call can give, 0 for done, in the order of `Call::KINDS`.
 const POSSIBLE: [&[u32]; KINDS] = [
@@ -173,6 +235,9 @@ pub struct Step {
     pub relayed: bool,
     /// How many sends would be done, if the table that the call left was looked at and is well formed.
     pub sends: Option<usize>,
+    /// What a done send did, and what a done write added to a window.
+    pub sent: Option<Sent>,
+    pub added: Option<Added>,
 }
 
 impl Default for Counts {
@@ -187,6 +252,9 @@ impl Default for Counts {
             stayed: Default::default(),
             chosen: Default::default(),
             relayed: Default::default(),
+            sent: Default::default(),
+            added: Default::default(),
+            damages: [0; damage::RULES.len()],
             looked: 0,
             sends: 0,
         }
@@ -207,6 +275,14 @@ impl Counts {
         if let Some(chosen) = step.chosen {
             self.chosen[chosen] += 1;
         }
+        if let Some(sent) = step.sent {
+            let counts = &mut self.sent[usize::from(sent.founded)];
+            SENDS.iter().zip(counts).for_each(|((_, is_such), count)| *count += u64::from(is_such(sent)));
+        }
+        if let Some(added) = step.added {
+            let lengths = PATCHES.iter().zip(&mut self.added).find(|(length, _)| **length == added.length);
+            lengths.into_iter().for_each(|(_, fills)| fills[fill(added.patches)] += 1);
+        }
         self.looked += u64::from(step.sends.is_some());
         self.sends += step.sends.unwrap_or(0) as u64;
         self.grounds[call.kind()][step.ground as usize] += 1;
@@ -217,6 +293,16 @@ impl Counts {
         if let Some(used) = step.twin_of {
             self.twins[call.kind()][used] += 1;
         }
+    }
+
+    /// A case began with a table that breaks this rule.
+    pub fn add_damage(&mut self, rule: usize) {
+        self.damages[rule] += 1;
+    }
+
+    /// How many sends went by window and left what a whole one would have, and how many did not.
+    pub fn sent_by_window(&self) -> [u64; 2] {
+        [UNLIKE - 1, UNLIKE].map(|kind| self.sent.iter().map(|counts| counts[kind]).sum())
     }
 
     pub fn total(&self) -> u64 {
@@ -275,6 +361,20 @@ impl Counts {
                 missing.push(format!("{} {answer} with a list of {lent} bytes", Call::KINDS[kind]));
             }
         }
+        for (founded, counts) in self.sent.iter().enumerate() {
+            let never = SENDS
+                .iter()
+                .zip(counts)
+                .enumerate()
+                .filter(|&(kind, (_, &count))| count == 0 && (kind, founded) != (UNLIKE, 1));
+            missing.extend(never.map(|(_, ((send, _), _))| format!("send {send} {}", HISTORIES[founded])));
+        }
+        for (length, counts) in PATCHES.iter().zip(self.added) {
+            let never = FILLS.iter().zip(counts).filter(|&(_, count)| count == 0);
+            missing.extend(never.map(|(fill, _)| format!("write of {length} bytes into {fill}")));
+        }
+        let unbroken = damage::RULES.iter().zip(self.damages).filter(|&(_, count)| count == 0);
+        missing.extend(unbroken.map(|((rule, ..), _)| format!("table with a broken rule: {rule}")));
         let untold = CHOICES.into_iter().zip(self.chosen).filter(|&(_, count)| count == 0);
         missing.extend(untold.map(|(choice, _)| format!("choice of a {choice}")));
         let not_relayed = Call::KINDS.into_iter().zip(self.relayed).filter(|&(_, count)| count == 0);
@@ -383,6 +483,8 @@ mod tests {
             chosen: None,
             relayed: false,
             sends: None,
+            sent: None,
+            added: None,
         }
     }
 
@@ -393,8 +495,34 @@ mod tests {
         let called = (5 * 3 + 2) + (5 * 3 - 1 + 4);
         let choices = (4 * 4 - 1) + 8;
         let (relayed, listed) = (KINDS + 1, 1);
+        let windows = (7 + 6) + 4 * 3;
+        let broken = damage::RULES.len();
         let of_tables = answers + 6 * (64 + Ground::ALL.len()) + 4 + 12;
-        assert_eq!(counts.missing().len(), of_tables + called + choices + relayed + listed);
+        assert_eq!(
+            counts.missing().len(),
+            of_tables + called + choices + relayed + listed + windows + broken
+        );
+        (0..broken).for_each(|rule| counts.add_damage(rule));
+        for founded in [false, true] {
+            for (behind, patches, like_whole) in [
+                (1, 1, true),
+                (15, 15, true),
+                (16, 16, !founded),
+                (16, 16, true),
+                (17, 16, true),
+                (3, 0, true),
+            ] {
+                let sent = Sent { founded, behind, patches, like_whole: like_whole != !founded };
+                counts.add(&calls()[3], Step { sent: Some(sent), ..step(0) });
+                let sent = Sent { like_whole, ..sent };
+                counts.add(&calls()[3], Step { sent: Some(sent), ..step(0) });
+            }
+        }
+        for length in PATCHES {
+            for patches in [0, 1, 16] {
+                counts.add(&calls()[2], Step { added: Some(Added { length, patches }), ..step(0) });
+            }
+        }
         for sends in [Some(0), Some(LISTED as usize - 1), None, Some(1)] {
             assert!(counts.missing().contains(&format!("{LISTED} sends listed by the wrapper")));
             counts.add(&calls()[1], Step { sends, ..step(0) });

@@ -2,7 +2,8 @@
 
 use crate::random::Random;
 use reference::rows;
-use reference::{Laid, Row, Shape, Table, LIMIT, TALL};
+use reference::window::{self, LONGEST_PATCH, RECORD, RECORDS, WINDOW};
+use reference::{Laid, Row, Rules, Shape, Table, HEADER, LIMIT, ROW_HEADER, TALL};
 use std::ops::Deref;
 
 /// A well-formed table with its used rows, kept apart from its bytes.
@@ -14,9 +15,18 @@ pub struct Picture {
 }
 
 impl Picture {
-    /// Reads a table, if it is well formed.
+    /// Reads a table, if it is well formed and of the newest form.
     pub fn of(bytes: &[u8]) -> Option<Picture> {
-        let table = Table::decode(bytes)?;
+        Picture::by(Rules::Newest, bytes)
+    }
+
+    /// Reads a table, if it is well formed by the rules of its own form.
+    pub fn of_any_form(bytes: &[u8]) -> Option<Picture> {
+        Picture::by(Rules::of_form(*bytes.first()?)?, bytes)
+    }
+
+    fn by(rules: Rules, bytes: &[u8]) -> Option<Picture> {
+        let table = Table::decode_by(rules, bytes)?;
         let rows = (1..=table.used).map(|row| table.row(bytes, row)).collect();
         Some(Picture { table, rows })
     }
@@ -80,9 +90,10 @@ impl Size {
             _ => random.between(used, 64),
         };
         let file_len = match random.between(0, 99) {
-            0..=59 => random.between(1, 6),
-            60..=94 => random.between(7, 40),
-            95..=97 => random.between(41, 300),
+            0..=49 => random.between(1, 6),
+            50..=69 => random.between(7, 40),
+            70..=93 => random.pick(&[31, 32, 33, 34, 40, 64]),
+            94..=97 => random.between(41, 300),
             98 => random.between(301, 4095),
             _ => 4096,
         };
@@ -111,28 +122,89 @@ pub fn names_in_bytes(names: &[u16]) -> Vec<u8> {
     names.iter().flat_map(|name| name.to_le_bytes()).collect()
 }
 
-/// A well-formed table with a shuffled chain, several epochs, marks and lists.
+/// A well-formed table with a shuffled chain, several epochs, marks, lists and windows.
 pub fn well_formed(random: &mut Random, size: Size) -> Vec<u8> {
     let Size { used, capacity, file_len } = size;
     let mut chain: Vec<usize> = (1..=used).collect();
     random.shuffle(&mut chain);
-    let table = Table { capacity, used, file_len, chain: chain.iter().copied().collect() };
+    let rules = Rules::Newest;
+    let table = Table { rules, capacity, used, file_len, chain: chain.iter().copied().collect() };
     let mut bytes = vec![0; Table::length(capacity, file_len)];
     table.write_header(&mut bytes, chain[0]);
     for (row, state) in (1..).zip(used_rows(random, &chain)) {
         table.write_row(&mut bytes, row, &state);
         random.fill(table.contents_mut(&mut bytes, row));
+        any_window(random, &table, &mut bytes, row);
     }
     bytes
+}
+
+/// Gives a row a window of any patches, no more of them than it has versions.
+fn any_window(random: &mut Random, table: &Table, bytes: &mut [u8], row: usize) {
+    let most = RECORDS.min(table.row(bytes, row).version as usize);
+    let any = random.between(0, most);
+    let count = random.pick(&[0, 1, 15, 16, 16, any]).min(most);
+    put_window(random, table, bytes, row, count);
+}
+
+/// Gives a row a window of so many patches, chained through its first records in any order; gives that order.
+pub fn put_window(random: &mut Random, table: &Table, bytes: &mut [u8], row: usize, count: usize) -> Vec<u8> {
+    let mut order: Vec<u8> = (1..=count as u8).collect();
+    random.shuffle(&mut order);
+    let mut window = [0; WINDOW];
+    for (place, &index) in order.iter().enumerate() {
+        let any = random.between(1, LONGEST_PATCH);
+        let length = random.pick(&[1, 31, 32, any]).min(table.file_len);
+        let last = table.file_len - length;
+        let offset = if random.chance(1, 4) { last } else { random.between(0, last) };
+        let record = &mut window[RECORD * (usize::from(index) - 1)..][..RECORD];
+        record[0] = order.get(place + 1).copied().unwrap_or(0);
+        record[1] = length as u8;
+        record[2..4].copy_from_slice(&(offset as u16).to_le_bytes());
+        random.fill(&mut record[4..4 + length]);
+    }
+    *table.window_mut(bytes, row) = window;
+    let state = Row { oldest: order.first().copied().unwrap_or(0), ..table.row(bytes, row) };
+    table.write_row(bytes, row, &state);
+    order
+}
+
+/// How many patches the window of a row has.
+pub fn patches(table: &Table, bytes: &[u8], row: usize) -> usize {
+    window::chain(table.window(bytes, row), table.row(bytes, row).oldest).0
+}
+
+/// A well-formed table of the newest form as one of an older form, whose lists its rules allow: its rows without their windows.
+pub fn without_windows(bytes: &[u8], rules: Rules) -> Vec<u8> {
+    let table = Table::decode(bytes).expect("well formed");
+    let mut older = bytes[..HEADER].to_vec();
+    older[0] = rules.form();
+    for row in 1..=table.capacity {
+        older.extend_from_slice(&bytes[table.row_at(row)..table.window_at(row)]);
+        let head = older.len() - table.file_len - ROW_HEADER;
+        older[head + 25] = 0;
+    }
+    older
+}
+
+/// A table of an older form as one of the newest: its rows, each with an empty window.
+pub fn with_empty_windows(bytes: &[u8]) -> Vec<u8> {
+    let mut newest = bytes[..HEADER].to_vec();
+    newest[0] = Rules::Newest.form();
+    for row in bytes[HEADER..].chunks((bytes.len() - HEADER) / usize::from(bytes[1])) {
+        newest.extend_from_slice(row);
+        newest.resize(newest.len() + WINDOW, 0);
+    }
+    newest
 }
 
 fn used_rows(random: &mut Random, chain: &[usize]) -> Vec<Row> {
     let count = chain.len();
     let names = names(random, count);
     let epochs = epochs(random, count);
-    let lowest_version = random.pick(&[0, 0, 0, 0, LIMIT - 3, LIMIT - 1]);
+    let lowest_version = random.pick(&[0, 0, 0, 1, 14, 16, 30, LIMIT - 3, LIMIT - 1]);
     let stale_chance = random.pick(&[0, 0, 1, 5]);
-    let spread = random.pick(&[1, 2, 4]);
+    let spread = random.pick(&[1, 2, 4, 18]);
     let mut rows = Vec::new();
     for row in 1..=count {
         let place = chain.iter().position(|&member| member == row).expect("every row is in the chain");
@@ -141,9 +213,24 @@ fn used_rows(random: &mut Random, chain: &[usize]) -> Vec<Row> {
         let stale = version < LIMIT && random.chance(stale_chance, 10);
         let desired = if stale { (version + random.between(1, 3) as u32).min(LIMIT) } else { 0 };
         let next = chain.get(place + 1).copied().unwrap_or(0);
-        rows.push(Row { name: names[place], next, stale, version, desired, epoch, list });
+        rows.push(Row { stale, version, desired, epoch, ..Row::new(names[place], next, list) });
+    }
+    if count > 1 && random.chance(1, 3) {
+        put_behind(random, &mut rows);
     }
     rows
+}
+
+/// Marks a row that is behind another one: by one version, by as many as a window may reach back, or by one more or less.
+fn put_behind(random: &mut Random, rows: &mut [Row]) {
+    let from = random.between(0, rows.len() - 1);
+    let to = (from + random.between(1, rows.len() - 1)) % rows.len();
+    let behind = random.pick(&[1, 15, 16, 17]);
+    let version = rows[from].version.max(behind + random.pick(&[0, 0, 1, 9]));
+    let older = version - behind;
+    let desired = random.between(older as usize + 1, version as usize) as u32;
+    rows[from] = Row { stale: false, version, desired: 0, ..rows[from] };
+    rows[to] = Row { stale: true, version: older, desired, ..rows[to] };
 }
 
 /// An epoch number that only rows with an empty list have in a generated table.
@@ -226,11 +313,12 @@ pub fn twin(random: &mut Random, bytes: &[u8], table: &Table, answering: u64) ->
             state.epoch = free.next().expect("more epochs than rows");
             state.list = list(random, table.all_used(), rows::only(row), 5, shape);
         }
-        state.version = random.pick(&[0, 1, 7, LIMIT - 1]);
+        state.version = random.pick(&[0, 1, 7, 16, LIMIT - 1]);
         state.stale = random.chance(1, 2);
         state.desired = if state.stale { state.version + 1 } else { 0 };
         table.write_row(&mut twin, row, &state);
         random.fill(table.contents_mut(&mut twin, row));
+        any_window(random, table, &mut twin, row);
     }
     twin
 }
@@ -274,6 +362,47 @@ mod tests {
         for counts in [made, twins] {
             assert!(counts[..5].iter().all(|&count| count > 100), "{made:?} {twins:?}");
             assert_eq!(counts[5..], [0; 3]);
+        }
+    }
+
+    /// Windows of every length, in records in any order; patches of every length that has a rule.
+    #[test]
+    fn windows_of_every_kind_are_made() {
+        let (mut counts, mut lengths, mut shuffled, mut behind) = ([0; 17], [0; 33], 0, [0; 18]);
+        for case in 0..2_000 {
+            let mut random = Random::new(1, case);
+            let size = Size::pick(&mut random);
+            let bytes = well_formed(&mut random, size);
+            let table = Picture::of(&bytes).expect("well formed");
+            for row in 1..=table.used {
+                let count = patches(&table, &bytes, row);
+                counts[count] += 1;
+                let records = (1..=count as u8).map(|index| window::record(table.window(&bytes, row), index));
+                let records: Vec<window::Record> = records.collect();
+                records.iter().for_each(|record| lengths[record.length] += 1);
+                shuffled += usize::from((2..).zip(&records).any(|(next, record)| record.next != next));
+                for sender in table.rows.iter().filter(|sender| !sender.stale && table.row(row).stale) {
+                    let more = sender.version.saturating_sub(table.row(row).version) as usize;
+                    behind[more.min(17)] += 1;
+                }
+            }
+        }
+        assert!(counts.iter().all(|&count| count > 20), "{counts:?}");
+        assert!(lengths[1..].iter().all(|&count| count > 20), "{lengths:?}");
+        assert!(shuffled > 1_000 && behind.iter().all(|&count| count > 20), "{shuffled} {behind:?}");
+    }
+
+    #[test]
+    fn windows_come_off_and_on() {
+        for case in 0..500 {
+            let mut random = Random::new(1, case);
+            let size = Size::pick(&mut random);
+            let mut bytes = well_formed(&mut random, size);
+            let older = without_windows(&bytes, Rules::Windowless);
+            assert!(Picture::of_any_form(&older).is_some() && Picture::of(&older).is_none());
+            let table = Table::decode(&bytes).expect("well formed");
+            (1..=table.used).for_each(|row| drop(put_window(&mut random, &table, &mut bytes, row, 0)));
+            assert!(with_empty_windows(&older) == bytes && older.len() < bytes.len());
         }
     }
 

@@ -6,13 +6,19 @@ use crate::guard::Edge;
 use crate::ledger::Ledger;
 use crate::random::Random;
 use crate::relay::{Relay, Slip};
-use crate::report::{choice_told, Ground, Step};
+use crate::report::{choice_told, Added, Ground, Sent, Step};
 use crate::tables::{self, Picture};
 use crate::wrapper;
-use reference::{rows, Engine, Grid, Laid, Layout, Quorum, Rules, Shape, Table, HEADER, TALL};
+use reference::window::WINDOW;
+use reference::{rows, Engine, Grid, Laid, Layout, Quorum, Row, Rules, Shape, Table, HEADER, TALL};
 
-/// Longer tables have no twin, and are not looked at through the wrapper: both take their time.
+/// Tables that are longer without their windows have no twin, and are not looked at through the wrapper: both take their time.
 const LONGEST: usize = 6_000;
+
+fn is_long(table: &[u8]) -> bool {
+    let windows = table.get(1).map_or(0, |&capacity| usize::from(capacity) * WINDOW);
+    table.len() > LONGEST + windows
+}
 
 /// A table and the calls made on it.
 #[derive(Clone, Debug)]
@@ -86,9 +92,12 @@ impl<'a> Trial<'a> {
         if self.ledger.is_open() && self.relay.is_none() {
             self.relay = Some(Relay::open(&before, self.slip)?);
         }
+        let founded = self.ledger.is_open();
         let answer = self.archive.call(&mut self.table, call)?;
         self.refer(self.reference, call, &answer, &before)?;
-        let published = self.ask_published(call, &answer, &before, ground)?;
+        let sent = send_frame(call, &answer, judged.as_ref(), &before, &self.table, founded)?;
+        let added = added(call, &answer, judged.as_ref(), &before, &self.table);
+        let published = self.ask_published(call, &answer, &before, ground, sent)?;
         frame(call, &answer, &before, &self.table)?;
         called_frame(call, &answer, judged.as_ref())?;
         let chosen = choice_frame(call, &answer, judged.as_ref())?;
@@ -99,8 +108,9 @@ impl<'a> Trial<'a> {
             None => (None, None),
         };
         self.ledger.hear(call, &answer)?;
-        if self.ledger.is_open() && Table::decode(&self.table).is_none() {
-            return Err("a founded history leaves a malformed table".into());
+        if self.ledger.is_open() && (self.table != before || !founded) {
+            let table = Picture::of(&self.table).ok_or("a founded history leaves a malformed table")?;
+            one_state_a_version(&table, &self.table)?;
         }
         let relayed = self.relay.is_some();
         if let Some(relay) = &mut self.relay {
@@ -114,14 +124,28 @@ impl<'a> Trial<'a> {
         };
         let stayed = judged.as_ref().and_then(|table| stayed(call, called?, table));
         let result = answer.result;
-        Ok(Step { result, ground, twin_of, published, decided, lent, called, stayed, chosen, relayed, sends })
+        Ok(Step {
+            result,
+            ground,
+            twin_of,
+            published,
+            decided,
+            lent,
+            called,
+            stayed,
+            chosen,
+            relayed,
+            sends,
+            sent,
+            added,
+        })
     }
 
     /// Looks through the wrapper at the table, if it is the first one or a call altered it: at every small table, and at one in
     /// eight of the others, for it asks of every two rows. Gives how many sends would be done.
     fn look(&mut self, before: &[u8]) -> Result<Option<usize>, String> {
         const SMALL: usize = 8;
-        if self.tables > 0 && self.table == before || self.table.len() > LONGEST {
+        if self.tables > 0 && self.table == before || is_long(&self.table) {
             return Ok(None);
         }
         self.tables += 1;
@@ -139,23 +163,36 @@ impl<'a> Trial<'a> {
         compare(answer, &self.table, &expected, &expected_table)
     }
 
-    /// A table whose rows all have a list in the published grid gives what the scope's rules alone make of it, unless a
-    /// check lays a list of five; and so does one that is malformed: they ask for more. Says whether they were asked.
+    /// A table whose rows all have a list in the published grid gives, without its windows, what the scope's rules alone make
+    /// of it, unless a check lays a list of five. Where no founding leads, a send by window leaves other contents. Says whether
+    /// they were asked.
     fn ask_published(
         &self,
         call: &Call,
         answer: &Answer,
         before: &[u8],
         ground: Ground,
+        sent: Option<Sent>,
     ) -> Result<bool, String> {
-        let of_the_scope =
-            call.answering().is_some() && matches!(ground, Ground::Malformed | Ground::Published);
+        let of_the_scope = call.answering().is_some() && ground == Ground::Published;
         let by_five = matches!(call, Call::Check { answering, .. } if answering.count_ones() == 5);
         if !of_the_scope || by_five && self.table != before {
             return Ok(false);
         }
         let engine = Engine { rules: Rules::Published, ..self.reference };
-        let compared = self.refer(engine, call, answer, before);
+        let mut expected_table = tables::without_windows(before, engine.rules);
+        let expected = call.refer(engine, &mut expected_table);
+        let after = match Table::decode(&self.table) {
+            Some(_) => tables::without_windows(&self.table, engine.rules),
+            // A check where no founding leads may leave a malformed table; then only the answers are compared.
+            None => expected_table.clone(),
+        };
+        if let (Call::Send { to, .. }, Some(Sent { like_whole: false, .. })) = (call, sent) {
+            let table = Table::decode_by(engine.rules, &expected_table).ok_or("a send left no table")?;
+            let contents = table.contents(&after, *to as usize);
+            table.contents_mut(&mut expected_table, *to as usize).copy_from_slice(contents);
+        }
+        let compared = compare(answer, &after, &expected, &expected_table);
         compared.map(|()| true).map_err(|what| format!("by the scope's rules alone: {what}"))
     }
 
@@ -171,7 +208,7 @@ impl<'a> Trial<'a> {
     ) -> Result<Option<usize>, String> {
         let Some(answering) = call.seen() else { return Ok(None) };
         let none_differs = table.all_used() & !answering == 0;
-        if before.len() > LONGEST || none_differs {
+        if is_long(before) || none_differs {
             return Ok(None);
         }
         let mut random = Random::new(answering, answer.result ^ before.len() as u64);
@@ -190,10 +227,11 @@ impl<'a> Trial<'a> {
                 expected[place.clone()].copy_from_slice(&self.table[place]);
             }
         }
-        match twin.iter().zip(&expected).position(|(one, other)| one != other) {
-            Some(at) => Err(format!("rows that did not answer alter byte {at}")),
-            None => Ok(Some(table.used)),
+        if twin == expected {
+            return Ok(Some(table.used));
         }
+        let at = twin.iter().zip(&expected).position(|(one, other)| one != other);
+        Err(format!("rows that did not answer alter byte {at:?}"))
     }
 }
 
@@ -271,14 +309,74 @@ fn frame(call: &Call, answer: &Answer, before: &[u8], after: &[u8]) -> Result<()
         return joining_frame(name, answer.result, before, after);
     } else if let (Some(answering), true) = (call.answering(), before != after) {
         let stride = stride(before);
-        let row_of = |at: usize| if at < HEADER { 0 } else { (at - HEADER) / stride + 1 };
-        let strays =
-            (0..before.len()).find(|&at| before[at] != after[at] && !rows::has(answering, row_of(at)));
-        if let Some(at) = strays {
-            return Err(format!("byte {at} altered, and its row did not answer"));
+        let [rows_before, rows_after] = [before, after].map(|table| table[HEADER..].chunks(stride));
+        let mut altered =
+            (1..).zip(rows_before.zip(rows_after)).filter(|(_, (before, after))| before != after);
+        if let Some((row, _)) = altered.find(|(row, _)| !rows::has(answering, *row)) {
+            return Err(format!("row {row} altered, and it did not answer"));
+        }
+        if before[..HEADER] != after[..HEADER] {
+            return Err("the header altered".into());
         }
     }
     Ok(())
+}
+
+/// A done send leaves the receiver unmarked with the sender's version and window, and its contents as they were but for the
+/// sender's latest patches, or as the sender's. In a founded history they are the sender's.
+fn send_frame(
+    call: &Call,
+    answer: &Answer,
+    table: Option<&Picture>,
+    before: &[u8],
+    after: &[u8],
+    founded: bool,
+) -> Result<Option<Sent>, String> {
+    let (Call::Send { from, to, .. }, 0) = (call, answer.result >> 32) else { return Ok(None) };
+    let table = table.ok_or("a send on a malformed table was done")?;
+    let (from, to) = (*from as usize, *to as usize);
+    let (sender, receiver) = (*table.row(from), *table.row(to));
+    let expected =
+        Row { version: sender.version, stale: false, desired: 0, oldest: sender.oldest, ..receiver };
+    if Table::row(table, after, to) != expected || table.window(after, to) != table.window(before, from) {
+        return Err(format!("a send leaves row {to} as {:?}", Table::row(table, after, to)));
+    }
+    let like_whole = table.contents(after, to) == table.contents(before, from);
+    let behind = (sender.version - receiver.version) as usize;
+    let sent = Sent { founded, behind, patches: tables::patches(table, before, from), like_whole };
+    if !like_whole && (founded || !sent.by_window()) {
+        return Err(format!("other contents than of a whole send: {sent:?}"));
+    }
+    Ok(Some(sent))
+}
+
+/// What a done write added to the window of the first row that took it.
+fn added(
+    call: &Call,
+    answer: &Answer,
+    table: Option<&Picture>,
+    before: &[u8],
+    after: &[u8],
+) -> Option<Added> {
+    let (Call::Write { patch, .. }, 0) = (call, answer.result >> 32) else { return None };
+    let table = table?;
+    let took = |&row: &usize| Table::row(table, after, row).version != table.row(row).version;
+    let row = (1..=table.used).find(took)?;
+    Some(Added { length: patch.len(), patches: tables::patches(table, before, row) })
+}
+
+/// In a founded history rows of one version have the same contents and the same window.
+fn one_state_a_version(table: &Picture, bytes: &[u8]) -> Result<(), String> {
+    let mut rows: Vec<usize> = (1..=table.used).collect();
+    rows.sort_by_key(|&row| table.row(row).version);
+    let state = |row: usize| (table.row(row).oldest, &bytes[table.contents_at(row)..table.row_at(row + 1)]);
+    let differ = rows.windows(2).find(|pair| {
+        table.row(pair[0]).version == table.row(pair[1]).version && state(pair[0]) != state(pair[1])
+    });
+    match differ {
+        Some(pair) => Err(format!("rows {pair:?} have one version, and other contents or windows")),
+        None => Ok(()),
+    }
 }
 
 /// The own choice of the coordinator of a read or write, which answers, and the grid of its own list.

@@ -93,10 +93,10 @@ mod tests {
     #[test]
     fn damaged_tables_are_not_taken() {
         for case in 0..2_000 {
-            let (_, bytes) = damage::damaged(&mut Random::new(11, case));
+            let (_, _, bytes) = damage::damaged(&mut Random::new(11, case));
             assert_eq!(look(Engine::default(), &bytes, None), Ok(None), "case {case}");
             let error = Table::from_bytes(bytes).expect_err("damaged").to_string();
-            assert!(error.contains("no table") || error.contains("of form 1"), "case {case}: {error}");
+            assert!(error.contains("no table") || error.contains("of form "), "case {case}: {error}");
         }
     }
 }
