@@ -111,10 +111,10 @@ pub fn page(timings: &[Timing], load: &str, runs: usize, processes: usize) -> St
          - tall: founded tall, all others wide; all machines answer.\n\n\
          Row 1 coordinates, if nothing else is said. Before each send the receiver is made stale again, which is in the times of both. A send of the\n\
          whole file has a sender whose window does not reach back to the receiver's version; a refused send has a receiver that is not stale. A write of\n\
-         16 bytes fills the windows of the rows that it writes within a run's first 16 calls, wherever it begins. A check with a new list leaves out the last row and takes it in again by turns. A joining comes in the middle\n\
-         of the chain, and is undone before the next one, which is in the times of both. A chart is of as many members as there are machines, in the\n\
-         published grid, and looks at no table; the reference puts its sets together from columns. A choice is that of row 1, whose own list is of all\n\
-         machines.\n\n\
+         16 bytes fills the windows of the rows that it writes within a run's first 16 calls, wherever it begins. A check with a new list leaves out the\n\
+         last row and takes it in again by turns. A joining comes in the middle of the chain, and is undone before the next one, which is in the times\n\
+         of both. A chart is of as many members as there are machines, in the published grid, and looks at no table; the reference puts its sets together\n\
+         from columns. A choice is that of row 1, whose own list is of all machines.\n\n\
          {}\n\
          ## What a send carries\n\n\
          Where the sender's window reaches back to the receiver's version, a send looks at nothing of the sender's row but its head and its window, and\n\
