@@ -92,10 +92,18 @@ pub enum Blunder {
     LongestEmpties,
     /// A patch takes the oldest record although another one is free.
     RecordPassedOver,
+    /// A move looks at forms and length before it looks at lists.
+    FormsFirst,
+    /// A move to an older form keeps the index of the oldest record.
+    OldestCarried,
+    /// A move to the newest form leaves what lay in the buffer where the windows are.
+    WindowsLeft,
+    /// A move to form 1 looks at lists only if it comes from the newest form.
+    NewestListsOnly,
 }
 
 impl Blunder {
-    pub const ALL: [Blunder; 43] = [
+    pub const ALL: [Blunder; 47] = [
         Blunder::OutsidersCount,
         Blunder::ShortColumnWhole,
         Blunder::DesiredIgnored,
@@ -139,6 +147,10 @@ impl Blunder {
         Blunder::WindowKept,
         Blunder::LongestEmpties,
         Blunder::RecordPassedOver,
+        Blunder::FormsFirst,
+        Blunder::OldestCarried,
+        Blunder::WindowsLeft,
+        Blunder::NewestListsOnly,
     ];
 
     /// Its name on a command line.
@@ -187,6 +199,10 @@ impl Blunder {
             Blunder::WindowKept => "window-kept",
             Blunder::LongestEmpties => "longest-empties",
             Blunder::RecordPassedOver => "record-passed-over",
+            Blunder::FormsFirst => "forms-first",
+            Blunder::OldestCarried => "oldest-carried",
+            Blunder::WindowsLeft => "windows-left",
+            Blunder::NewestListsOnly => "newest-lists-only",
         }
     }
 

@@ -4,7 +4,8 @@ use crate::blunder::{self, Blunder};
 use crate::chart::{Chart, CHART_PLACES, LONGEST_CHARTED};
 use crate::rows::{self, Order};
 use crate::window;
-use crate::{Grid, Laid, Layout, Quorum, Row, Rules, Shape, Table, LIMIT, MAX_FILE, MAX_ROWS};
+use crate::{Grid, Laid, Layout, Quorum, Row, Rules, Shape, Table};
+use crate::{HEADER, LIMIT, MAX_FILE, MAX_ROWS, OLDEST, ROW_HEADER};
 use std::iter;
 
 /// Answers the calls on a table's bytes; with a blunder, wrongly.
@@ -104,6 +105,11 @@ impl Engine {
 
     pub fn choice(&self, bytes: &[u8], coordinator: u64, kind: u64, set: &mut [u8]) -> u64 {
         result(self.try_choice(bytes, coordinator, kind, set))
+    }
+
+    /// The call move: carries a table over to another form, in a second buffer.
+    pub fn carry(&self, bytes: &[u8], form: u64, to: &mut [u8]) -> u64 {
+        result(self.try_carry(bytes, form, to))
     }
 
     /// The sends that would be done on a well-formed table if all rows answered, by receiver and then by sender: for every two
@@ -352,6 +358,31 @@ impl Engine {
         Ok(chosen.count_ones())
     }
 
+    fn try_carry(&self, bytes: &[u8], form: u64, to: &mut [u8]) -> Answer {
+        let rules = bytes.first().and_then(|&form| Rules::of_form(form)).ok_or(1_u32)?;
+        let table = Engine { rules, ..*self }.judge(bytes)?;
+        if self.makes(Blunder::FormsFirst) {
+            carried_form(&table, form, to)?;
+        }
+        let asked = !self.makes(Blunder::NewestListsOnly) || rules == Rules::Newest;
+        ask(15, form != 1 || !asked || table.is_published(bytes))?;
+        let rules = carried_form(&table, form, to)?;
+        to[..HEADER].copy_from_slice(&bytes[..HEADER]);
+        to[0] = rules.form();
+        let length = ROW_HEADER + table.file_len;
+        for (row, carried) in (1..).zip(to[HEADER..].chunks_exact_mut(rules.row_length(table.file_len))) {
+            let (kept, window) = carried.split_at_mut(length);
+            kept.copy_from_slice(&bytes[table.row_at(row)..][..length]);
+            if !self.makes(Blunder::OldestCarried) {
+                kept[OLDEST] = 0;
+            }
+            if !self.makes(Blunder::WindowsLeft) {
+                window.fill(0);
+            }
+        }
+        Ok(table.used as u32)
+    }
+
     /// Question 1.
     fn judge(&self, bytes: &[u8]) -> Result<Table, u32> {
         let judged = match self.blunder {
@@ -479,6 +510,18 @@ fn found(rules: Rules, bytes: &mut [u8], capacity: u64, file_len: u64, names: &[
         table.write_row(bytes, index, &Row::new(name, next, list));
     }
     Ok(used as u32)
+}
+
+/// The rules that a table is carried over to, if there is such a move and the buffer has the length for it.
+fn carried_form(table: &Table, form: u64, to: &[u8]) -> Result<Rules, u32> {
+    let rules = match (table.rules, form) {
+        (Rules::Published | Rules::Windowless, 3) => Rules::Newest,
+        (Rules::Newest, 1) => Rules::Published,
+        (Rules::Newest, 2) => Rules::Windowless,
+        _ => return Err(12),
+    };
+    ask(12, to.len() == rules.table_length(table.capacity, table.file_len))?;
+    Ok(rules)
 }
 
 fn mark(row: &mut Row, desired: u32) {
@@ -777,5 +820,76 @@ mod tests {
         assert_eq!(Engine::default().check(&mut table, 1, 3) >> 32, 1);
         assert_eq!(engine.check(&mut table, 1, 3), 0);
         assert_eq!(table[16 + 24..16 + 36], [0, 0, 0, 0, 0, 0, 0, 0, 7, 7, 7, 7]);
+    }
+
+    /// The table in another form; the buffer holds anything before.
+    fn carried(table: &[u8], form: u64, length: usize) -> (u64, Vec<u8>) {
+        let mut to = vec![0xee; length];
+        (Engine::default().carry(table, form, &mut to), to)
+    }
+
+    /// Windows are left behind on the way down, and empty on the way up; all else stays.
+    #[test]
+    fn up_and_down_and_down_and_up() {
+        let newest = behind(3, 4, None);
+        let (refusal, form_2) = carried(&newest, 2, 16 + 4 * 72);
+        assert_eq!(
+            (refusal, form_2[0], Table::decode_by(Rules::Windowless, &form_2).is_some()),
+            (4, 2, true)
+        );
+        let (refusal, form_1) = carried(&newest, 1, 16 + 4 * 72);
+        assert_eq!((refusal, form_1[0], &form_1[1..] == &form_2[1..]), (4, 1, true));
+        let judged = Table::decode(&newest).expect("well formed");
+        let mut emptied = newest.clone();
+        for row in 1..=4 {
+            judged.window_mut(&mut emptied, row).fill(0);
+            emptied[judged.row_at(row) + OLDEST] = 0;
+            let older = &form_2[16 + 72 * (row - 1)..][..72];
+            assert_eq!(older, &emptied[judged.row_at(row)..][..72]);
+        }
+        for older in [form_1, form_2] {
+            assert_eq!(carried(&older, 3, newest.len()), (4, emptied.clone()), "down and up");
+            let (_, up) = carried(&older, 3, newest.len());
+            assert_eq!(carried(&up, older[0].into(), older.len()), (4, older), "up and down");
+        }
+    }
+
+    #[test]
+    fn questions_of_a_move_in_order() {
+        let plain = founded(5, &[10, 20, 30, 40], 0);
+        let mut joined = plain.clone();
+        assert_eq!(Engine::default().join(&mut joined, 15), 5);
+        let (five, tall) = (founded(5, &[1, 2, 3, 4, 5], 0), founded(5, &[10, 20], 1));
+        let [short, right, long] = [-1, 0, 1].map(|more| (16 + 5 * 36_usize).wrapping_add_signed(more));
+        let untouched = |refusal: u64, length| (refusal << 32, vec![0xee; length]);
+        for (table, refusal) in [(&plain, 0), (&joined, 15), (&five, 15), (&tall, 15)] {
+            for length in [0, short, right, long] {
+                for form in [0, 3, 4, 255, 257, 258, (1 << 32) + 1, (1 << 32) + 3] {
+                    assert_eq!(carried(table, form, length), untouched(12, length));
+                }
+                for form in [1, 2] {
+                    match if form == 1 { refusal } else { 0 } {
+                        0 if length == right => assert_eq!(carried(table, form, length).0 >> 32, 0),
+                        0 => assert_eq!(carried(table, form, length), untouched(12, length)),
+                        refusal => assert_eq!(carried(table, form, length), untouched(refusal, length)),
+                    }
+                }
+            }
+            // From form 2 there is no way to form 1, but 15 comes first.
+            let (_, older) = carried(table, 2, right);
+            assert_eq!(carried(&older, 1, right), untouched(if refusal == 0 { 12 } else { 15 }, right));
+            assert_eq!(carried(&older, 2, right), untouched(12, right));
+            // By its own form, form 1 by the scope alone.
+            let form_1 = [&[1], &older[1..]].concat();
+            let (up, _) = carried(&form_1, 3, table.len());
+            assert_eq!(up >> 32, if refusal == 0 { 0 } else { 1 });
+            for form in [0, 3, 4, 255] {
+                assert_eq!(
+                    carried(&[&[form], &older[1..]].concat(), 3, table.len()),
+                    untouched(1, table.len())
+                );
+            }
+        }
+        assert_eq!(carried(&[], 3, 7), untouched(1, 7));
     }
 }

@@ -1,7 +1,7 @@
 //! A second implementation of the grid table's calls, written from the papers alone: plain and obvious,
 //! table bytes in, table bytes out. It shares no code with the library that it is compared with.
 //!
-//! [`Engine`] answers the calls, by the newest [`Rules`] or by the scope's alone; [`Book`] is the plain book, and a
+//! [`Engine`] answers the calls, by the newest [`Rules`] or by those of an older form, of which form 1 has the scope's alone; [`Book`] is the plain book, and a
 //! [`Blunder`] turns the engine into a wrong one.
 
 mod blunder;
@@ -18,4 +18,4 @@ pub use book::Book;
 pub use chart::{CHART_PLACES, LONGEST_CHARTED};
 pub use engine::Engine;
 pub use grid::{Grid, Laid, Layout, Quorum, Shape, TALL};
-pub use table::{Row, Rules, Table, FORM, HEADER, LIMIT, MAX_FILE, MAX_ROWS, ROW_HEADER};
+pub use table::{Row, Rules, Table, FORM, HEADER, LIMIT, MAX_FILE, MAX_ROWS, OLDEST, ROW_HEADER};

@@ -10,6 +10,8 @@ pub const MAX_ROWS: usize = 64;
 pub const MAX_FILE: usize = 4096;
 /// The newest form of a table, in its first byte.
 pub const FORM: u8 = 3;
+/// Where a row keeps the oldest record of its window.
+pub const OLDEST: usize = 25;
 /// The highest version, desired version and epoch number.
 pub const LIMIT: u32 = 1_000_000;
 
@@ -112,7 +114,7 @@ impl Row {
             desired: number(8),
             epoch: number(12),
             list: Laid { members: u64::from(number(16)) | u64::from(number(20)) << 32, mark: bytes[24] },
-            oldest: bytes[25],
+            oldest: bytes[OLDEST],
         }
     }
 
@@ -204,6 +206,11 @@ impl Table {
 
     pub fn all_used(&self) -> u64 {
         rows::first(self.used)
+    }
+
+    /// Has every used row a list, and in the published grid?
+    pub fn is_published(&self, bytes: &[u8]) -> bool {
+        (1..=self.used).map(|row| self.row(bytes, row).list).all(|list| !list.is_empty() && list.mark == 0)
     }
 
     /// Where a row begins.

@@ -1,6 +1,6 @@
 //! No call takes memory: the benchmark's yardstick must not waste time.
 
-use reference::{rows, Engine, Table};
+use reference::{rows, Engine, Rules, Table};
 use std::alloc::{GlobalAlloc, Layout, System};
 use std::cell::Cell;
 
@@ -45,6 +45,8 @@ fn every_call(choice: u64) {
     let mut table = vec![0; Table::length(64, 100)];
     let (all, but_one) = (rows::first(64), rows::first(63));
     let (mut buffer, mut list, mut called) = ([0; 100], [0; 128], [0]);
+    let mut older = vec![0; Rules::Windowless.table_length(64, 100)];
+    let mut newest = table.clone();
     let before = TAKEN.get();
     let results = [
         engine.found(&mut table, 64, 100, &names, choice),
@@ -70,9 +72,13 @@ fn every_call(choice: u64) {
         engine.chart(10, 0, &mut list),
         engine.choice(&table, 64, choice, &mut list[..8]),
         engine.choice(&table, 64, 2, &mut list[..8]),
+        engine.carry(&table, 2, &mut older),
+        engine.carry(&older, 3, &mut newest),
+        engine.carry(&older, 3, &mut []),
+        engine.carry(&[], 3, &mut []),
     ];
     assert_eq!(TAKEN.get(), before);
-    let refused = [(2, 13), (3, 14), (17, 6), (19, 17), (21, 4)];
+    let refused = [(2, 13), (3, 14), (17, 6), (19, 17), (21, 4), (24, 12), (25, 1)];
     for (call, result) in results.into_iter().enumerate() {
         let number = refused.iter().find(|(refused, _)| *refused == call).map_or(0, |(_, number)| *number);
         assert_eq!(result >> 32, number, "call {call}");
