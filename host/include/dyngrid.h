@@ -11,7 +11,7 @@
  *   A result is the refusal number (0: done) times 2^32, plus the value (see grid_refusal, grid_value).
  *   A refused call has value 0 and alters no byte of the table, of a buffer or of anything else, but for the byte in which a
  *   read and a write say how many machines were called (see grid_read).
- *   A done call, founding and joining aside, alters only rows that answered.
+ *   A done call, founding and joining aside, alters only rows that answered; a move leaves its table and fills the second buffer.
  *
  * Tables of older forms
  *   The first byte of a table is its form: 3 (GRID_FORM). A table of form 1 or 2, as earlier versions left it, is refused by 1 in
@@ -23,13 +23,13 @@
  *   machine on lay it anew: one by four of the five, and one by all five (see grid_check).
  *
  * Calls at the same time
- *   Reads and choices of one table may run at the same time, also from several threads, each with its own lists: they alter
- *   nothing of the table, and the library keeps no state of its own. Every other call has the table to itself.
+ *   Reads, choices and moves of one table may run at the same time, also from several threads, each with its own lists: they
+ *   alter nothing of the table, and the library keeps no state of its own. Every other call has the table to itself.
  *
  * What a host must not do
- *   - pass slices of one call that overlap: a table and its buffer, patch, names or lent list;
- *   - let two calls run on one table at once, unless both are reads or choices, or touch a slice of a call while it runs (other
- *     reads and choices of its table aside);
+ *   - pass slices of one call that overlap: a table and its buffer, patch, names or lent list, or the two tables of a move;
+ *   - let two calls run on one table at once, unless both are reads, choices or moves, or touch a slice of a call while it runs
+ *     (other reads, choices and moves of its table aside);
  *   - pass a length above 0 with a null pointer, or above what the pointer leads to. Null with length 0 is an empty list.
  *   These three the library cannot see; everything else it refuses by number.
  */

@@ -22,6 +22,7 @@ pub trait Calls {
     fn join(&self, table: &mut [u8], name: u16) -> u64;
     fn chart(&self, length: u64, mark: u64, list: &mut [u8]) -> u64;
     fn choice(&self, table: &[u8], coordinator: u64, kind: u64, set: &mut [u8]) -> u64;
+    fn carry(&self, table: &[u8], form: u64, to: &mut [u8]) -> u64;
 }
 
 pub struct Library;
@@ -92,6 +93,10 @@ impl Calls for Library {
         let (lent, length) = (set.as_mut_ptr(), set.len());
         unsafe { raw::grid_choice(table.as_ptr(), table.len(), coordinator, kind, lent, length) }
     }
+
+    fn carry(&self, table: &[u8], form: u64, to: &mut [u8]) -> u64 {
+        unsafe { raw::grid_move(table.as_ptr(), table.len(), form, to.as_mut_ptr(), to.len()) }
+    }
 }
 
 impl Calls for Engine {
@@ -127,5 +132,9 @@ impl Calls for Engine {
 
     fn choice(&self, table: &[u8], coordinator: u64, kind: u64, set: &mut [u8]) -> u64 {
         Engine::choice(self, table, coordinator, kind, set)
+    }
+
+    fn carry(&self, table: &[u8], form: u64, to: &mut [u8]) -> u64 {
+        Engine::carry(self, table, form, to)
     }
 }

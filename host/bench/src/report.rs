@@ -114,7 +114,7 @@ pub fn page(timings: &[Timing], load: &str, runs: usize, processes: usize) -> St
          16 bytes fills the windows of the rows that it writes within a run's first 16 calls, wherever it begins. A check with a new list leaves out the\n\
          last row and takes it in again by turns. A joining comes in the middle of the chain, and is undone before the next one, which is in the times\n\
          of both. A chart is of as many members as there are machines, in the published grid, and looks at no table; the reference puts its sets together\n\
-         from columns. A choice is that of row 1, whose own list is of all machines.\n\n\
+         from columns. A choice is that of row 1, whose own list is of all machines. A move goes from form 2 up to form 3, or down.\n\n\
          {}\n\
          ## What a send carries\n\n\
          Where the sender's window reaches back to the receiver's version, a send looks at nothing of the sender's row but its head and its window, and\n\

@@ -66,6 +66,7 @@ const FULL_TASKS: &[Task] = &[
     Task::CheckSame,
     Task::CheckNew,
     Task::Choice(raw::WRITE),
+    Task::MoveDown,
 ];
 const READ_AND_WRITE: &[Task] = &[Task::Read(16), Task::Write(16)];
 const READ_WRITE_AND_CHECK: &[Task] = &[Task::Read(16), Task::Write(16), Task::CheckSame];

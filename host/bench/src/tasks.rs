@@ -2,7 +2,7 @@
 
 use crate::engines::{Asked, Calls};
 use crate::states::{self, State};
-use dyngrid::{raw, Rows, Table};
+use dyngrid::{raw, OlderForm, Rows, Table};
 use reference::{rows, CHART_PLACES};
 use std::fmt;
 use std::hint::black_box;
@@ -31,9 +31,16 @@ pub enum Task {
     Chart,
     /// Whom to call, for a read or a write.
     Choice(u64),
+    /// From form 2 up to the newest, and from that down to form 2.
+    MoveUp,
+    MoveDown,
 }
 
-pub const EVERY_TASK: [Task; 11] = [
+/// The forms that tables are moved between.
+const OLDER: u64 = 2;
+const NEWEST: u64 = 3;
+
+pub const EVERY_TASK: [Task; 13] = [
     Task::Found,
     Task::Read(16),
     Task::Read(WHOLE),
@@ -45,6 +52,8 @@ pub const EVERY_TASK: [Task; 11] = [
     Task::CheckNew,
     Task::Choice(raw::READ),
     Task::Choice(raw::WRITE),
+    Task::MoveUp,
+    Task::MoveDown,
 ];
 
 impl fmt::Display for Task {
@@ -65,6 +74,8 @@ impl fmt::Display for Task {
             Task::Chart => f.write_str("chart"),
             Task::Choice(raw::READ) => f.write_str("choice, for a read"),
             Task::Choice(_) => f.write_str("choice, for a write"),
+            Task::MoveUp => f.write_str("move, up"),
+            Task::MoveDown => f.write_str("move, down"),
         }
     }
 }
@@ -89,8 +100,13 @@ impl Task {
             Task::Read(length) | Task::Write(length) => vec![7; length.min(size.file_len)],
             Task::Chart => vec![7; 2 * CHART_PLACES],
             Task::Choice(_) => vec![7; 8],
+            Task::MoveUp => vec![7; table.len()],
+            Task::MoveDown => carried_down(&table),
             _ => Vec::new(),
         };
+        if let Task::MoveUp = self {
+            table = carried_down(&table);
+        }
         let two = size.row_at(2);
         let (middle, next) = (size.used / 2, size.used + 1);
         let name = u16::from_le_bytes(states::name(middle)) + 1;
@@ -131,6 +147,8 @@ impl Task {
                 Task::Choice(kind) => {
                     engine.choice(black_box(&table), coordinator, kind, black_box(&mut bytes))
                 }
+                Task::MoveUp => engine.carry(black_box(&table), NEWEST, black_box(&mut bytes)),
+                Task::MoveDown => engine.carry(black_box(&table), OLDER, black_box(&mut bytes)),
             };
             assert!(black_box(result) >> 32 == self.refusal(), "{}: {self} has another refusal", state.title);
         }
@@ -187,6 +205,12 @@ pub struct Left {
     bytes: Vec<u8>,
     called: [u8; 1],
     result: u64,
+}
+
+/// The table in the older form.
+fn carried_down(table: &[u8]) -> Vec<u8> {
+    let table = Table::from_bytes(table.to_vec()).expect("well formed");
+    table.carry_down(OlderForm::Two).expect("form 2 holds every table")
 }
 
 /// Takes the row that begins at `joined` out of the chain, if it is in; it comes behind the row that begins at `before`.

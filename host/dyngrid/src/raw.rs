@@ -1,7 +1,7 @@
 //! The functions of the archive as `dyngrid.h` declares them.
 //!
 //! A list is a pointer and then its length in bytes. A result is the refusal number times 2^32, plus the value.
-//! The slices of one call must not overlap. Reads and choices of one table may run at the same time, each with its own
+//! The slices of one call must not overlap. Reads, choices and moves of one table may run at the same time, each with its own
 //! buffer or list; while any other call runs on a table, nothing else may touch it.
 //!
 //! Who calls these functions calls [`assert_interface`] before the first of them. A [`Table`](crate::Table) does it by itself,

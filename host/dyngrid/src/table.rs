@@ -26,11 +26,12 @@ pub enum Shape {
 
 /// A grid table that owns its bytes.
 ///
-/// It is of the newest form, 3. Its length always agrees with its header, and no buffer, patch or list of names can overlap it. Rows have the
-/// numbers 1 to [`Table::used`].
+/// It is of the newest form, 3. Its length always agrees with its header, and no buffer, patch or list of names can overlap it.
+/// Rows have the numbers 1 to [`Table::used`].
 ///
-/// Reads and choices of one table may run at the same time, also from several threads: they take the table by shared reference
-/// and alter nothing of it, and the library keeps no state of its own. Every other call has the table to itself.
+/// Reads, choices and [moves](Table::carry_down) of one table may run at the same time, also from several threads: they take the
+/// table by shared reference and alter nothing of it, and the library keeps no state of its own. Every other call has the table
+/// to itself.
 #[derive(Clone, PartialEq, Eq)]
 pub struct Table {
     pub(crate) bytes: Vec<u8>,
@@ -263,8 +264,8 @@ impl Table {
 
     /// Brings the stale row `to` up to the state of the row `from`; gives the version it then has.
     ///
-    /// Where the [window](Table::window) of `from` reaches back to the version of `to`, only the missing patches are laid, else the whole
-    /// file is copied; in a table that a founding led to, the copy comes out the same. The window of `from` is taken over.
+    /// Where the [window](Table::window) of `from` reaches back to the version of `to`, only the missing patches are laid, else
+    /// the whole file is copied; in a table that a founding led to, the copy comes out the same. The window of `from` is taken over.
     pub fn send(&mut self, from: usize, to: usize, answering: Rows) -> Result<u32, Refusal> {
         let (from, to) = (from as u64, to as u64);
         // SAFETY: `&mut self` is live for the call, and its only slice.
@@ -319,9 +320,9 @@ impl Table {
     /// Makes the rows that answered the list in force; gives the epoch number in force.
     ///
     /// The new list has the shape of the table. A list of five, founded or laid by a check, lies in 3 rows and 2 columns: any
-    /// one of its machines may be away. A check by the list in force changes nothing. So five in a table that comes from form 1 stay in the published grid, of
-    /// which nobody can read while the third machine in name order is away, until two checks with that machine on lay them
-    /// anew: one by four of the five, and one by all five.
+    /// one of its machines may be away. A check by the list in force changes nothing. So five in a table that comes from form 1
+    /// stay in the published grid, of which nobody can read while the third machine in name order is away, until two checks with
+    /// that machine on lay them anew: one by four of the five, and one by all five.
     pub fn check(&mut self, coordinator: usize, answering: Rows) -> Result<u32, Refusal> {
         let coordinator = coordinator as u64;
         // SAFETY: `&mut self` is live for the call, and its only slice.

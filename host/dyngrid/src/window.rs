@@ -34,8 +34,8 @@ impl RowView {
 }
 
 impl Table {
-    /// The window of a row: its latest patches, up to 16, older first. A patch of more than 32 bytes empties it. None if the row is
-    /// not in use.
+    /// The window of a row: its latest patches, up to 16, older first. A patch of more than 32 bytes empties it. A row that is not
+    /// in use has none.
     ///
     /// ```
     /// use dyngrid::{Patch, Rows, Shape, Table};
