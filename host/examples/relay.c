@@ -103,6 +103,32 @@ static uint64_t read_score(unsigned coordinator, uint64_t up, uint8_t *score)
     return result;
 }
 
+/* The version of a machine's copy. */
+static uint32_t version_of(unsigned row)
+{
+    const uint8_t *bytes = machines[row - 1] + 4;
+    return bytes[0] | (uint32_t)bytes[1] << 8 | (uint32_t)bytes[2] << 16 | (uint32_t)bytes[3] << 24;
+}
+
+/* The receiver makes the send itself. The sender gives its row without the file, unless its window does not reach back. */
+static uint64_t send_row(unsigned from, unsigned to)
+{
+    uint8_t table[TABLE_BYTES], before[TABLE_BYTES];
+    const uint64_t ends = grid_row(from) | grid_row(to);
+    const int by_window = version_of(from) - version_of(to) <= grid_patches(machines[from - 1], FILE_BYTES);
+    assemble(before, ends);
+    if (by_window)
+        memset(before + row_at(from) + GRID_ROW_HEADER, 0, FILE_BYTES);
+    memcpy(table, before, sizeof table);
+    const uint64_t result = grid_send(table, sizeof table, from, to, ends);
+    uint64_t changed;
+    const unsigned bytes = ship(table, before, &changed);
+    printf("send %s from row %u to row %u: refusal %u, version %u, rows 0x%x change in %u bytes\n",
+           by_window ? "of patches" : "of the file", from, to, (unsigned)grid_refusal(result), (unsigned)grid_value(result),
+           (unsigned)changed, bytes);
+    return result;
+}
+
 int main(void)
 {
     static uint8_t founded[TABLE_BYTES];
@@ -134,5 +160,10 @@ int main(void)
     if (read_score(1, all, score) != 2 || memcmp(score, "0-1", 3) != 0)
         return 1;
     /* Nobody but rows 3 and 4 is up: they are a quorum for a read, but neither has the newest version. */
-    return grid_refusal(read_score(3, grid_row(3) | grid_row(4), score)) != GRID_NOT_CURRENT;
+    if (grid_refusal(read_score(3, grid_row(3) | grid_row(4), score)) != GRID_NOT_CURRENT)
+        return 1;
+    /* Row 4 lacks two patches, which row 2 has in its window. With them they are a quorum that is current. */
+    if (send_row(2, 4) != 2 || read_score(3, grid_row(3) | grid_row(4), score) != 2)
+        return 1;
+    return memcmp(score, "0-1", 3) != 0;
 }

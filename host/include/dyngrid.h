@@ -99,6 +99,9 @@ enum grid_set_bytes { GRID_SET_BYTES = 8 };
 /* Limits of a table. A row is its header, the file's contents, and the records of its window. */
 enum grid_limits { GRID_MAX_ROWS = 64, GRID_MAX_FILE = 4096, GRID_HEADER = 16, GRID_ROW_HEADER = 32, GRID_RECORDS = 576 };
 
+/* The bytes of a record, and the patches that a window has room for. */
+enum grid_window { GRID_RECORD = 36, GRID_MAX_PATCHES = 16 };
+
 /* Limits of a chart: the members of a list, and the bytes that it is put into at least. */
 enum grid_chart_limits { GRID_MAX_CHART = 9, GRID_CHART_BYTES = 128 };
 
@@ -141,6 +144,17 @@ static inline uint64_t grid_row(unsigned row)
     return row >= 1 && row <= GRID_MAX_ROWS ? (uint64_t)1 << (row - 1) : 0;
 }
 
+/* How many patches the window of a row has; `row` points to its first byte, and the file has so many bytes. */
+static inline unsigned grid_patches(const uint8_t *row, size_t file_len)
+{
+    const uint8_t *records = row + GRID_ROW_HEADER + file_len;
+    unsigned patches = 0;
+    /* The records in use come first, and each says in its second byte how long its patch is. */
+    while (patches < GRID_MAX_PATCHES && records[patches * GRID_RECORD + 1] != 0)
+        patches++;
+    return patches;
+}
+
 /* Founds a table: names fill rows 1 upward, the file is all zero. What the table held before is of no account.
    Value: the rows used. Refusals: 11, 12.
 
@@ -170,7 +184,11 @@ uint64_t grid_write(uint8_t *table, size_t table_len, uint64_t coordinator, uint
                     uint64_t offset, const uint8_t *patch, size_t patch_len,
                     uint8_t *called, size_t called_len);
 
-/* Brings the stale row `to` up to the state of the row `from`. Value: the version it then has. Refusals: 1 to 3, 9, 10. */
+/* Brings the stale row `to` up to the state of the row `from`. Value: the version it then has. Refusals: 1 to 3, 9, 10.
+
+   Each row keeps a window on its latest 16 patches of at most 32 bytes; a longer patch empties it. If `to` is no more versions
+   behind `from` than the window of `from` has patches (grid_patches), the missing patches are laid, and nothing is looked at of
+   `from` but its header and its window; else the whole file is copied. `to` takes over the window of `from`. */
 uint64_t grid_send(uint8_t *table, size_t table_len, uint64_t from, uint64_t to, uint64_t answering);
 
 /* Epoch check: makes the answering rows the list in force. Value: the epoch number in force. Refusals: 1 to 3, 6 to 8.

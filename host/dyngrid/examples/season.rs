@@ -32,7 +32,7 @@ fn carry(old: &str, new: &str) -> Result<(), Box<dyn Error>> {
 fn newest(bytes: NotATable) -> Result<Table, Box<dyn Error>> {
     match bytes.older_form() {
         Some(form) => {
-            println!("form {} is carried up to form 3", form as u8);
+            println!("form {} is carried up to form 3", form.number());
             Ok(Table::carry_up(bytes.as_bytes())?)
         }
         None => Err(bytes.into()),

@@ -15,11 +15,16 @@ pub enum OlderForm {
 }
 
 impl OlderForm {
+    /// Its number, the first byte of its tables.
+    pub fn number(self) -> u8 {
+        self as u8
+    }
+
     /// The form of these bytes, if they are a table of an older form. Each form is judged by its own rules.
     pub(crate) fn of(bytes: &[u8]) -> Option<OlderForm> {
         let form = [OlderForm::One, OlderForm::Two]
             .into_iter()
-            .find(|&form| bytes.first().is_some_and(|&byte| byte == form as u8))?;
+            .find(|&form| bytes.first() == Some(&form.number()))?;
         // The size of the second buffer is the last question: no table fits into no byte.
         (carry(bytes, NEWEST, &mut []) == Err(Refusal::BadSize)).then_some(form)
     }
@@ -69,7 +74,7 @@ impl Table {
     /// ```
     pub fn carry_down(&self, form: OlderForm) -> Result<Vec<u8>, Refusal> {
         let mut bytes = vec![0; self.as_bytes().len() - saved(self.capacity())];
-        carry(self.as_bytes(), form as u64, &mut bytes)?;
+        carry(self.as_bytes(), form.number().into(), &mut bytes)?;
         Ok(bytes)
     }
 }

@@ -3,7 +3,8 @@
 //! A [`Table`] holds a row for each machine. The caller says which machines answered ([`Rows`]);
 //! each call is one atomic step over the table, and is done with a value or refused by a [`Refusal`].
 //! Rows have numbers of one type, `usize`, from 1 on. What a row tells is a [`RowView`], and `println!("{table}")` shows them
-//! all. A [`chart()`] needs no table.
+//! all; the latest patches of a row are its [window](Table::window). A [`chart()`] needs no table. Tables that an older library
+//! left are [carried up](Table::carry_up).
 //!
 //! ```
 //! use dyngrid::{Rows, Shape, Table};

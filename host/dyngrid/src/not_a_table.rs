@@ -61,7 +61,7 @@ impl fmt::Display for NotATable {
     fn fmt(&self, f: &mut fmt::Formatter) -> fmt::Result {
         let length = self.bytes.len();
         match self.older {
-            Some(form) => write!(f, "{length} bytes are a table of form {}: carry it up to form 3", form as u8),
+            Some(form) => write!(f, "{length} bytes are a table of form {}: carry it up to form 3", form.number()),
             None if self.joined => write!(
                 f,
                 "{length} bytes are a table of form 1 with grid marks or rows without a list, as form 2 has them: set byte 0 to 2, \

@@ -40,6 +40,7 @@ fn look_at(table: &Table) {
     assert_eq!(views.len(), table.used());
     for (row, view) in (1..).zip(&views) {
         assert_eq!((view.row, table.row(row), table.row_named(view.name)), (row, Some(*view), Some(*view)));
+        assert_eq!(table.window(row).len(), view.patches);
     }
     let sends = table.sends();
     assert!(sends.is_sorted_by_key(|&(from, to)| (to, from)));

@@ -158,7 +158,10 @@ fn what_a_send_changes() {
         assert_eq!(in_file.map(Range::len).collect::<Vec<_>>(), vec![3; patches]);
         let (file, records) = (3 * patches, 7 * patches.min(PLACES));
         assert!(bytes_in(&ranges) <= file + records + 4 * PLACES + 12, "{patches}: {ranges:?}");
-        println!("{patches} behind: {} bytes in {} ranges", bytes_in(&ranges), ranges.len());
+        if patches == 1 || patches == PLACES {
+            let figure = format!(" | {}, in {} ranges |\n", bytes_in(&ranges), ranges.len());
+            assert!(include_str!("../../../docs/RELAY.md").contains(&figure), "RELAY.md should have{figure}");
+        }
     }
 }
 

@@ -60,12 +60,12 @@ fn a_table_of_an_older_form_is_told() {
     let table = four();
     for form in [OlderForm::One, OlderForm::Two] {
         let bytes = table.carry_down(form).expect("no joined row, no grid mark");
-        assert_eq!((bytes[0], bytes.len()), (form as u8, 160));
+        assert_eq!((bytes[0], bytes.len()), (form.number(), 160));
         let error = Table::from_bytes(bytes.clone()).expect_err("an older form");
         assert_eq!((error.refusal(), error.older_form()), (Refusal::Malformed, Some(form)));
         assert_eq!(
             error.to_string(),
-            format!("160 bytes are a table of form {}: carry it up to form 3", form as u8)
+            format!("160 bytes are a table of form {}: carry it up to form 3", form.number())
         );
         assert_eq!(Table::carry_up(error.as_bytes()), Ok(table.clone()));
         assert_eq!(error.into_bytes(), bytes);
