@@ -77,7 +77,7 @@ enum grid_refusals {
                                       a move goes from form 1 or 2 to 3 or back, into a buffer of the new length */
     GRID_NAME_NOT_FREE = 13,       /* the name is 0 or in use: join with another one, 1 to 65,535 */
     GRID_NO_ROOM = 14,             /* every row of the table is in use: found a larger table and carry the file over */
-    GRID_NOT_FORM_1 = 15,          /* form 1 cannot hold the table: a list has a grid mark, or a row no list; move to form 2 */
+    GRID_NOT_FORM_1 = 15,          /* form 1 cannot hold the table: a grid mark is not 0, or a row has no list; move to form 2 */
     GRID_NO_CHART = 17             /* a chart is of 1 to 9 members with a grid mark that so many can have (see grid_chart) */
 };
 
@@ -237,8 +237,8 @@ uint64_t grid_choice(const uint8_t *table, size_t table_len, uint64_t coordinato
    Value: the rows used. Refusals: 1, 15, 12. A refused move leaves `to` as it is.
 
    A table is judged by its own form here. Up and down gives the original bytes; down and up gives the same rows with empty
-   windows. Form 1 knows no grid marks and no row without a list: a move to it is refused by 15 if there is one of these. A
-   table of form 1 that a machine has joined is of form 2 but for its first byte, and refused by 1: set that byte to GRID_FORM_2,
+   windows. Form 1 has no grid mark but 0 and no row without a list: a move to it is refused by 15 if there is one. A table
+   of form 1 that a machine has joined is of form 2 but for its first byte, and refused by 1: set that byte to GRID_FORM_2,
    and then move it. */
 uint64_t grid_move(const uint8_t *table, size_t table_len, uint64_t form, uint8_t *to, size_t to_len);
 

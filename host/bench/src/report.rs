@@ -98,7 +98,8 @@ pub fn page(timings: &[Timing], load: &str, runs: usize, processes: usize) -> St
          {}\n\n\
          The tables:\n\n\
          - founded: as a founding leaves it, all windows empty; all machines answer;\n\
-         - full windows: after 40 writes of 16 bytes that every machine has, so that every window has its 16 patches; all machines answer;\n\
+         - windows full of 3 bytes each (or 32): after 40 writes of so many bytes that every machine has, so that each window has its 16 patches; all\n\
+         \x20 machines answer;\n\
          - two epochs by turns: the odd rows have a list of their own and a higher epoch than the even ones; the odd rows answer;\n\
          - reversed chain: names rise while the indexes of their rows fall; all machines answer;\n\
          - list of three quarters: after a check that a quarter of the machines missed; the others answer;\n\
@@ -119,7 +120,7 @@ pub fn page(timings: &[Timing], load: &str, runs: usize, processes: usize) -> St
          ## What a send carries\n\n\
          Where the sender's window reaches back to the receiver's version, a send looks at nothing of the sender's row but its head and its window, and\n\
          so its machine need not give the file ([RELAY.md](RELAY.md#what-a-send-carries)). What then changes in the receiver's row does not grow with the\n\
-         file. Patches have 16 bytes here; the receiver of a whole file is 17 patches behind.\n\n\
+         file. The receiver of a whole file is 17 patches behind.\n\n\
          {}\n\
          - machine: {}, load {load} when the run began\n- compiler of the reference: {}\n- to measure again: `make bench`\n",
         verdict(timings),

@@ -15,8 +15,9 @@ pub struct State {
     /// The rows that answer them, the coordinator's among them.
     pub answering: u64,
     pub tasks: &'static [Task],
-    /// How many patches every window has.
+    /// How many patches every window has, and of how many bytes.
     pub kept: u32,
+    patch_len: usize,
     /// The version of the sender in a send.
     pub newest: u32,
 }
@@ -30,8 +31,11 @@ const CONTENTS: usize = 32;
 
 /// The patches that a window has room for.
 const PLACES: u32 = 16;
-/// Writes of 16 bytes each until a table is as "full windows" has it; more than a whole send and a window need.
+/// Writes until windows are full; as many as a window and a whole send need, and some more.
 const WRITES: u32 = 40;
+/// The bytes of a result, and of the longest patch that a window keeps.
+const RESULT: usize = 3;
+const LONGEST: usize = 32;
 
 #[derive(Clone, Copy)]
 pub struct Size {
@@ -78,7 +82,7 @@ pub fn all() -> Vec<State> {
         .flat_map(|size| {
             [
                 founded(size),
-                full_windows(size),
+                full_windows(size, RESULT),
                 two_epochs(size),
                 falling_rows(size),
                 partial_list(size),
@@ -91,6 +95,7 @@ pub fn all() -> Vec<State> {
         .collect();
     states.push(State { tasks: SPARSE_TASKS, ..founded(SPARSE) });
     states.extend(TALL_SIZES.map(tall));
+    states.push(full_windows(SIZES[2], LONGEST));
     states.push(State { tasks: &[Task::Chart], ..founded(CHARTED) });
     for state in &states {
         assert!(Table::decode(&state.table).is_some(), "{}: malformed", state.title);
@@ -132,23 +137,36 @@ fn founded_as(size: Size, choice: u64) -> State {
     Engine::default().found(&mut table, size.capacity as u64, size.file_len as u64, &size.names(), choice);
     let answering = rows::first(size.used);
     let title = size.title("founded");
-    State { title, size, table, coordinator: 1, answering, tasks: &EVERY_TASK, kept: 0, newest: 1 }
+    State {
+        title,
+        size,
+        table,
+        coordinator: 1,
+        answering,
+        tasks: &EVERY_TASK,
+        kept: 0,
+        patch_len: 0,
+        newest: 1,
+    }
 }
 
-/// Every row has every write, and a full window.
-fn full_windows(size: Size) -> State {
+/// Every row has every write, and a full window on patches of so many bytes.
+fn full_windows(size: Size, patch_len: usize) -> State {
     let mut state = founded(size);
-    let copy = written(size.file_len, WRITES);
+    let copy = written(size.file_len, WRITES, patch_len);
     (1..=size.used).for_each(|row| lay_copy(&mut state.table[size.row_at(row)..], &copy));
-    State { title: size.title("full windows"), tasks: FULL_TASKS, kept: PLACES, newest: WRITES, ..state }
+    let title = size.title(&format!("windows full of {patch_len} bytes each"));
+    State { title, tasks: FULL_TASKS, kept: PLACES, patch_len, newest: WRITES, ..state }
 }
 
-/// A row after so many writes of 16 bytes.
-fn written(file_len: usize, writes: u32) -> Vec<u8> {
+/// A row after so many writes of so many bytes, each in another place if there are enough.
+fn written(file_len: usize, writes: u32, patch_len: usize) -> Vec<u8> {
     let mut table = dyngrid::Table::found(1, file_len, &[1], dyngrid::Shape::Wide).expect("a plain founding");
+    let places = file_len / (patch_len + 1);
     for write in 0..writes as usize {
-        let offset = 16 * write % (file_len - 15);
-        table.write(1, Rows::first(1), offset, &[write as u8 + 1; 16]).expect("one is enough");
+        let offset = write % places * (patch_len + 1);
+        let patch = vec![write as u8 + 1; patch_len];
+        table.write(1, Rows::first(1), offset, &patch).expect("one is enough");
     }
     table.row_bytes(1).expect("in use").to_vec()
 }
@@ -175,7 +193,10 @@ impl State {
             // Row 1 has a version that its empty window says nothing of.
             table[size.row_at(1) + VERSION] = self.newest as u8;
         } else if behind > 0 {
-            lay_copy(&mut table[size.row_at(2)..], &written(size.file_len, self.newest - behind));
+            lay_copy(
+                &mut table[size.row_at(2)..],
+                &written(size.file_len, self.newest - behind, self.patch_len),
+            );
         }
         table
     }

@@ -60,7 +60,7 @@ impl Table {
     /// The table in an older form, for programs that know no other; its windows are left out. [Carried up](Table::carry_up)
     /// again it has the same rows, with empty windows.
     ///
-    /// Form 1 has no grid marks and no row without a list: where there is one of these it is refused by 15.
+    /// Form 1 has no [grid mark](crate::RowView::grid_mark) but 0 and no row without a list: where there is one it is refused by 15.
     ///
     /// ```
     /// use dyngrid::{OlderForm, Refusal, Rows, Shape, Table};

@@ -64,7 +64,7 @@ impl fmt::Display for NotATable {
             Some(form) => write!(f, "{length} bytes are a table of form {}: carry it up to form 3", form.number()),
             None if self.joined => write!(
                 f,
-                "{length} bytes are a table of form 1 with grid marks or rows without a list, as form 2 has them: set byte 0 to 2, \
+                "{length} bytes are a table of form 1 with grid marks or rows without a list, as only form 2 has them: set byte 0 to 2, \
                  and carry it up to form 3"
             ),
             None => write!(f, "{length} bytes are no table: {}", self.refusal),

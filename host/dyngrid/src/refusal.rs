@@ -36,7 +36,7 @@ pub enum Refusal {
     NameNotFree,
     /// 14: no unused row is left to join in.
     NoRoom,
-    /// 15: form 1 cannot hold the table, since a list has a grid mark or a row has no list.
+    /// 15: form 1 cannot hold the table, since a grid mark is not 0 or a row has no list.
     NotForm1,
     /// 17: a chart of no member or of more than nine, or with a grid mark that no list of that length can have.
     NoChart,
@@ -129,7 +129,7 @@ impl Refusal {
             Refusal::NameNotFree => "the name is 0 or in use: join with a name from 1 to 65,535 that no row has",
             Refusal::NoRoom => "every row of the table is in use: found a table of more rows and carry the file over",
             Refusal::NotForm1 => {
-                "form 1 cannot hold the table, since a list has a grid mark or a row has no list: carry it to form 2"
+                "form 1 cannot hold the table, since a grid mark is not 0 or a row has no list: carry it down to form 2"
             }
             Refusal::NoChart => {
                 "there is no such chart: name 1 to 9 members, and the grid mark 0, 2 or, of five, 1 (a list's is byte 24 of its row)"

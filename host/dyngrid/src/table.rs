@@ -108,7 +108,7 @@ impl Table {
     }
 
     /// Where a row lies in the table, if it is in use.
-    fn place(&self, row: usize) -> Option<Range<usize>> {
+    pub(crate) fn place(&self, row: usize) -> Option<Range<usize>> {
         let stride = ROW_HEADER + self.file_len() + RECORDS;
         self.rows().contains(row).then(|| HEADER + (row - 1) * stride..HEADER + row * stride)
     }
@@ -278,7 +278,7 @@ impl Table {
     /// Any of a receiver's senders may send, and then it needs no other. In an [assembled](Table::assemble) table both ends are
     /// rows that answered.
     ///
-    /// The library itself is asked for every two rows, on a copy, which takes some 3 ms for 64 machines; on a malformed table no
+    /// The library itself is asked for every two rows, on a copy, which takes some 4 ms for 64 machines; on a malformed table no
     /// send would be done.
     ///
     /// ```
@@ -296,11 +296,13 @@ impl Table {
     /// ```
     pub fn sends(&self) -> Vec<(usize, usize)> {
         let mut sends = Vec::new();
-        let mut copy = self.clone();
+        // Whether a send is done does not hang on windows, and without them question 1 takes a fraction of its time.
+        let asked = self.without_windows();
+        let mut copy = asked.clone();
         for (to, place) in self.rows().iter().filter_map(|to| Some((to, self.place(to)?))) {
             for from in self.rows() {
                 if copy.send(from, to, self.rows()).is_ok() {
-                    copy.bytes[place.clone()].copy_from_slice(&self.bytes[place.clone()]);
+                    copy.bytes[place.clone()].copy_from_slice(&asked.bytes[place.clone()]);
                     sends.push((from, to));
                 }
             }

@@ -58,6 +58,18 @@ impl Table {
         versions.zip(records(bytes)).map(patch).collect()
     }
 
+    /// The same table with empty windows.
+    pub(crate) fn without_windows(&self) -> Table {
+        let mut table = self.clone();
+        for place in self.rows().iter().filter_map(|row| self.place(row)) {
+            let row = &mut table.bytes[place];
+            let records = row.len() - PLACES * RECORD;
+            row[OLDEST] = 0;
+            row[records..].fill(0);
+        }
+        table
+    }
+
     /// Where the bytes of a row differ from those in the table before a call: what is to be shipped to a machine that holds the
     /// row as it was. After a small write, or a send that lays few patches, it is some tens of bytes, however long the file is.
     ///
