@@ -6,14 +6,13 @@ use dyngrid::raw;
 use std::ffi::c_int;
 use std::sync::atomic::{AtomicPtr, AtomicU64, Ordering};
 
-/// A little above the longest table and the longest list that a case can have.
+/// A little above the longest table that a case can have, which is the longest list too: the second buffer of a move.
 const LONGEST_TABLE: usize = 310_000;
-const LONGEST_LIST: usize = 12_000;
 const LONGEST_CALLED: usize = 16;
 
 pub struct Archive {
     table: Guard,
-    /// The other slice of a call: its names, buffer, patch or the list of a chart or a choice.
+    /// The other slice of a call: its names, buffer, patch, the list of a chart or a choice, or the second buffer of a move.
     list: Guard,
     /// The list for the number of machines called.
     called: Guard,
@@ -23,7 +22,7 @@ pub struct Archive {
 impl Archive {
     pub fn new() -> Archive {
         raw::assert_interface();
-        let [table, list, called] = [LONGEST_TABLE, LONGEST_LIST, LONGEST_CALLED].map(Guard::new);
+        let [table, list, called] = [LONGEST_TABLE, LONGEST_TABLE, LONGEST_CALLED].map(Guard::new);
         Archive { table, list, called, edge: Edge::End }
     }
 
@@ -35,6 +34,7 @@ impl Archive {
             Call::Write { patch, .. } => patch,
             Call::Chart { list, .. } => list,
             Call::Choice { set, .. } => set,
+            Call::Move { to, .. } => to,
             Call::Send { .. } | Call::Check { .. } | Call::Join { .. } => &[],
         };
         self.table.place(table, self.edge);
@@ -102,6 +102,7 @@ impl Archive {
                 Call::Choice { coordinator, kind, .. } => {
                     raw::grid_choice(table, table_len, coordinator, kind, list, list_len)
                 }
+                Call::Move { form, .. } => raw::grid_move(table, table_len, form, list, list_len),
             }
         }
     }

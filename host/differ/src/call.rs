@@ -5,14 +5,55 @@ use std::fmt;
 
 #[derive(Clone, Debug, PartialEq, Eq)]
 pub enum Call {
-    Found { capacity: u64, file_len: u64, names: Vec<u8>, choice: u64 },
-    Read { coordinator: u64, answering: u64, offset: u64, length: u64, buffer: Vec<u8>, called: Vec<u8> },
-    Write { coordinator: u64, answering: u64, offset: u64, patch: Vec<u8>, called: Vec<u8> },
-    Send { from: u64, to: u64, answering: u64 },
-    Check { coordinator: u64, answering: u64 },
-    Join { name: u16 },
-    Chart { length: u64, mark: u64, list: Vec<u8> },
-    Choice { coordinator: u64, kind: u64, set: Vec<u8> },
+    Found {
+        capacity: u64,
+        file_len: u64,
+        names: Vec<u8>,
+        choice: u64,
+    },
+    Read {
+        coordinator: u64,
+        answering: u64,
+        offset: u64,
+        length: u64,
+        buffer: Vec<u8>,
+        called: Vec<u8>,
+    },
+    Write {
+        coordinator: u64,
+        answering: u64,
+        offset: u64,
+        patch: Vec<u8>,
+        called: Vec<u8>,
+    },
+    Send {
+        from: u64,
+        to: u64,
+        answering: u64,
+    },
+    Check {
+        coordinator: u64,
+        answering: u64,
+    },
+    Join {
+        name: u16,
+    },
+    Chart {
+        length: u64,
+        mark: u64,
+        list: Vec<u8>,
+    },
+    Choice {
+        coordinator: u64,
+        kind: u64,
+        set: Vec<u8>,
+    },
+    /// A move; if it is taken, the calls go on on the new table.
+    Move {
+        form: u64,
+        to: Vec<u8>,
+        taken: bool,
+    },
 }
 
 /// What a call gave: its result, the bytes that its buffer, or the list of a chart or a choice, then holds (empty but for these), and
@@ -25,8 +66,8 @@ pub struct Answer {
 }
 
 impl Call {
-    pub const KINDS: [&'static str; 8] =
-        ["found", "read", "write", "send", "check", "join", "chart", "choice"];
+    pub const KINDS: [&'static str; 9] =
+        ["found", "read", "write", "send", "check", "join", "chart", "choice", "move"];
 
     /// Its place in `KINDS`.
     pub fn kind(&self) -> usize {
@@ -39,6 +80,7 @@ impl Call {
             Call::Join { .. } => 5,
             Call::Chart { .. } => 6,
             Call::Choice { .. } => 7,
+            Call::Move { .. } => 8,
         }
     }
 
@@ -56,15 +98,16 @@ impl Call {
             Call::Read { buffer, .. } => Some(buffer),
             Call::Chart { list, .. } => Some(list),
             Call::Choice { set, .. } => Some(set),
+            Call::Move { to, .. } => Some(to),
             _ => None,
         }
     }
 
     /// The rows that a call may look at, beyond names and links, if it looks at any: those that answered, or the coordinator of
-    /// a choice. A joining looks at none.
+    /// a choice. A joining looks at none; a move carries all of them over.
     pub fn seen(&self) -> Option<u64> {
         match *self {
-            Call::Found { .. } | Call::Chart { .. } => None,
+            Call::Found { .. } | Call::Chart { .. } | Call::Move { .. } => None,
             Call::Join { .. } => Some(0),
             Call::Choice { coordinator: coordinator @ 1..=64, .. } => Some(rows::only(coordinator as usize)),
             Call::Choice { .. } => Some(0),
@@ -74,25 +117,25 @@ impl Call {
         }
     }
 
-    /// The rows that answered; nobody is asked in a founding, a joining, a chart or a choice.
+    /// The rows that answered; nobody is asked in a founding, a joining, a chart, a choice or a move.
     pub fn answering(&self) -> Option<u64> {
         match *self {
-            Call::Found { .. } | Call::Join { .. } | Call::Chart { .. } | Call::Choice { .. } => None,
             Call::Read { answering, .. }
             | Call::Write { answering, .. }
             | Call::Send { answering, .. }
             | Call::Check { answering, .. } => Some(answering),
+            _ => None,
         }
     }
 
     /// Lets only these rows answer.
     pub fn cut_down(&mut self, rows: u64) {
         match self {
-            Call::Found { .. } | Call::Join { .. } | Call::Chart { .. } | Call::Choice { .. } => {}
             Call::Read { answering, .. }
             | Call::Write { answering, .. }
             | Call::Send { answering, .. }
             | Call::Check { answering, .. } => *answering &= rows,
+            _ => {}
         }
     }
 
@@ -115,6 +158,7 @@ impl Call {
             Call::Join { name } => engine.join(table, *name),
             Call::Chart { length, mark, .. } => engine.chart(*length, *mark, &mut lent),
             Call::Choice { coordinator, kind, .. } => engine.choice(table, *coordinator, *kind, &mut lent),
+            Call::Move { form, .. } => engine.carry(table, *form, &mut lent),
         };
         Answer { result, buffer: lent, called: number }
     }
@@ -148,6 +192,10 @@ impl fmt::Display for Call {
             }
             Call::Choice { coordinator, kind, set } => {
                 write!(f, "grid_choice(coordinator {coordinator}, kind {kind}, set {})", bytes_shown(set))
+            }
+            Call::Move { form, to, taken } => {
+                let then = if *taken { "; the calls go on there" } else { "" };
+                write!(f, "grid_move(form {form}, to {}){then}", bytes_shown(to))
             }
         }
     }

@@ -2,7 +2,7 @@
 
 use crate::random::Random;
 use crate::tables::{self, Picture, Size};
-use reference::window::{LONGEST_PATCH, RECORD, RECORDS, WINDOW};
+use reference::window::{LONGEST_PATCH, RECORD, RECORDS};
 use reference::{rows, Rules, Shape, Table, FORM, HEADER, LIMIT, ROW_HEADER, TALL};
 
 /// Breaks one rule of a well-formed table.
@@ -17,28 +17,62 @@ pub enum Needs {
     UnusedRow,
     /// So many used rows.
     Rows(usize),
-    /// A file that is longer than a record's patch.
-    LongFile,
+    /// Windows, and a file that is longer than a record's patch.
+    Windows,
+    /// No windows.
+    NoWindows,
+    /// The scope's rules alone, and so many used rows.
+    Scope(usize),
 }
-use Needs::{FewerThan64, LongFile, Nothing, Rows, UnusedRow};
+use Needs::{FewerThan64, NoWindows, Nothing, Rows, Scope, UnusedRow, Windows};
 
-pub const RULES: [(&str, Needs, Damage); 72] = [
+impl Needs {
+    /// Can a table of this form be damaged so?
+    pub fn allow(self, rules: Rules) -> bool {
+        match self {
+            Windows => rules.has_windows(),
+            NoWindows => !rules.has_windows(),
+            Scope(_) => rules == Rules::Published,
+            Nothing | FewerThan64 | UnusedRow | Rows(_) => true,
+        }
+    }
+}
+
+pub const RULES: [(&str, Needs, Damage); 78] = [
     ("empty", Nothing, |bytes, _, _| bytes.clear()),
     ("truncated", Nothing, |bytes, _, random| bytes.truncate(random.between(1, bytes.len() - 2))),
     ("a byte short", Nothing, |bytes, _, _| bytes.truncate(bytes.len() - 1)),
     ("a byte over", Nothing, |bytes, _, _| bytes.push(0)),
     ("a row short", Nothing, |bytes, table, _| bytes.truncate(bytes.len() - stride(table))),
     ("a row over", Nothing, |bytes, table, _| bytes.resize(bytes.len() + stride(table), 0)),
-    ("form", Nothing, |bytes, _, random| bytes[0] = random.pick(&[0, 1, 2, FORM + 1, 255])),
-    ("no window", Nothing, |bytes, table, _| bytes.truncate(bytes.len() - table.capacity * WINDOW)),
-    ("form 2", Nothing, |bytes, _, _| *bytes = tables::without_windows(bytes, Rules::Windowless)),
+    ("form", Nothing, |bytes, _, random| bytes[0] = random.pick(&[0, FORM + 1, 6, 255])),
+    ("form of tables without windows", Windows, |bytes, _, random| bytes[0] = random.pick(&[1, 2])),
+    ("form of tables with windows", NoWindows, |bytes, _, _| bytes[0] = FORM),
+    ("rows without windows", Windows, |bytes, table, _| {
+        *bytes = tables::without_windows(bytes, Rules::Windowless);
+        bytes[0] = table.rules.form();
+    }),
+    ("rows with windows", NoWindows, |bytes, table, _| {
+        *bytes = tables::with_empty_windows(bytes);
+        bytes[0] = table.rules.form();
+    }),
+    ("oldest record of no window", NoWindows, |bytes, table, random| {
+        put(bytes, table, any_row(table, random), OLDEST, &[random.pick(&[1, 16, 255])]);
+    }),
+    ("empty list by the scope alone", Scope(2), |bytes, table, random| {
+        unlisted_row(bytes, table, random);
+    }),
+    ("list in the new grid by the scope alone", Scope(5), |bytes, table, random| {
+        put_marked(bytes, table, random, 5, 1);
+    }),
+    ("tall list by the scope alone", Scope(2), |bytes, table, _| put_marks(bytes, table, TALL)),
     ("capacity 0", Nothing, |bytes, _, _| {
         bytes[1] = 0;
         bytes.truncate(HEADER);
     }),
     ("capacity 65", Nothing, |bytes, table, _| {
         bytes[1] = 65;
-        bytes.resize(Table::length(65, table.file_len), 0);
+        bytes.resize(table.rules.table_length(65, table.file_len), 0);
     }),
     ("no row used", Nothing, |bytes, _, _| bytes[2] = 0),
     ("fewer used than there are", Nothing, |bytes, _, _| bytes[2] -= 1),
@@ -219,36 +253,36 @@ pub const RULES: [(&str, Needs, Damage); 72] = [
         let value = random.pick(&[1, 128, 255]);
         put(bytes, table, any_row(table, random), random.between(26, 31), &[value]);
     }),
-    ("byte 26 of a row", LongFile, |bytes, table, random| {
+    ("byte 26 of a row", Windows, |bytes, table, random| {
         let (row, _) = windowed_row(bytes, table, random, 0, RECORDS);
         put(bytes, table, row, 26, &[random.pick(&[1, 16, 255])]);
     }),
-    ("window: oldest 0, and there are records", LongFile, |bytes, table, random| {
+    ("window: oldest 0, and there are records", Windows, |bytes, table, random| {
         let (row, _) = windowed_row(bytes, table, random, 1, RECORDS);
         put(bytes, table, row, OLDEST, &[0]);
     }),
-    ("window: oldest is an empty record", LongFile, |bytes, table, random| {
+    ("window: oldest is an empty record", Windows, |bytes, table, random| {
         let (row, order) = windowed_row(bytes, table, random, 0, RECORDS - 1);
         put(bytes, table, row, OLDEST, &[random.between(order.len() + 1, RECORDS) as u8]);
     }),
-    ("window: oldest 17", LongFile, |bytes, table, random| {
+    ("window: oldest 17", Windows, |bytes, table, random| {
         let (row, _) = windowed_row(bytes, table, random, 0, RECORDS);
         put(bytes, table, row, OLDEST, &[random.pick(&[17, 17, 128, 255])]);
     }),
-    ("window: in a ring", LongFile, |bytes, table, random| {
+    ("window: in a ring", Windows, |bytes, table, random| {
         let (row, order) = windowed_row(bytes, table, random, 1, RECORDS);
         put_record(bytes, table, row, order[order.len() - 1], NEXT, &[random.pick(&order)]);
     }),
-    ("window: chain cut short", LongFile, |bytes, table, random| {
+    ("window: chain cut short", Windows, |bytes, table, random| {
         let (row, order) = windowed_row(bytes, table, random, 2, RECORDS);
         put_record(bytes, table, row, order[random.between(0, order.len() - 2)], NEXT, &[0]);
     }),
-    ("window: a record left out", LongFile, |bytes, table, random| {
+    ("window: a record left out", Windows, |bytes, table, random| {
         let (row, order) = windowed_row(bytes, table, random, 3, RECORDS);
         let place = random.between(0, order.len() - 3);
         put_record(bytes, table, row, order[place], NEXT, &[order[place + 2]]);
     }),
-    ("window: a gap between records", LongFile, |bytes, table, random| {
+    ("window: a gap between records", Windows, |bytes, table, random| {
         // The last record moves up by one place, and leaves its own empty.
         let (row, order) = windowed_row(bytes, table, random, 1, RECORDS - 1);
         let last = order.len() as u8;
@@ -261,29 +295,29 @@ pub const RULES: [(&str, Needs, Damage); 72] = [
             None => unreachable!("the last record is in the chain"),
         }
     }),
-    ("window: next record 17", LongFile, |bytes, table, random| {
+    ("window: next record 17", Windows, |bytes, table, random| {
         let (row, order) = windowed_row(bytes, table, random, 1, RECORDS);
         put_record(bytes, table, row, order[order.len() - 1], NEXT, &[random.pick(&[17, 255])]);
     }),
-    ("window: more records than versions", LongFile, |bytes, table, random| {
+    ("window: more records than versions", Windows, |bytes, table, random| {
         let (row, order) = windowed_row(bytes, table, random, 1, RECORDS);
         put_numbers(bytes, table, row, 0, order.len() as u32 - 1, 0);
     }),
-    ("window: first or last byte of the rest", LongFile, |bytes, table, random| {
+    ("window: first or last byte of the rest", Windows, |bytes, table, random| {
         let (row, order) = windowed_row(bytes, table, random, 0, RECORDS - 1);
         let first = record_at(table, row, order.len() as u8 + 1);
         bytes[random.pick(&[first, table.row_at(row + 1) - 1])] = random.pick(&[1, 16, 255]);
     }),
-    ("window: patch of no byte", LongFile, |bytes, table, random| {
+    ("window: patch of no byte", Windows, |bytes, table, random| {
         let (row, order) = windowed_row(bytes, table, random, 1, RECORDS);
         let record = random.pick(&order);
         put_record(bytes, table, row, record, LENGTH, &[0; 35]);
     }),
-    ("window: patch of 33 bytes", LongFile, |bytes, table, random| {
+    ("window: patch of 33 bytes", Windows, |bytes, table, random| {
         let (row, order) = windowed_row(bytes, table, random, 1, RECORDS);
         put_record(bytes, table, row, random.pick(&order), LENGTH, &[random.pick(&[33, 33, 128, 255]), 0, 0]);
     }),
-    ("window: patch that ends beyond the file", LongFile, |bytes, table, random| {
+    ("window: patch that ends beyond the file", Windows, |bytes, table, random| {
         let (row, order) = windowed_row(bytes, table, random, 1, RECORDS);
         let record = random.pick(&order);
         let length = usize::from(bytes[record_at(table, row, record) + LENGTH]);
@@ -291,7 +325,7 @@ pub const RULES: [(&str, Needs, Damage); 72] = [
         let offset = random.pick(&[beyond, beyond, 65_535]) as u16;
         put_record(bytes, table, row, record, LENGTH + 1, &offset.to_le_bytes());
     }),
-    ("window: first or last byte behind a short patch", LongFile, |bytes, table, random| {
+    ("window: first or last byte behind a short patch", Windows, |bytes, table, random| {
         let (row, order) = windowed_row(bytes, table, random, 1, RECORDS);
         let (record, length) = (random.pick(&order), random.pick(&[1, 15, 16, 17, 31]));
         put_record(bytes, table, row, record, LENGTH, &[length]);
@@ -320,25 +354,26 @@ const NEXT: usize = 0;
 const LENGTH: usize = 1;
 const PATCH: usize = 4;
 
-/// A rule by its place in `RULES`, a well-formed table, and the same with that rule broken.
-pub fn damaged(random: &mut Random) -> (usize, Picture, Vec<u8>) {
-    let rule = random.between(0, RULES.len() - 1);
-    let (table, bytes) = damaged_by(random, rule);
-    (rule, table, bytes)
+/// A well-formed table of this form, the same with one rule broken, and that rule by its place in `RULES`.
+pub fn damaged(random: &mut Random, rules: Rules) -> (Picture, Vec<u8>, usize) {
+    let possible: Vec<usize> = (0..RULES.len()).filter(|&rule| RULES[rule].1.allow(rules)).collect();
+    let rule = random.pick(&possible);
+    let (table, bytes) = damaged_by(random, rules, rule);
+    (table, bytes, rule)
 }
 
-fn damaged_by(random: &mut Random, rule: usize) -> (Picture, Vec<u8>) {
+fn damaged_by(random: &mut Random, rules: Rules, rule: usize) -> (Picture, Vec<u8>) {
     let (_, needs, damage) = RULES[rule];
     let size = size(random, needs);
-    let mut bytes = tables::well_formed(random, size);
-    let table = Picture::of(&bytes).expect("made well formed");
+    let mut bytes = tables::well_formed_by(random, size, rules);
+    let table = Picture::of_any_form(&bytes).expect("made well formed");
     damage(&mut bytes, &table, random);
     (table, bytes)
 }
 
 /// In half of the cases every row is used.
 fn size(random: &mut Random, needs: Needs) -> Size {
-    let least = if let Rows(least) = needs { least } else { 2 };
+    let least = if let Rows(least) | Scope(least) = needs { least } else { 2 };
     let most = if matches!(needs, FewerThan64 | UnusedRow) { 63 } else { 64 };
     let used = random.pick(&[2, 3, 4, 5, 6, 7, 15, 40, 63, 64]).clamp(least, most);
     let capacity = match random.between(0, 3) {
@@ -346,7 +381,7 @@ fn size(random: &mut Random, needs: Needs) -> Size {
         2 => (used + 1).min(64),
         _ => random.between((used + 1).min(64), 64),
     };
-    let file_len = if needs == LongFile { random.pick(&[33, 40]) } else { random.pick(&[1, 4, 17]) };
+    let file_len = if needs == Windows { random.pick(&[33, 40]) } else { random.pick(&[1, 4, 17]) };
     Size { used, capacity, file_len }
 }
 
@@ -466,10 +501,13 @@ mod tests {
 
     #[test]
     fn every_damage_makes_a_table_malformed() {
-        for (rule, (name, ..)) in RULES.iter().enumerate() {
-            for case in 0..200 {
-                let (_, bytes) = damaged_by(&mut Random::new(2, case), rule);
-                assert!(Table::decode(&bytes).is_none(), "{name}");
+        for rules in Rules::ALL {
+            for (rule, (name, ..)) in RULES.iter().enumerate().filter(|(_, (_, needs, _))| needs.allow(rules))
+            {
+                for case in 0..200 {
+                    let (_, bytes) = damaged_by(&mut Random::new(2, case), rules, rule);
+                    assert!(Picture::of_any_form(&bytes).is_none(), "{rules:?}: {name}");
+                }
             }
         }
     }
@@ -479,18 +517,18 @@ mod tests {
     fn a_wrong_mark_or_form_is_the_only_rule_broken() {
         let mut mended = 0;
         for (rule, (name, ..)) in RULES.iter().enumerate() {
-            if !name.starts_with("grid mark") && *name != "form" {
+            if !name.starts_with("grid mark") && !["form", "form of tables without windows"].contains(name) {
                 continue;
             }
             for case in 0..200 {
-                let (table, mut bytes) = damaged_by(&mut Random::new(2, case), rule);
+                let (table, mut bytes) = damaged_by(&mut Random::new(2, case), Rules::Newest, rule);
                 bytes[0] = FORM;
                 (1..=table.used).for_each(|row| put(&mut bytes, &table, row, 24, &[0]));
                 assert!(Table::decode(&bytes).is_some(), "{name}");
             }
             mended += 1;
         }
-        assert_eq!(mended, 14);
+        assert_eq!(mended, 15);
     }
 
     /// Where a window is wrong, nothing else is: with other windows the table is well formed.
@@ -501,7 +539,7 @@ mod tests {
             RULES.iter().enumerate().filter(|(_, (name, ..))| name.starts_with("window"))
         {
             for case in 0..200 {
-                let (table, mut bytes) = damaged_by(&mut Random::new(2, case), rule);
+                let (table, mut bytes) = damaged_by(&mut Random::new(2, case), Rules::Newest, rule);
                 for row in 1..=table.used {
                     put(&mut bytes, &table, row, OLDEST, &[0]);
                     table.window_mut(&mut bytes, row).fill(0);
@@ -516,8 +554,9 @@ mod tests {
     #[test]
     fn tables_without_unused_rows_are_damaged_too() {
         for (rule, (name, needs, _)) in RULES.iter().enumerate() {
+            let rules = if needs.allow(Rules::Newest) { Rules::Newest } else { Rules::Published };
             let full = (0..200).filter(|&case| {
-                let (table, _) = damaged_by(&mut Random::new(2, case), rule);
+                let (table, _) = damaged_by(&mut Random::new(2, case), rules, rule);
                 table.used == table.capacity
             });
             assert_eq!(full.count() > 50, *needs != UnusedRow, "{name}");

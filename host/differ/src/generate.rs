@@ -7,6 +7,7 @@ use crate::random::Random;
 use crate::tables::{self, Picture, Size};
 use reference::window::LONGEST_PATCH;
 use reference::{rows, Engine, Layout, Quorum, Rules, Table, MAX_FILE, MAX_ROWS};
+use std::collections::VecDeque;
 
 /// What every chart is asked for: the lengths of lists of members, some beyond nine; grid marks; bytes of the list to fill.
 const CHART_LENGTHS: [u64; 13] = [0, 1, 2, 3, 4, 5, 6, 7, 8, 9, 10, 1 << 32, (1 << 32) + 5];
@@ -19,6 +20,11 @@ const NO_COORDINATORS: [u64; 6] = [64, 65, 257, (1 << 32) + 1, 1 << 63, u64::MAX
 const CHOICE_KINDS: [u64; 7] = [0, 1, 2, 256, 257, 1 << 32, (1 << 32) + 1];
 const CHOICE_LISTS: [usize; 4] = [0, 7, 8, 9];
 
+/// What every move is asked for: every form that there is or that a request names, and others.
+pub const MOVE_FORMS: [u64; 8] = [0, 1, 2, 3, 4, 5, 6, (1 << 32) + 3];
+/// The first bytes of the tables that every move is asked of.
+pub const MOVED_FORMS: [u8; 7] = [0, 1, 2, 3, 4, 5, 6];
+
 /// What a case tries: a table to start from, and how its calls are picked.
 pub struct Plan {
     start: Vec<u8>,
@@ -26,7 +32,7 @@ pub struct Plan {
     ledger: Ledger,
     calls: usize,
     /// Made first, in this order.
-    opening: std::vec::IntoIter<Call>,
+    opening: VecDeque<Call>,
     /// Every call is a founding of about this size.
     foundings: Option<Size>,
     /// The table as last seen well formed: other calls are fitted to it.
@@ -35,8 +41,10 @@ pub struct Plan {
     up: u64,
     /// A row that falls behind before any other calls are made.
     straggler: Option<Straggler>,
-    /// The rule that the table breaks, by its place in `damage::RULES`.
-    pub damage: Option<usize>,
+    /// Every call is a move.
+    moves: bool,
+    /// The form of the table, and the rule that it breaks, by its place in `damage::RULES`.
+    pub damage: Option<(Rules, usize)>,
 }
 
 /// A row that misses some writes, is marked by a check and then gets a send.
@@ -104,7 +112,8 @@ impl Plan {
             0..=9 => Plan::founded(random),
             10..=11 => Plan::falling_behind(random),
             12..=14 => Plan::carried_over(random),
-            15..=59 => Plan::unfounded(random),
+            15..=55 => Plan::unfounded(random),
+            56..=59 => Plan::older(random),
             60..=84 => Plan::damaged(random),
             _ => Plan::foundings(random),
         }
@@ -126,11 +135,12 @@ impl Plan {
             start,
             ledger: Ledger::default(),
             calls: random.between(10, 100),
-            opening: vec![opening].into_iter(),
+            opening: vec![opening].into(),
             foundings: None,
             known: None,
             up,
             straggler: None,
+            moves: false,
             damage: None,
         }
     }
@@ -148,7 +158,8 @@ impl Plan {
         plan
     }
 
-    /// A history that began before there were requests: its lists, some of five among them, lie in the published grid.
+    /// A history that began on form 1, before there were requests, and goes on after a move: its lists, some of five among them,
+    /// lie in the published grid.
     pub fn carried_over(random: &mut Random) -> Plan {
         let size = Size { used: random.pick(&[5, 5, 5, 6, 7, 9]), ..Size::pick(random) };
         let size = Size { capacity: size.capacity.max(size.used), ..size };
@@ -164,6 +175,7 @@ impl Plan {
                 Call::Join { .. }
                     | Call::Chart { .. }
                     | Call::Choice { .. }
+                    | Call::Move { .. }
                     | Call::Found { choice: 1.., .. }
             );
             if !of_a_request {
@@ -174,8 +186,8 @@ impl Plan {
                 plan.start = table;
             }
         }
-        plan.ledger.take_over();
-        plan.start = tables::with_empty_windows(&plan.start);
+        let length = Table::length(size.capacity, size.file_len);
+        plan.opening = vec![Call::Move { form: 3, to: random.bytes(length), taken: true }].into();
         plan
     }
 
@@ -189,29 +201,52 @@ impl Plan {
             start,
             ledger: Ledger::default(),
             calls: random.between(1, 9),
-            opening: Vec::new().into_iter(),
+            opening: VecDeque::new(),
             foundings: None,
             known,
             up,
             straggler: None,
+            moves: false,
             damage: None,
         }
     }
 
-    /// A few calls on a table with one rule broken.
+    /// A few calls on a well-formed table of an older form, half of them only moves.
+    fn older(random: &mut Random) -> Plan {
+        let rules = random.pick(&[Rules::Published, Rules::Windowless]);
+        let size = Size::pick(random);
+        let start = tables::well_formed_by(random, size, rules);
+        let known = Picture::of_any_form(&start);
+        Plan {
+            start,
+            ledger: Ledger::default(),
+            calls: random.between(1, 6),
+            opening: VecDeque::new(),
+            foundings: None,
+            known,
+            up: rows::first(size.used),
+            straggler: None,
+            moves: random.chance(1, 2),
+            damage: None,
+        }
+    }
+
+    /// A few calls on a table with one rule broken; moves only on one of an older form, where other calls ask no more.
     fn damaged(random: &mut Random) -> Plan {
-        let (rule, table, start) = damage::damaged(random);
+        let rules = random.pick(&[Rules::Newest, Rules::Newest, Rules::Windowless, Rules::Published]);
+        let (table, start, rule) = damage::damaged(random, rules);
         let up = table.all_used();
         Plan {
             start,
             ledger: Ledger::default(),
             calls: random.between(2, 6),
-            opening: Vec::new().into_iter(),
+            opening: VecDeque::new(),
             foundings: None,
             known: Some(table),
             up,
             straggler: None,
-            damage: Some(rule),
+            moves: rules != Rules::Newest,
+            damage: Some((rules, rule)),
         }
     }
 
@@ -230,11 +265,12 @@ impl Plan {
             start,
             ledger: Ledger::default(),
             calls: random.between(2, 6),
-            opening: vec![opening].into_iter(),
+            opening: vec![opening].into(),
             foundings: Some(size),
             known: None,
             up: 0,
             straggler: None,
+            moves: false,
             damage: None,
         }
     }
@@ -273,17 +309,43 @@ impl Plan {
         Plan::of(start, calls)
     }
 
+    /// Every move from a table with this first byte, and every way to be refused one: into buffers of the length that the form asks
+    /// for, of a byte less and more, and of none. Forms that there are not have the newest one's rows and lengths. The
+    /// lists are published, or any.
+    pub fn moves(random: &mut Random, form: u8, published: bool) -> Plan {
+        let used = random.between(2, 9);
+        let size = Size { used, capacity: random.between(used, 11), file_len: random.between(1, 40) };
+        let rules = Rules::of_form(form).unwrap_or_default();
+        let made = if published { tables::published(random, size) } else { unpublished(random, size) };
+        let mut start = match rules {
+            Rules::Newest => made,
+            _ => tables::without_windows(&made, rules),
+        };
+        start[0] = form;
+        let mut calls = Vec::new();
+        for to in MOVE_FORMS {
+            let right = length_in(to, size.capacity, size.file_len);
+            calls.extend([0, right - 1, right, right + 1].map(|length| Call::Move {
+                form: to,
+                to: random.bytes(length),
+                taken: false,
+            }));
+        }
+        Plan::of(start, calls)
+    }
+
     /// These calls, and no others.
     fn of(start: Vec<u8>, calls: Vec<Call>) -> Plan {
         Plan {
             start,
             ledger: Ledger::default(),
             calls: calls.len(),
-            opening: calls.into_iter(),
+            opening: calls.into(),
             foundings: None,
             known: None,
             up: 0,
             straggler: None,
+            moves: false,
             damage: None,
         }
     }
@@ -303,7 +365,7 @@ impl Plan {
 
     /// The next call on a table that now holds these bytes.
     pub fn next(&mut self, random: &mut Random, bytes: &[u8]) -> Call {
-        if let Some(call) = self.opening.next() {
+        if let Some(call) = self.opening.pop_front() {
             return call;
         }
         if let Some(size) = self.foundings {
@@ -312,6 +374,21 @@ impl Plan {
         let used_before = self.known.as_ref().map(|table| table.all_used());
         self.known = Picture::of_any_form(bytes).or(self.known.take());
         let table = self.known.as_ref().expect("founded by now, or known from the start");
+        if self.moves {
+            return moving(random, table);
+        }
+        // Down and up again: the rows stay, with empty windows.
+        if table.rules == Rules::Newest && random.chance(1, 100) {
+            let form = random.pick(&[1, 2]);
+            let older = Rules::of_form(form).expect("an older form");
+            let [down, up] = [older, Rules::Newest].map(|rules| Call::Move {
+                form: rules.form().into(),
+                to: random.bytes(rules.table_length(table.capacity, table.file_len)),
+                taken: true,
+            });
+            self.opening.push_back(up);
+            return down;
+        }
         if let Some(straggler) = &mut self.straggler {
             let (call, last) = straggler.next(random, table);
             if last {
@@ -404,7 +481,7 @@ fn fitting(random: &mut Random, table: &Picture, up: u64) -> Call {
     let unlisted = table.unlisted() & up;
     let coordinators = if random.chance(1, 4) && unlisted != 0 { unlisted } else { up };
     let coordinator = random.row(coordinators);
-    match random.between(0, 105) {
+    match random.between(0, 107) {
         0..=29 => {
             let answering = answering(random, table, up, coordinator, Quorum::Read);
             let (offset, length) = range(random, table);
@@ -430,6 +507,7 @@ fn fitting(random: &mut Random, table: &Picture, up: u64) -> Call {
             let coordinators = if random.chance(1, 4) { unlisted } else { table.all_used() };
             choice_of(random, coordinators)
         }
+        105..=106 => moving(random, table),
         _ => {
             let used = random.between(1, table.capacity);
             let choice = choice(random);
@@ -543,6 +621,35 @@ fn choice_of(random: &mut Random, coordinators: u64) -> Call {
     Call::Choice { coordinator, kind: random.pick(&[0, 1]), set: random.bytes(bytes) }
 }
 
+/// The length of a table in this form; of one that there is not, in the newest.
+fn length_in(form: u64, capacity: usize, file_len: usize) -> usize {
+    let rules = u8::try_from(form).ok().and_then(Rules::of_form).unwrap_or_default();
+    rules.table_length(capacity, file_len)
+}
+
+/// A move, mostly one that there is, mostly into a buffer of the right length.
+fn moving(random: &mut Random, table: &Picture) -> Call {
+    let form = match table.rules {
+        _ if random.chance(1, 5) => random.pick(&MOVE_FORMS),
+        Rules::Newest => random.pick(&[1, 2]),
+        _ => 3,
+    };
+    let right = length_in(form, table.capacity, table.file_len);
+    let any = random.between(0, right);
+    let length = if random.chance(1, 4) { random.pick(&[0, right - 1, right + 1, any]) } else { right };
+    Call::Move { form, to: random.bytes(length), taken: false }
+}
+
+/// A table that cannot move to form 1: some list is empty, or does not lie in the published grid.
+fn unpublished(random: &mut Random, size: Size) -> Vec<u8> {
+    loop {
+        let bytes = tables::well_formed(random, size);
+        if !Table::decode(&bytes).expect("made well formed").is_published(&bytes) {
+            return bytes;
+        }
+    }
+}
+
 /// Gives one argument of the call a value at or beyond its limits.
 fn spoil(random: &mut Random, call: &mut Call, table: &Picture) {
     let (used, longest) = (table.used as u64, table.file_len as u64);
@@ -592,6 +699,13 @@ fn spoil(random: &mut Random, call: &mut Call, table: &Picture) {
             0 => *coordinator = edge(random, used, *coordinator),
             1 => *kind = edge(random, 1, *kind),
             _ => set.resize(random.pick(&[0, 1, 7, 9, 16]), 0),
+        },
+        Call::Move { form, to, .. } => match random.between(0, 1) {
+            0 => *form = edge(random, 3, *form),
+            _ => {
+                let length = to.len();
+                to.resize(random.pick(&[0, length.saturating_sub(1), length + 1, length + 576]), 0);
+            }
         },
     }
 }
@@ -657,6 +771,29 @@ mod tests {
                 answers.into_iter().collect::<Vec<_>>(),
                 [(0, used * 2), (2, 8 * 7 * 4), (4, used * 5 * 4), (5, used * 2 * 3)]
             );
+        }
+    }
+
+    #[test]
+    fn every_move_is_tried() {
+        for (form, published) in MOVED_FORMS.into_iter().flat_map(|form| [(form, true), (form, false)]) {
+            let mut random = Random::new(6, form.into());
+            let mut plan = Plan::moves(&mut random, form, published);
+            let mut table = plan.table();
+            let mut answers = std::collections::BTreeMap::new();
+            for _ in 0..plan.calls() {
+                let call = plan.next(&mut random, &table);
+                *answers.entry(call.refer(Engine::default(), &mut table).result >> 32).or_insert(0) += 1;
+            }
+            // Eight forms, and four buffers for each. By the scope alone a table has no other lists.
+            let expected = match (form, published) {
+                (0 | 4.., _) | (1, false) => vec![(1, 32)],
+                (1 | 2, true) => vec![(0, 1), (12, 31)],
+                (2, false) => vec![(0, 1), (12, 27), (15, 4)],
+                (3, true) => vec![(0, 2), (12, 30)],
+                (3, false) => vec![(0, 1), (12, 27), (15, 4)],
+            };
+            assert_eq!(answers.into_iter().collect::<Vec<_>>(), expected, "form {form}");
         }
     }
 

@@ -82,7 +82,7 @@ impl Guard {
     /// Is every canary alive?
     pub fn intact(&mut self) -> bool {
         let canaries = canaries(self.offset, self.length);
-        self.memory()[canaries].iter().all(|&byte| byte == CANARY)
+        self.memory()[canaries] == [CANARY; CANARIES]
     }
 
     fn memory(&mut self) -> &mut [u8] {

@@ -69,11 +69,12 @@ fn expect_founded(capacity: usize, names: &[u16], choice: u64, calls: &[(Call, u
     expect_from(&blank(capacity, 4), &[&[founding], calls].concat())
 }
 
-/// The same, founded before there were requests and taken over.
+/// The same, founded before there were requests and carried over from form 1.
 fn expect_carried_over(names: &[u16], calls: &[(Call, u64, u64)]) -> Vec<u8> {
-    let case = carried_over(names, 4);
-    assert_eq!(marks(&case.table), vec![0; names.len()]);
-    expect_from(&case, calls)
+    let (case, up) = carried_over(names, 4);
+    let up = (up, 0, names.len() as u64);
+    assert_eq!(expect_from(&case, std::slice::from_ref(&up)), vec![0; names.len()]);
+    expect_from(&case, &[&[up], calls].concat())
 }
 
 fn expect_from(case: &Case, calls: &[(Call, u64, u64)]) -> Vec<u8> {
@@ -86,16 +87,17 @@ fn expect_from(case: &Case, calls: &[(Call, u64, u64)]) -> Vec<u8> {
     marks(trial.table())
 }
 
-/// The machines as a founding by the scope's rules alone leaves them, with empty windows in the newest form.
-fn carried_over(names: &[u16], file_len: usize) -> Case {
+/// The machines as a founding by the scope's rules alone leaves them, in form 1; and the move to the newest form, which the calls
+/// go on in.
+fn carried_over(names: &[u16], file_len: usize) -> (Case, Call) {
     let founding = found(names.len(), names, file_len, WIDE_TABLE);
     let engine = Engine { rules: Rules::Published, ..Engine::default() };
     let mut table = vec![0; engine.rules.table_length(names.len(), file_len)];
     let mut ledger = Ledger::published();
     let answer = founding.refer(engine, &mut table);
     ledger.hear(&founding, &answer).expect("a plain founding");
-    ledger.take_over();
-    Case { table: tables::with_empty_windows(&table), ledger, ..blank(names.len(), file_len) }
+    let up = Call::Move { form: 3, to: vec![0xee; Table::length(names.len(), file_len)], taken: true };
+    (Case { table, ledger, ..blank(names.len(), file_len) }, up)
 }
 
 /// The grid mark of each row.
@@ -478,6 +480,119 @@ fn a_write_on_all_that_answered_marks_a_joined_row() {
     );
 }
 
+/// What row t gets from row f: how many versions it is behind, how many patches f's window has, and whether t's contents are then
+/// the sender's.
+fn sent(trial: &mut Trial, f: usize, t: usize) -> (usize, usize, bool) {
+    let step = trial.step(&send(f as u64, t as u64, &[f, t])).expect("no difference");
+    let sent = step.sent.unwrap_or_else(|| panic!("{} to {t} was refused by {}", f, step.result >> 32));
+    (sent.behind, sent.patches, sent.like_whole)
+}
+
+/// Four machines and a file of 40 bytes. Row 4 stays away while the others write these patches, all of them taking part, and is
+/// marked when it is back.
+fn row_4_behind(archive: &mut Archive, patches: &[usize]) -> (Vec<u8>, Ledger) {
+    let mut trial = Trial::new(archive, Engine::default(), &blank(4, 40));
+    let mut make = |call: &Call| assert_eq!(trial.step(call).map(|step| step.result >> 32), Ok(0), "{call}");
+    make(&found(4, &[10, 20, 30, 40], 40, WIDE_TABLE));
+    make(&check(1, &[1, 2, 3]));
+    for (number, &length) in (1..).zip(patches) {
+        let (coordinator, answering, offset) = (1, set(&[1, 2, 3]), number % 8);
+        let patch = vec![number as u8; length];
+        make(&Call::Write { coordinator, answering, offset, patch, called: vec![0] });
+    }
+    make(&check(1, &[1, 2, 3, 4]));
+    trial.into_state()
+}
+
+/// A window reaches back sixteen versions, or to the last long patch.
+#[test]
+fn sends_by_window_and_whole() {
+    let mut archive = Archive::new();
+    let (short, mut cut) = ([7; 17], [7; 17]);
+    cut[12] = 33;
+    for (patches, behind, kept) in [
+        (&short[..1], 1, 1),
+        (&short[..15], 15, 15),
+        (&short[..16], 16, 16),
+        (&short[..], 17, 16),
+        (&cut[..], 17, 4),
+        (&cut[..13], 13, 0),
+    ] {
+        let (table, ledger) = row_4_behind(&mut archive, patches);
+        let mut trial = Trial::resume(&mut archive, Engine::default(), table, ledger);
+        assert_eq!(sent(&mut trial, 1, 4), (behind, kept, true));
+    }
+}
+
+/// Where the contents of a row that is behind are not what its version says, a send by window leaves what it does not touch.
+#[test]
+fn a_send_by_window_where_no_founding_leads() {
+    let mut archive = Archive::new();
+    for (count, like_whole) in [(1, false), (16, false), (17, true)] {
+        let (mut table, _) = row_4_behind(&mut archive, &vec![7; count]);
+        let judged = Table::decode(&table).expect("well formed");
+        judged.contents_mut(&mut table, 4).fill(0xee);
+        let mut trial = Trial::resume(&mut archive, Engine::default(), table, Ledger::default());
+        assert_eq!(sent(&mut trial, 1, 4), (count, count.min(16), like_whole));
+        let after = trial.table();
+        let kept = judged.contents(after, 4).iter().filter(|&&byte| byte == 0xee).count();
+        assert_eq!(kept > 0, !like_whole);
+    }
+}
+
+/// After a move down and up again windows are empty: the next send is whole, and from then on patches are kept again.
+#[test]
+fn windows_are_empty_after_a_move_down_and_up() {
+    let mut archive = Archive::new();
+    let (table, ledger) = row_4_behind(&mut archive, &[7; 5]);
+    let mut trial = Trial::resume(&mut archive, Engine::default(), table.clone(), ledger);
+    for rules in [Rules::Published, Rules::Newest] {
+        let to = vec![0xee; rules.table_length(4, 40)];
+        let moving = Call::Move { form: rules.form().into(), to, taken: true };
+        assert_eq!(trial.step(&moving).map(|step| step.result), Ok(4));
+    }
+    assert_ne!(trial.table(), table);
+    assert_eq!(sent(&mut trial, 1, 4), (5, 0, true));
+    assert_eq!(trial.step(&write(1, &[1, 2, 3])).map(|step| step.result), Ok(6));
+    let step = trial.step(&write(1, &[1, 2, 3])).expect("no difference");
+    assert_eq!(step.added.map(|added| added.patches), Some(1));
+}
+
+/// A table of form 1 goes on by the scope's rules alone; carried up it gives the same answers and rows, until a list of five is
+/// laid or a request's call is made.
+#[test]
+fn a_table_carried_up_answers_as_by_the_scope_alone() {
+    let mut archive = Archive::new();
+    let scope = Engine { rules: Rules::Published, ..Engine::default() };
+    let (mut made, mut fives) = ([0; 5], 0);
+    for case in 0..600 {
+        let mut random = Random::new(12, case);
+        let mut plan = Plan::carried_over(&mut random);
+        let mut older = plan.table();
+        let up = plan.next(&mut random, &older);
+        let mut newest = archive.call(&mut older.clone(), &up).expect("no stray write").buffer;
+        for _ in 0..plan.calls() {
+            let call = plan.next(&mut random, &newest);
+            let answer = match call {
+                Call::Read { .. } | Call::Write { .. } | Call::Send { .. } | Call::Check { .. } => {
+                    archive.call(&mut newest, &call).expect("no stray write")
+                }
+                _ => continue,
+            };
+            let expected = call.refer(scope, &mut older);
+            assert_eq!(answer, expected, "case {case}: {call}");
+            made[call.kind()] += usize::from(answer.result >> 32 == 0);
+            let table = Picture::of(&newest).expect("well formed");
+            if table.rows.iter().any(|row| row.list.mark != 0) {
+                fives += 1;
+                break;
+            }
+            assert_eq!(tables::without_windows(&newest, scope.rules), older, "case {case}: {call}");
+        }
+    }
+    assert!(made[1..].iter().all(|&done| done > 300) && fives > 50, "{made:?} {fives}");
+}
+
 #[test]
 fn every_length_of_range_buffer_patch_and_number_called() {
     let names = [7, 70, 700, 7000];
@@ -614,34 +729,58 @@ fn every_call(table: &[u8], mark: u8) -> Vec<Call> {
     calls
 }
 
-#[test]
-fn all_short_histories_on_few_machines() {
-    let few: [(usize, &[u16], u64, u8); 15] = [
-        (1, &[900], WIDE_TABLE, 8),
-        (2, &[5, 6], WIDE_TABLE, 8),
-        (3, &[31, 500, 501], WIDE_TABLE, 5),
-        (4, &[10, 21, 35, 64], WIDE_TABLE, 4),
-        (5, &[10, 21, 35, 64, 70], WIDE_TABLE, 3),
-        // With room to join.
-        (3, &[900], WIDE_TABLE, 6),
-        (3, &[5, 7], WIDE_TABLE, 6),
-        (4, &[5, 7], WIDE_TABLE, 4),
-        (4, &[31, 500, 502], WIDE_TABLE, 4),
-        (5, &[10, 21, 35, 64], WIDE_TABLE, 3),
-        // Tall.
-        (1, &[900], TALL_TABLE, 8),
-        (2, &[5, 6], TALL_TABLE, 8),
-        (3, &[5, 7], TALL_TABLE, 6),
-        (5, &[10, 21, 35, 64, 70], TALL_TABLE, 2),
-        (6, &[10, 21, 35, 64, 70, 81], TALL_TABLE, 2),
-    ];
-    for (capacity, names, choice, depth) in few {
+/// So many rows, names, the choice of the founding, and how many calls deep.
+type Machines = (usize, &'static [u16], u64, u8);
+
+fn explore_all(few: &[Machines]) {
+    for &(capacity, names, choice, depth) in few {
         let calls = Explorer::explore(capacity, names, choice, depth);
         let machines = names.len();
         println!("{machines} machines, {capacity} rows, choice {choice}, {depth} calls deep: {calls} calls");
         assert!(calls > 0);
     }
-    let Case { table, ledger, .. } = carried_over(&[10, 21, 35, 64, 70], 1);
+}
+
+#[test]
+fn all_short_histories_on_few_machines() {
+    explore_all(&[
+        (1, &[900], WIDE_TABLE, 8),
+        (2, &[5, 6], WIDE_TABLE, 8),
+        (3, &[31, 500, 501], WIDE_TABLE, 5),
+        (4, &[10, 21, 35, 64], WIDE_TABLE, 4),
+        (5, &[10, 21, 35, 64, 70], WIDE_TABLE, 3),
+    ]);
+}
+
+#[test]
+fn all_short_histories_with_room_to_join() {
+    explore_all(&[
+        (3, &[900], WIDE_TABLE, 6),
+        (3, &[5, 7], WIDE_TABLE, 6),
+        (4, &[5, 7], WIDE_TABLE, 4),
+        (4, &[31, 500, 502], WIDE_TABLE, 4),
+        (5, &[10, 21, 35, 64], WIDE_TABLE, 3),
+    ]);
+}
+
+#[test]
+fn all_short_histories_on_few_tall_machines() {
+    explore_all(&[
+        (1, &[900], TALL_TABLE, 8),
+        (2, &[5, 6], TALL_TABLE, 8),
+        (3, &[5, 7], TALL_TABLE, 6),
+        (5, &[10, 21, 35, 64, 70], TALL_TABLE, 2),
+        (6, &[10, 21, 35, 64, 70, 81], TALL_TABLE, 2),
+    ]);
+}
+
+#[test]
+fn all_short_histories_of_five_carried_over() {
+    let (case, up) = carried_over(&[10, 21, 35, 64, 70], 1);
+    let mut archive = Archive::new();
+    let mut trial = Trial::new(&mut archive, Engine::default(), &case);
+    trial.step(&up).expect("no difference");
+    let (table, ledger) = trial.into_state();
     let calls = Explorer::explore_from(&table, &ledger, 3);
     println!("5 machines carried over, 3 calls deep: {calls} calls");
     assert!(calls > 0);

@@ -25,7 +25,7 @@ pub use report::Counts;
 pub use trial::{Case, Failure};
 
 use archive::Archive;
-use generate::Plan;
+use generate::{Plan, MOVED_FORMS};
 use guard::Edge;
 use reference::{Blunder, Engine};
 use shrink::Shrinker;
@@ -89,16 +89,21 @@ impl Run {
         archive::now_in(self.seed, number);
         let mut random = Random::new(self.seed, number);
         let edge = if random.chance(1, 2) { Edge::Start } else { Edge::End };
-        // The first cases try every chart, and every choice on a few tables, in lists against one edge and against the other.
+        // The first cases try every chart, and every choice and move on a few tables, in lists against one edge and against the other.
         let (edge, mut plan) = match number {
             0 => (Edge::Start, Plan::charts(&mut random)),
             1 => (Edge::End, Plan::charts(&mut random)),
             2..=7 if number % 2 == 0 => (Edge::Start, Plan::choices(&mut random)),
             2..=7 => (Edge::End, Plan::choices(&mut random)),
+            8..36 => {
+                let edge = if number % 2 == 0 { Edge::Start } else { Edge::End };
+                let (form, published) = (MOVED_FORMS[(number as usize - 8) / 4], number % 4 < 2);
+                (edge, Plan::moves(&mut random, form, published))
+            }
             _ => (edge, Plan::pick(&mut random)),
         };
-        if let Some(rule) = plan.damage {
-            self.counts.add_damage(rule);
+        if let Some((rules, rule)) = plan.damage {
+            self.counts.add_damage(rules, rule);
         }
         let mut case = Case { table: plan.table(), ledger: plan.ledger(), calls: Vec::new(), edge };
         let mut trial = Trial::new(&mut self.archive, self.reference, &case).slipping(self.slip);

@@ -67,7 +67,7 @@ impl Relay {
         match call {
             // The table of a founding is lent whole, and shipped whole.
             Call::Found { .. } if answer.result >> 32 == 0 => *self = Relay::open(whole, self.slip)?,
-            Call::Found { .. } | Call::Chart { .. } => {}
+            Call::Found { .. } | Call::Chart { .. } | Call::Move { .. } => {}
             Call::Join { .. } => self.join(archive, call, answer)?,
             _ => self.gather_and_call(archive, call, answer)?,
         }

@@ -2,9 +2,10 @@
 
 use crate::call::Call;
 use crate::damage;
+use crate::generate::MOVE_FORMS;
 use crate::tables::Picture;
 use reference::window::RECORDS;
-use reference::{Quorum, Shape};
+use reference::{Quorum, Rules, Shape};
 use std::collections::{BTreeMap, BTreeSet};
 use std::fmt;
 use std::ops::RangeInclusive;
@@ -37,8 +38,12 @@ pub struct Counts {
     sent: [[u64; SENDS.len()]; 2],
     /// For each length of `PATCHES` and each of `FILLS`, how many done writes added such a patch to such a window.
     added: [[u64; FILLS.len()]; PATCHES.len()],
-    /// How many tables broke each rule.
-    damages: [u64; damage::RULES.len()],
+    /// For each form, how many tables of it broke each rule.
+    damages: [[u64; damage::RULES.len()]; Rules::ALL.len()],
+    /// For each form, each of `MOVE_FORMS` and each of `BUFFERS`, how many moves of well-formed tables were so.
+    moved: [[[u64; BUFFERS.len()]; MOVE_FORMS.len()]; Rules::ALL.len()],
+    /// For each form, how many moves to form 1 were of tables of each of `UNPUBLISHED`, whose rules allow it.
+    unpublished: [[u64; UNPUBLISHED.len()]; Rules::ALL.len()],
     /// How many well-formed tables were looked at through the wrapper, and how many sends would be done there.
     looked: u64,
     sends: u64,
@@ -69,6 +74,39 @@ impl Sent {
         self.behind <= self.patches
     }
 }
+
+/// What a move was asked of a well-formed table.
+#[derive(Clone, Copy, Debug, PartialEq, Eq)]
+pub struct Moved {
+    /// The rules of the table's own form.
+    pub from: Rules,
+    pub form: u64,
+    /// How much longer the buffer is than that form asks for, or the newest if there is no such form.
+    pub over: isize,
+    /// Has a list a grid mark? Has a row an empty list?
+    pub marked: bool,
+    pub unlisted: bool,
+}
+
+impl Moved {
+    pub fn of(table: &Picture, bytes: &[u8], form: u64, length: usize) -> Moved {
+        let rules = u8::try_from(form).ok().and_then(Rules::of_form).unwrap_or_default();
+        let right = rules.table_length(table.capacity, table.file_len);
+        Moved {
+            from: table.rules,
+            form,
+            over: length as isize - right as isize,
+            marked: (1..=table.used).any(|row| table.row(row).list.mark != 0),
+            unlisted: !table.is_published(bytes) && table.unlisted() != 0,
+        }
+    }
+}
+
+/// The lengths of a move's buffer that must come.
+const BUFFERS: [(&str, isize); 3] = [("a byte short", -1), ("right", 0), ("a byte long", 1)];
+
+/// The tables that cannot move to form 1.
+const UNPUBLISHED: [&str; 2] = ["a grid mark", "an empty list"];
 
 /// What a done write added to the window of a row.
 #[derive(Clone, Copy, Debug, PartialEq, Eq)]
@@ -114,10 +152,14 @@ const POSSIBLE: [&[u32]; KINDS] = [
     &[0, 1, 13, 14],
     &[0, 5, 17],
     &[0, 1, 2, 4, 5],
+    &[0, 1, 12, 15],
 ];
 
 /// The kinds of calls that are not asked what the table holds: founding and chart.
 const TABLELESS: [usize; 2] = [0, 6];
+
+/// A move looks at every row: it has no twin.
+const MOVE: usize = 8;
 
 /// The kinds of calls that the scope alone puts question 1 to.
 const PUBLISHED: RangeInclusive<usize> = 1..=4;
@@ -238,6 +280,8 @@ pub struct Step {
     /// What a done send did, and what a done write added to a window.
     pub sent: Option<Sent>,
     pub added: Option<Added>,
+    /// What a move was asked of a well-formed table.
+    pub moved: Option<Moved>,
 }
 
 impl Default for Counts {
@@ -254,7 +298,9 @@ impl Default for Counts {
             relayed: Default::default(),
             sent: Default::default(),
             added: Default::default(),
-            damages: [0; damage::RULES.len()],
+            damages: [[0; damage::RULES.len()]; Rules::ALL.len()],
+            moved: Default::default(),
+            unpublished: Default::default(),
             looked: 0,
             sends: 0,
         }
@@ -283,6 +329,19 @@ impl Counts {
             let lengths = PATCHES.iter().zip(&mut self.added).find(|(length, _)| **length == added.length);
             lengths.into_iter().for_each(|(_, fills)| fills[fill(added.patches)] += 1);
         }
+        if let Some(Moved { from, form, over, marked, unlisted }) = step.moved {
+            let to = MOVE_FORMS.iter().position(|&such| such == form);
+            let buffer = BUFFERS.iter().position(|&(_, such)| such == over);
+            if let (Some(to), Some(buffer)) = (to, buffer) {
+                self.moved[from as usize][to][buffer] += 1;
+            }
+            if form == 1 {
+                let counts = &mut self.unpublished[from as usize];
+                // One ground at a time.
+                counts[0] += u64::from(marked && !unlisted);
+                counts[1] += u64::from(unlisted && !marked);
+            }
+        }
         self.looked += u64::from(step.sends.is_some());
         self.sends += step.sends.unwrap_or(0) as u64;
         self.grounds[call.kind()][step.ground as usize] += 1;
@@ -295,9 +354,9 @@ impl Counts {
         }
     }
 
-    /// A case began with a table that breaks this rule.
-    pub fn add_damage(&mut self, rule: usize) {
-        self.damages[rule] += 1;
+    /// A case began with a table of this form that breaks this rule.
+    pub fn add_damage(&mut self, rules: Rules, rule: usize) {
+        self.damages[rules as usize][rule] += 1;
     }
 
     /// How many sends went by window and left what a whole one would have, and how many did not.
@@ -346,7 +405,7 @@ impl Counts {
             }
             let grounds = Ground::ALL.into_iter().filter(|&ground| self.grounds[kind][ground as usize] == 0);
             missing.extend(grounds.map(|ground| format!("{name} on a {}", ground.shown())));
-            let sizes = (1..=64).filter(|&used| self.twins[kind][used] == 0);
+            let sizes = (1..=64).filter(|&used| self.twins[kind][used] == 0 && kind != MOVE);
             missing.extend(sizes.map(|used| format!("twin of a {name} with {used} rows")));
             if PUBLISHED.contains(&kind) && self.published[kind] == 0 {
                 missing.push(format!("{name} by the scope's rules alone"));
@@ -373,8 +432,20 @@ impl Counts {
             let never = FILLS.iter().zip(counts).filter(|&(_, count)| count == 0);
             missing.extend(never.map(|(fill, _)| format!("write of {length} bytes into {fill}")));
         }
-        let unbroken = damage::RULES.iter().zip(self.damages).filter(|&(_, count)| count == 0);
-        missing.extend(unbroken.map(|((rule, ..), _)| format!("table with a broken rule: {rule}")));
+        for (form, rules) in (1..).zip(Rules::ALL) {
+            let broken = damage::RULES.iter().zip(self.damages[rules as usize]);
+            let unbroken = broken.filter(|&((_, needs, _), count)| count == 0 && needs.allow(rules));
+            missing.extend(unbroken.map(|((rule, ..), _)| format!("table of form {form} with {rule}")));
+            for (to, counts) in MOVE_FORMS.iter().zip(self.moved[rules as usize]) {
+                let never = BUFFERS.iter().zip(counts).filter(|&(_, count)| count == 0);
+                missing.extend(
+                    never.map(|((buffer, _), _)| format!("move from form {form} to {to}, buffer {buffer}")),
+                );
+            }
+            let never = UNPUBLISHED.iter().zip(self.unpublished[rules as usize]);
+            let never = never.filter(|&(_, count)| count == 0 && rules != Rules::Published);
+            missing.extend(never.map(|(ground, _)| format!("move from form {form} to 1 with {ground}")));
+        }
         let untold = CHOICES.into_iter().zip(self.chosen).filter(|&(_, count)| count == 0);
         missing.extend(untold.map(|(choice, _)| format!("choice of a {choice}")));
         let not_relayed = Call::KINDS.into_iter().zip(self.relayed).filter(|&(_, count)| count == 0);
@@ -464,6 +535,7 @@ mod tests {
             Call::Join { name: 1 },
             Call::Chart { length: 1, mark: 0, list: vec![0; 128] },
             Call::Choice { coordinator: 1, kind: 0, set: vec![0; 8] },
+            Call::Move { form: 3, to: vec![0; 8], taken: false },
         ]
     }
 
@@ -485,6 +557,7 @@ mod tests {
             sends: None,
             sent: None,
             added: None,
+            moved: None,
         }
     }
 
@@ -496,13 +569,29 @@ mod tests {
         let choices = (4 * 4 - 1) + 8;
         let (relayed, listed) = (KINDS + 1, 1);
         let windows = (7 + 6) + 4 * 3;
-        let broken = damage::RULES.len();
-        let of_tables = answers + 6 * (64 + Ground::ALL.len()) + 4 + 12;
+        let rules_of = |rules: Rules| {
+            (0..damage::RULES.len())
+                .filter(move |&rule| damage::RULES[rule].1.allow(rules))
+                .map(move |rule| (rules, rule))
+        };
+        let broken: Vec<(Rules, usize)> = Rules::ALL.into_iter().flat_map(rules_of).collect();
+        let moves = 3 * 8 * 3 + 2 * 2;
+        let of_tables = answers + 6 * 64 + 7 * Ground::ALL.len() + 4 + 12;
         assert_eq!(
             counts.missing().len(),
-            of_tables + called + choices + relayed + listed + windows + broken
+            of_tables + called + choices + relayed + listed + windows + broken.len() + moves
         );
-        (0..broken).for_each(|rule| counts.add_damage(rule));
+        broken.into_iter().for_each(|(rules, rule)| counts.add_damage(rules, rule));
+        for from in Rules::ALL {
+            for (form, (_, over)) in
+                MOVE_FORMS.into_iter().flat_map(|form| BUFFERS.map(|buffer| (form, buffer)))
+            {
+                for (marked, unlisted) in [(true, false), (false, true)] {
+                    let moved = Moved { from, form, over, marked, unlisted };
+                    counts.add(&calls()[MOVE], Step { moved: Some(moved), ..step(0) });
+                }
+            }
+        }
         for founded in [false, true] {
             for (behind, patches, like_whole) in [
                 (1, 1, true),
@@ -590,7 +679,7 @@ mod tests {
     #[test]
     fn no_other_answer_may_come() {
         let mut counts = Counts::default();
-        for (call, answer) in calls().iter().zip([13, 14, 15, 8, u32::MAX, 12, 6, 3]) {
+        for (call, answer) in calls().iter().zip([13, 14, 15, 8, u32::MAX, 12, 6, 3, 2]) {
             counts.add(call, step(answer));
         }
         let others = [
@@ -602,6 +691,7 @@ mod tests {
             "join 12",
             "chart 6",
             "choice 3",
+            "move 2",
         ];
         assert_eq!(counts.impossible(), others);
     }
@@ -610,7 +700,7 @@ mod tests {
     fn every_refusal_has_a_column() {
         let shown = Counts::default().to_string();
         let heads: Vec<&str> = shown.lines().next().expect("a line of heads").split_whitespace().collect();
-        assert_eq!(heads.join(" "), "done 1 2 3 4 5 6 7 8 9 10 11 12 13 14 17");
+        assert_eq!(heads.join(" "), "done 1 2 3 4 5 6 7 8 9 10 11 12 13 14 15 17");
         assert_eq!(shown.lines().count(), 1 + KINDS);
     }
 }

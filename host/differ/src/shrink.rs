@@ -126,6 +126,14 @@ fn plainer(call: &Call) -> Vec<Call> {
                 vec![with(plain)]
             }
         }
+        Call::Move { form, to, taken } => {
+            let plain = vec![0xff; to.len()];
+            if plain == *to {
+                Vec::new()
+            } else {
+                vec![Call::Move { form: *form, to: plain, taken: *taken }]
+            }
+        }
         Call::Found { capacity, file_len, names, .. } => {
             vec![Call::Found { capacity: *capacity, file_len: *file_len, names: names.clone(), choice: 0 }]
         }

@@ -122,8 +122,43 @@ pub fn names_in_bytes(names: &[u16]) -> Vec<u8> {
     names.iter().flat_map(|name| name.to_le_bytes()).collect()
 }
 
+/// A well-formed table of this form.
+pub fn well_formed_by(random: &mut Random, size: Size, rules: Rules) -> Vec<u8> {
+    match rules {
+        Rules::Newest => well_formed(random, size),
+        Rules::Windowless => without_windows(&well_formed(random, size), rules),
+        Rules::Published => without_windows(&published(random, size), rules),
+    }
+}
+
 /// A well-formed table with a shuffled chain, several epochs, marks, lists and windows.
 pub fn well_formed(random: &mut Random, size: Size) -> Vec<u8> {
+    let lists = any_lists(random);
+    made(random, size, lists)
+}
+
+/// The same, with a list in the published grid in each row.
+pub fn published(random: &mut Random, size: Size) -> Vec<u8> {
+    made(random, size, Lists { shape: Shape::Wide, unlisted: 0, marked: false })
+}
+
+/// Which lists a table has.
+#[derive(Clone, Copy)]
+struct Lists {
+    shape: Shape,
+    /// So many tenths of the rows have none.
+    unlisted: u64,
+    /// May a list of five lie in the new grid?
+    marked: bool,
+}
+
+/// In half of the tables some rows, or all, have an empty list. A third of the tables are tall.
+fn any_lists(random: &mut Random) -> Lists {
+    let unlisted = random.pick(&[0, 0, 0, 0, 1, 3, 6, 10]);
+    Lists { shape: shape(random), unlisted, marked: true }
+}
+
+fn made(random: &mut Random, size: Size, lists: Lists) -> Vec<u8> {
     let Size { used, capacity, file_len } = size;
     let mut chain: Vec<usize> = (1..=used).collect();
     random.shuffle(&mut chain);
@@ -131,7 +166,7 @@ pub fn well_formed(random: &mut Random, size: Size) -> Vec<u8> {
     let table = Table { rules, capacity, used, file_len, chain: chain.iter().copied().collect() };
     let mut bytes = vec![0; Table::length(capacity, file_len)];
     table.write_header(&mut bytes, chain[0]);
-    for (row, state) in (1..).zip(used_rows(random, &chain)) {
+    for (row, state) in (1..).zip(used_rows(random, &chain, lists)) {
         table.write_row(&mut bytes, row, &state);
         random.fill(table.contents_mut(&mut bytes, row));
         any_window(random, &table, &mut bytes, row);
@@ -198,10 +233,10 @@ pub fn with_empty_windows(bytes: &[u8]) -> Vec<u8> {
     newest
 }
 
-fn used_rows(random: &mut Random, chain: &[usize]) -> Vec<Row> {
+fn used_rows(random: &mut Random, chain: &[usize], lists: Lists) -> Vec<Row> {
     let count = chain.len();
     let names = names(random, count);
-    let epochs = epochs(random, count);
+    let epochs = epochs(random, count, lists);
     let lowest_version = random.pick(&[0, 0, 0, 1, 14, 16, 30, LIMIT - 3, LIMIT - 1]);
     let stale_chance = random.pick(&[0, 0, 1, 5]);
     let spread = random.pick(&[1, 2, 4, 18]);
@@ -236,24 +271,22 @@ fn put_behind(random: &mut Random, rows: &mut [Row]) {
 /// An epoch number that only rows with an empty list have in a generated table.
 const LONE_EPOCH: u32 = 900_000;
 
-/// For each row its epoch number and the list of that epoch. In half of the tables some rows, or all, have an empty list,
-/// and any epoch number. A third of the tables are tall.
-fn epochs(random: &mut Random, count: usize) -> Vec<(u32, Laid)> {
+/// For each row its epoch number and the list of that epoch; rows with an empty list have any epoch number.
+fn epochs(random: &mut Random, count: usize, lists: Lists) -> Vec<(u32, Laid)> {
     let kinds = random.pick(&[1, 1, 2, 4]);
     let lowest = random.pick(&[0, 0, 0, LIMIT - kinds as u32, LIMIT + 1 - kinds as u32]);
     let outside = random.pick(&[0, 5, 9, 10]);
-    let shape = shape(random);
     let epoch_of: Vec<u32> = (0..count).map(|_| lowest + random.between(0, kinds - 1) as u32).collect();
     let list_of: Vec<Laid> = (0..kinds as u32)
         .map(|kind| {
             let own = (1..).zip(&epoch_of).filter(|(_, &epoch)| epoch == lowest + kind);
             let own = own.fold(0, |list, (row, _)| list | rows::only(row));
-            list(random, rows::first(count), own, outside, shape)
+            let laid = list(random, rows::first(count), own, outside, lists.shape);
+            Laid { mark: if lists.marked { laid.mark } else { 0 }, ..laid }
         })
         .collect();
-    let unlisted = random.pick(&[0, 0, 0, 0, 1, 3, 6, 10]);
     let of_row = |&epoch: &u32| {
-        if random.chance(unlisted, 10) {
+        if random.chance(lists.unlisted, 10) {
             (random.pick(&[epoch, epoch, 0, LONE_EPOCH, LIMIT]), Laid::EMPTY)
         } else {
             (epoch, list_of[(epoch - lowest) as usize])
@@ -390,6 +423,20 @@ mod tests {
         assert!(counts.iter().all(|&count| count > 20), "{counts:?}");
         assert!(lengths[1..].iter().all(|&count| count > 20), "{lengths:?}");
         assert!(shuffled > 1_000 && behind.iter().all(|&count| count > 20), "{shuffled} {behind:?}");
+    }
+
+    #[test]
+    fn tables_of_every_form_are_made() {
+        for case in 0..1_000 {
+            let mut random = Random::new(1, case);
+            let size = Size::pick(&mut random);
+            for rules in Rules::ALL {
+                let bytes = well_formed_by(&mut random, size, rules);
+                let table = Picture::of_any_form(&bytes).expect("well formed");
+                assert_eq!((bytes[0], table.rules), (rules.form(), rules));
+            }
+            assert_eq!(Ground::of(Picture::of(&published(&mut random, size)).as_ref()), Ground::Published);
+        }
     }
 
     #[test]

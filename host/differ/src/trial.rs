@@ -6,11 +6,11 @@ use crate::guard::Edge;
 use crate::ledger::Ledger;
 use crate::random::Random;
 use crate::relay::{Relay, Slip};
-use crate::report::{choice_told, Added, Ground, Sent, Step};
+use crate::report::{choice_told, Added, Ground, Moved, Sent, Step};
 use crate::tables::{self, Picture};
 use crate::wrapper;
 use reference::window::WINDOW;
-use reference::{rows, Engine, Grid, Laid, Layout, Quorum, Row, Rules, Shape, Table, HEADER, TALL};
+use reference::{rows, Engine, Grid, Laid, Layout, Quorum, Row, Rules, Shape, Table, FORM, HEADER, TALL};
 
 /// Tables that are longer without their windows have no twin, and are not looked at through the wrapper: both take their time.
 const LONGEST: usize = 6_000;
@@ -87,15 +87,18 @@ impl<'a> Trial<'a> {
     /// Makes one call; gives what happened, or what is wrong with it.
     pub fn step(&mut self, call: &Call) -> Result<Step, String> {
         let before = self.table.clone();
-        let judged = Picture::of(&before);
+        // A move alone judges a table by its own form.
+        let judged =
+            if let Call::Move { .. } = call { Picture::of_any_form(&before) } else { Picture::of(&before) };
         let ground = Ground::of(judged.as_ref());
-        if self.ledger.is_open() && self.relay.is_none() {
+        if self.ledger.is_open() && self.relay.is_none() && before[0] == FORM {
             self.relay = Some(Relay::open(&before, self.slip)?);
         }
         let founded = self.ledger.is_open();
         let answer = self.archive.call(&mut self.table, call)?;
         self.refer(self.reference, call, &answer, &before)?;
         let sent = send_frame(call, &answer, judged.as_ref(), &before, &self.table, founded)?;
+        let moved = self.move_frame(call, &answer, judged.as_ref(), &before)?;
         let added = added(call, &answer, judged.as_ref(), &before, &self.table);
         let published = self.ask_published(call, &answer, &before, ground, sent)?;
         frame(call, &answer, &before, &self.table)?;
@@ -107,14 +110,22 @@ impl<'a> Trial<'a> {
             }
             None => (None, None),
         };
-        self.ledger.hear(call, &answer)?;
-        if self.ledger.is_open() && (self.table != before || !founded) {
-            let table = Picture::of(&self.table).ok_or("a founded history leaves a malformed table")?;
-            one_state_a_version(&table, &self.table)?;
+        // Every call but a move finds a table of an older form malformed; the book does not hear of it.
+        if answer.result >> 32 != 1 || before.first() == Some(&FORM) {
+            self.ledger.hear(call, &answer)?;
         }
         let relayed = self.relay.is_some();
         if let Some(relay) = &mut self.relay {
             relay.call(self.archive, call, &answer, &self.table)?;
+        }
+        if let (Call::Move { taken: true, .. }, 0) = (call, answer.result >> 32) {
+            self.table.clone_from(&answer.buffer);
+            self.relay = None;
+        }
+        if self.ledger.is_open() && (self.table != before || !founded) {
+            let table =
+                Picture::of_any_form(&self.table).ok_or("a founded history leaves a malformed table")?;
+            one_state_a_version(&table, &self.table)?;
         }
         let sends = self.look(&before)?;
         let called = (answer.called.len() == 1).then(|| answer.called[0]);
@@ -138,6 +149,7 @@ impl<'a> Trial<'a> {
             sends,
             sent,
             added,
+            moved,
         })
     }
 
@@ -154,6 +166,46 @@ impl<'a> Trial<'a> {
             return Ok(None);
         }
         wrapper::look(self.reference, &self.table, judged.as_ref())
+    }
+
+    /// A done move has the rows used as its value, and in its buffer the same rows, without windows or with empty ones. Back again
+    /// it gives the original bytes, or on the way up the same rows with empty windows. No move alters the table.
+    fn move_frame(
+        &mut self,
+        call: &Call,
+        answer: &Answer,
+        table: Option<&Picture>,
+        before: &[u8],
+    ) -> Result<Option<Moved>, String> {
+        let Call::Move { form, to, .. } = call else { return Ok(None) };
+        let Some(table) = table else {
+            return if answer.result >> 32 == 1 { Ok(None) } else { Err("a malformed table moved".into()) };
+        };
+        let moved = Moved::of(table, before, *form, to.len());
+        if answer.result >> 32 != 0 {
+            return Ok(Some(moved));
+        }
+        let rules = u8::try_from(*form).ok().and_then(Rules::of_form).ok_or("a move to no form was done")?;
+        let emptied = if table.rules == Rules::Newest {
+            tables::with_empty_windows(&tables::without_windows(before, Rules::Windowless))
+        } else {
+            before.to_vec()
+        };
+        let expected = match rules {
+            Rules::Newest => tables::with_empty_windows(before),
+            _ => tables::without_windows(before, rules),
+        };
+        same_bytes("moved table", &answer.buffer, &expected)?;
+        if answer.result != table.used as u64 || Picture::of_any_form(&answer.buffer).is_none() {
+            return Err(format!("a move leaves no table, or gives {}", answer.result));
+        }
+        let back = Call::Move { form: before[0].into(), to: vec![0xa7; before.len()], taken: false };
+        let returned = self.archive.call(&mut answer.buffer.clone(), &back)?;
+        if returned.result != answer.result {
+            return Err(format!("the way back: {}", result_shown(returned.result)));
+        }
+        same_bytes("table that went and came back,", &returned.buffer, &emptied)?;
+        Ok(Some(moved))
     }
 
     /// Compares what the archive gave and left with what the engine gives and leaves.
@@ -301,9 +353,9 @@ fn frame(call: &Call, answer: &Answer, before: &[u8], after: &[u8]) -> Result<()
             return Err("a chart altered the table".into());
         }
         return chart_frame(*length, list, answer);
-    } else if let Call::Choice { .. } = call {
+    } else if let Call::Choice { .. } | Call::Move { .. } = call {
         if before != after {
-            return Err("a choice altered the table".into());
+            return Err("a choice or a move altered the table".into());
         }
     } else if let Call::Join { name } = *call {
         return joining_frame(name, answer.result, before, after);
@@ -517,6 +569,7 @@ fn joining_frame(name: u16, value: u64, before: &[u8], after: &[u8]) -> Result<(
 mod tests {
     use super::*;
     use crate::tables::{self, Size};
+    use reference::OLDEST;
 
     /// Every byte counts: with another value in any one of them the joining is found out.
     #[test]
@@ -622,6 +675,90 @@ mod tests {
             );
         }
         assert_eq!((told(0, &[], &[]), told(0, &[9, 9], &[9, 9])), ([false; 2], [false; 2]));
+    }
+
+    /// Four machines; a send that went by window left the receiver as it should be, and another byte anywhere in its row is found
+    /// out, that of its contents in a founded history.
+    #[test]
+    fn a_wrong_send_is_found_out() {
+        let mut before = vec![0; Table::length(4, 3)];
+        let engine = Engine::default();
+        engine.found(&mut before, 4, 3, &tables::names_in_bytes(&[10, 20, 30, 40]), 0);
+        engine.check(&mut before, 1, 0b0111);
+        for byte in 1..=3 {
+            assert_eq!(engine.write(&mut before, 1, 0b0111, 0, &[byte], &mut [0]), byte.into());
+        }
+        engine.check(&mut before, 1, 0b1111);
+        let table = Picture::of(&before);
+        let mut after = before.clone();
+        let call = Call::Send { from: 1, to: 4, answering: 0b1111 };
+        let answer = call.refer(engine, &mut after);
+        let frame =
+            |after: &[u8], founded| send_frame(&call, &answer, table.as_ref(), &before, after, founded);
+        let sent = Sent { founded: true, behind: 3, patches: 3, like_whole: true };
+        assert_eq!(frame(&after, true), Ok(Some(sent)));
+        let judged = Picture::of(&after).expect("well formed");
+        assert_eq!(one_state_a_version(&judged, &after), Ok(()));
+        let contents = judged.contents_at(4)..judged.window_at(4);
+        for at in judged.row_at(4)..judged.row_at(5) {
+            let mut altered = after.clone();
+            altered[at] ^= 1;
+            // Bytes 26 to 31 of a row are zero in every well-formed table.
+            let of_no_field = (26..32).contains(&(at - judged.row_at(4)));
+            assert_eq!(frame(&altered, true).is_ok(), of_no_field, "byte {at}");
+            assert_eq!(frame(&altered, false).is_ok(), of_no_field || contents.contains(&at), "byte {at}");
+            let state = at >= judged.contents_at(4) || at == judged.row_at(4) + OLDEST;
+            let mut seen = judged.clone();
+            seen.rows[3].oldest = altered[judged.row_at(4) + OLDEST];
+            assert_eq!(one_state_a_version(&seen, &altered).is_err(), state, "byte {at}");
+        }
+        // A whole send leaves the sender's contents wherever it is made.
+        for row in 1..=4 {
+            judged.window_mut(&mut before, row).fill(0);
+            before[judged.row_at(row) + OLDEST] = 0;
+        }
+        let table = Picture::of(&before);
+        let mut after = before.clone();
+        let answer = call.refer(engine, &mut after);
+        let frame = |after: &[u8]| send_frame(&call, &answer, table.as_ref(), &before, after, false).is_ok();
+        assert!(frame(&after));
+        for at in contents {
+            after[at] ^= 1;
+            assert!(!frame(&after), "byte {at}");
+            after[at] ^= 1;
+        }
+    }
+
+    /// Every byte of the second buffer counts, the way back too.
+    #[test]
+    fn a_wrong_move_is_found_out() {
+        let mut archive = Archive::new();
+        for (rules, form) in
+            [(Rules::Published, 3), (Rules::Windowless, 3), (Rules::Newest, 1), (Rules::Newest, 2)]
+        {
+            let mut random = Random::new(5, form);
+            let size = Size { used: 3, capacity: 4, file_len: 2 };
+            let mut before = tables::published(&mut random, size);
+            if rules != Rules::Newest {
+                before = tables::without_windows(&before, rules);
+            }
+            let table = Picture::of_any_form(&before);
+            let target = Rules::of_form(form as u8).expect("a form");
+            let call = Call::Move { form, to: vec![7; target.table_length(4, 2)], taken: false };
+            let answer = call.refer(Engine::default(), &mut before);
+            let mut trial = Trial::resume(&mut archive, Engine::default(), before.clone(), Ledger::default());
+            let mut frame =
+                |answer: &Answer| trial.move_frame(&call, answer, table.as_ref(), &before).is_ok();
+            assert!(frame(&answer));
+            assert!(!frame(&Answer { result: answer.result + 1, ..answer.clone() }));
+            for at in 0..answer.buffer.len() {
+                let mut altered = answer.clone();
+                altered.buffer[at] ^= 1;
+                assert!(!frame(&altered), "byte {at}");
+            }
+            assert!(frame(&Answer { result: 12 << 32, ..answer.clone() }), "refused");
+            assert!(trial.move_frame(&call, &answer, None, &before).is_err(), "a malformed table moved");
+        }
     }
 
     /// A row in the wrong place of the chain has one link before it too, but the names no longer rise.

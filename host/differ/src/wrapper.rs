@@ -37,7 +37,7 @@ mod tests {
     use crate::damage;
     use crate::random::Random;
     use crate::tables::{self, Size};
-    use reference::{Blunder, Layout, Shape};
+    use reference::{Blunder, Layout, Rules, Shape};
 
     /// On tables that no founding leads to.
     #[test]
@@ -93,7 +93,9 @@ mod tests {
     #[test]
     fn damaged_tables_are_not_taken() {
         for case in 0..2_000 {
-            let (_, _, bytes) = damage::damaged(&mut Random::new(11, case));
+            let mut random = Random::new(11, case);
+            let rules = random.pick(&Rules::ALL);
+            let (_, bytes, _) = damage::damaged(&mut random, rules);
             assert_eq!(look(Engine::default(), &bytes, None), Ok(None), "case {case}");
             let error = Table::from_bytes(bytes).expect_err("damaged").to_string();
             assert!(error.contains("no table") || error.contains("of form "), "case {case}: {error}");
