@@ -14,3 +14,4 @@ pub mod Histories
 pub mod Cases
 pub mod Computed
 pub mod MoveClaimed
+pub mod SendClaimed

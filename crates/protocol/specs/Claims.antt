@@ -2,14 +2,16 @@
 use mathlib.Core.Path.{_≡_}
 use mathlib.Core.Bool.{Bool, true, false}
 use mathlib.Core.List.{List, [], _∷_, map}
-use Prim.Native.Nat.{ℕ, suc, _/_, _%_, _^_, _<_}
+use Prim.Native.Nat.{ℕ, suc, _-_, _/_, _%_, _^_, _<_}
+use lib.Dec.{leb}
 use lib.ListN.{length, take, drop}
 use Rattle.sets.specs.Upto.{Within}
 use Rattle.sets.specs.Sets.{has, losing}
 use Rattle.quorums.specs.declared.Kind.{Kind}
 use Rattle.quorums.specs.declared.Kind.the-variants.{Read, Write}
 use Rattle.fields.specs.declared.Laid.{Laid}
-use Rattle.fields.specs.Layout.{isEmpty, usedOf, nameOf, linkOf, rowsEnd, rowBytes}
+use Rattle.fields.specs.Layout.{get, version, isEmpty, usedOf, nameOf, linkOf, rowsEnd, rowBytes}
+use Rattle.window.specs.Windows.{patches, windowOf}
 use Rattle.table.specs.Chain.{orderOf}
 use Rattle.table.specs.WellFormed.{wellFormed}
 use Rattle.linking.specs.Linking.{inserted}
@@ -19,6 +21,7 @@ use Rattle.joining.specs.Claims.{OneMore}
 use Rattle.asking.specs.Asking.{Question, firstNo, before}
 use Rattle.protocol.specs.Lists.{seats, listQuorum, listChoice}
 use Rattle.protocol.specs.Polls.{Poll, highestEpoch, inForce, quorumHeld, workedOn}
+use Rattle.protocol.specs.Rows.{refreshedRow}
 use Rattle.protocol.specs.Calls.{Founding, Reading, Writing, Sending, Checking, Joining, Call, founding, join, read, write, send, check, Carrying, carry, Outcome, resultOf, questions, calledBy, lent, outcome}
 
 -- "In this order, each to the calls it names (2 and 3 to all but founding)", joining and a move: the numbers of the questions put to a call
@@ -187,6 +190,12 @@ JoinSees = (t u : List ℕ) (a : Joining) → EqualIn 0 t u → JoinsAlike t (ou
 -- a founding's outcome does not hang on what lay in the table
 unfoldable pub FoundsOnAnything : Type 0
 FoundsOnAnything = (t u : List ℕ) (a : Founding) → length t ≡ length u → outcome t (founding a) .refusal ≡ 0 → outcome t (founding a) ≡ outcome u (founding a)
+
+-- ---- sends
+-- "lays only the missing patches where the sender's window reaches back": then the sender's contents have no part in the row that the target comes to have
+unfoldable pub SendsByWindow : Type 0
+SendsByWindow = (source other row : List ℕ) → get version source ≡ get version other → windowOf source ≡ windowOf other
+    → leb (get version source - get version row) (length (patches (windowOf source))) ≡ true → refreshedRow source row ≡ refreshedRow other row
 
 -- ---- moves
 -- a done move leaves the table as it is, and in the second buffer the table carried over, right by the form asked for
