@@ -106,7 +106,12 @@ impl Relay {
             return Err(format!("of the rows {asked} the rows {changed} are shipped"));
         }
         for row in changed {
-            let bytes = after.row_bytes(row).unwrap_or_default().to_vec();
+            // What changed of the row is laid over what the machine holds.
+            let now = after.row_bytes(row).unwrap_or_default();
+            let mut bytes = self.machines[row - 1].clone();
+            for range in after.changed_ranges(&before, row) {
+                bytes[range.clone()].copy_from_slice(&now[range]);
+            }
             match self.slip {
                 Some(Slip::NothingShipped) => {}
                 Some(Slip::ShippedLate) if bytes[STALE] == 1 => self.late.push((row, bytes)),

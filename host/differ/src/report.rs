@@ -42,6 +42,8 @@ pub struct Counts {
     damages: [[u64; damage::RULES.len()]; Rules::ALL.len()],
     /// For each form, each of `MOVE_FORMS` and each of `BUFFERS`, how many moves of well-formed tables were so.
     moved: [[[u64; BUFFERS.len()]; MOVE_FORMS.len()]; Rules::ALL.len()],
+    /// For each of `WAYS`, how many founded histories went that way.
+    went_on: [u64; WAYS.len()],
     /// For each form, how many moves to form 1 were of tables of each of `UNPUBLISHED`, whose rules allow it.
     unpublished: [[u64; UNPUBLISHED.len()]; Rules::ALL.len()],
     /// How many well-formed tables were looked at through the wrapper, and how many sends would be done there.
@@ -86,10 +88,12 @@ pub struct Moved {
     /// Has a list a grid mark? Has a row an empty list?
     pub marked: bool,
     pub unlisted: bool,
+    /// Did a founded history go on on the new table?
+    pub went_on: bool,
 }
 
 impl Moved {
-    pub fn of(table: &Picture, bytes: &[u8], form: u64, length: usize) -> Moved {
+    pub fn of(table: &Picture, form: u64, length: usize) -> Moved {
         let rules = u8::try_from(form).ok().and_then(Rules::of_form).unwrap_or_default();
         let right = rules.table_length(table.capacity, table.file_len);
         Moved {
@@ -97,10 +101,14 @@ impl Moved {
             form,
             over: length as isize - right as isize,
             marked: (1..=table.used).any(|row| table.row(row).list.mark != 0),
-            unlisted: !table.is_published(bytes) && table.unlisted() != 0,
+            unlisted: table.unlisted() != 0,
+            went_on: false,
         }
     }
 }
+
+/// The moves that there are, from and to these forms.
+const WAYS: [(u8, u64); 4] = [(1, 3), (2, 3), (3, 1), (3, 2)];
 
 /// The lengths of a move's buffer that must come.
 const BUFFERS: [(&str, isize); 3] = [("a byte short", -1), ("right", 0), ("a byte long", 1)];
@@ -300,6 +308,7 @@ impl Default for Counts {
             added: Default::default(),
             damages: [[0; damage::RULES.len()]; Rules::ALL.len()],
             moved: Default::default(),
+            went_on: Default::default(),
             unpublished: Default::default(),
             looked: 0,
             sends: 0,
@@ -329,7 +338,9 @@ impl Counts {
             let lengths = PATCHES.iter().zip(&mut self.added).find(|(length, _)| **length == added.length);
             lengths.into_iter().for_each(|(_, fills)| fills[fill(added.patches)] += 1);
         }
-        if let Some(Moved { from, form, over, marked, unlisted }) = step.moved {
+        if let Some(Moved { from, form, over, marked, unlisted, went_on }) = step.moved {
+            let ways = WAYS.iter().zip(&mut self.went_on).filter(|(way, _)| went_on && **way == (from.form(), form));
+            ways.for_each(|(_, count)| *count += 1);
             let to = MOVE_FORMS.iter().position(|&such| such == form);
             let buffer = BUFFERS.iter().position(|&(_, such)| such == over);
             if let (Some(to), Some(buffer)) = (to, buffer) {
@@ -446,6 +457,8 @@ impl Counts {
             let never = never.filter(|&(_, count)| count == 0 && rules != Rules::Published);
             missing.extend(never.map(|(ground, _)| format!("move from form {form} to 1 with {ground}")));
         }
+        let never = WAYS.iter().zip(self.went_on).filter(|&(_, count)| count == 0);
+        missing.extend(never.map(|((from, to), _)| format!("history that moved from form {from} to {to}")));
         let untold = CHOICES.into_iter().zip(self.chosen).filter(|&(_, count)| count == 0);
         missing.extend(untold.map(|(choice, _)| format!("choice of a {choice}")));
         let not_relayed = Call::KINDS.into_iter().zip(self.relayed).filter(|&(_, count)| count == 0);
@@ -575,7 +588,7 @@ mod tests {
                 .map(move |rule| (rules, rule))
         };
         let broken: Vec<(Rules, usize)> = Rules::ALL.into_iter().flat_map(rules_of).collect();
-        let moves = 3 * 8 * 3 + 2 * 2;
+        let moves = 3 * 8 * 3 + 2 * 2 + 4;
         let of_tables = answers + 6 * 64 + 7 * Ground::ALL.len() + 4 + 12;
         assert_eq!(
             counts.missing().len(),
@@ -587,7 +600,7 @@ mod tests {
                 MOVE_FORMS.into_iter().flat_map(|form| BUFFERS.map(|buffer| (form, buffer)))
             {
                 for (marked, unlisted) in [(true, false), (false, true)] {
-                    let moved = Moved { from, form, over, marked, unlisted };
+                    let moved = Moved { from, form, over, marked, unlisted, went_on: true };
                     counts.add(&calls()[MOVE], Step { moved: Some(moved), ..step(0) });
                 }
             }

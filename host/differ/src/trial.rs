@@ -177,11 +177,16 @@ impl<'a> Trial<'a> {
         table: Option<&Picture>,
         before: &[u8],
     ) -> Result<Option<Moved>, String> {
-        let Call::Move { form, to, .. } = call else { return Ok(None) };
+        let Call::Move { form, to, taken } = call else { return Ok(None) };
+        let taken = *taken;
         let Some(table) = table else {
             return if answer.result >> 32 == 1 { Ok(None) } else { Err("a malformed table moved".into()) };
         };
-        let moved = Moved::of(table, before, *form, to.len());
+        let went_on = taken && self.ledger.is_open() && answer.result >> 32 == 0;
+        let moved = Moved { went_on, ..Moved::of(table, *form, to.len()) };
+        if moved.over == 0 {
+            wrapper::carry(before, *form, answer)?;
+        }
         if answer.result >> 32 != 0 {
             return Ok(Some(moved));
         }
@@ -756,7 +761,7 @@ mod tests {
                 altered.buffer[at] ^= 1;
                 assert!(!frame(&altered), "byte {at}");
             }
-            assert!(frame(&Answer { result: 12 << 32, ..answer.clone() }), "refused");
+            assert!(!frame(&Answer { result: 12 << 32, ..answer.clone() }), "refused, and the wrapper moves it");
             assert!(trial.move_frame(&call, &answer, None, &before).is_err(), "a malformed table moved");
         }
     }

@@ -1,8 +1,10 @@
-//! What the wrapper tells of a table, against the reference: its rows, and the sends that would be done.
+//! What the wrapper tells of a table, against the reference: its rows with their windows, and the sends that would be done; and the
+//! moves that it makes.
 
+use crate::call::Answer;
 use crate::tables::Picture;
-use dyngrid::Table;
-use reference::Engine;
+use dyngrid::{OlderForm, Table};
+use reference::{window, Engine};
 
 /// Looks at a table, which is judged by the reference; gives how many sends would be done, or says how the wrapper differs. None
 /// if it is malformed.
@@ -23,12 +25,53 @@ pub fn look(engine: Engine, bytes: &[u8], judged: Option<&Picture>) -> Result<Op
         if told.is_none() || table.row_named(state.name) != told {
             return Err(format!("row {row} by the wrapper: {:?}", table.row(row)));
         }
+        if !same_window(&table, picture, bytes, row) {
+            return Err(format!("window of row {row} by the wrapper: {:?}", table.window(row)));
+        }
     }
     let (sends, expected) = (table.sends(), engine.sends(picture, bytes));
     if sends != expected {
         return Err(format!("sends: by the wrapper {sends:?}, by the reference {expected:?}"));
     }
     Ok(Some(sends.len()))
+}
+
+/// Does the wrapper tell the patches of a row's window, oldest first, as the reference reads them?
+fn same_window(table: &Table, picture: &Picture, bytes: &[u8], row: usize) -> bool {
+    let (window, state) = (picture.window(bytes, row), picture.row(row));
+    let told = table.window(row);
+    let (count, _) = window::chain(window, state.oldest);
+    let mut index = state.oldest;
+    let same = told.iter().zip(state.version - count as u32 + 1..).all(|(patch, version)| {
+        let record = window::record(window, index);
+        index = record.next;
+        let expected = &window[record.at..record.at + record.length];
+        (patch.version, patch.offset, patch.bytes) == (version, record.offset, expected)
+    });
+    same && told.len() == count && table.row(row).is_some_and(|view| view.patches == count)
+}
+
+/// Moves a well-formed table through the wrapper, if it has such a move; it must give and refuse what the archive did with a
+/// buffer of the right length.
+pub fn carry(bytes: &[u8], form: u64, answer: &Answer) -> Result<(), String> {
+    let carried = match (bytes.first(), form) {
+        (Some(1 | 2), 3) => Table::carry_up(bytes).map(Table::into_bytes),
+        (Some(3), 1 | 2) => {
+            let table = Table::from_bytes(bytes.to_vec()).map_err(|error| format!("no table: {error}"))?;
+            table.carry_down(if form == 1 { OlderForm::One } else { OlderForm::Two })
+        }
+        _ => return Ok(()),
+    };
+    let refusal = (answer.result >> 32) as u32;
+    let same = match &carried {
+        Ok(moved) => refusal == 0 && *moved == answer.buffer,
+        Err(by_the_wrapper) => by_the_wrapper.number() == refusal,
+    };
+    if same {
+        Ok(())
+    } else {
+        Err(format!("a move by the wrapper: {:?}", carried.map(|moved| moved.len())))
+    }
 }
 
 #[cfg(test)]

@@ -39,30 +39,40 @@ pub fn fits(window: &Window, oldest: u8, version: u32, file_len: usize) -> bool 
         if usize::from(index) > RECORDS || seen >> index & 1 == 1 {
             return false;
         }
-        let record = record(window, index);
-        let in_file = record.offset + record.length <= file_len;
-        if !(1..=LONGEST_PATCH).contains(&record.length) || !in_file || !ends(window, &record) {
-            return false;
-        }
         seen |= 1 << index;
         count += 1;
-        index = record.next;
+        index = window[start(index)];
     }
     // Bits 1 to the count.
     let first_records = (2 << count) - 2;
-    seen == first_records && count <= version && crate::table::all_zero(&window[count as usize * RECORD..])
+    let (records, rest) = window.split_at(count as usize * RECORD);
+    seen == first_records
+        && count <= version
+        && records.as_chunks().0.iter().all(|record| holds_patch(record, file_len))
+        && crate::table::all_zero(rest)
 }
 
-/// Are there zeros behind the record's patch of 1 to 32 bytes?
-fn ends(window: &Window, record: &Record) -> bool {
-    let half =
-        |at: usize| u128::from_le_bytes(*window[record.at + at..].first_chunk().expect("a half of 32 bytes"));
-    let (first, second) = (half(0), half(16));
-    match record.length {
-        32.. => true,
-        16.. => second >> (8 * (record.length - 16)) == 0,
-        length => first >> (8 * length) == 0 && second == 0,
+/// Has the record a patch of 1 to 32 bytes in the file, and zeros behind it?
+fn holds_patch(record: &[u8; RECORD], file_len: usize) -> bool {
+    let [_, length, low, high, ref patch @ ..] = *record;
+    let (length, offset) = (usize::from(length), usize::from(u16::from_le_bytes([low, high])));
+    if !(1..=LONGEST_PATCH).contains(&length) || offset + length > file_len {
+        return false;
     }
+    let ([first, second], [behind_first, behind_second]) = (halves(patch), halves(behind(length)));
+    (first & behind_first | second & behind_second) == 0
+}
+
+/// Two numbers, which are handled faster than single bytes.
+fn halves(bytes: &[u8; LONGEST_PATCH]) -> [u128; 2] {
+    let half = |at: usize| u128::from_le_bytes(*bytes[at..].first_chunk().expect("16 bytes of 32"));
+    [half(0), half(16)]
+}
+
+/// Marks what lies behind a patch of 0 to 32 bytes.
+fn behind(length: usize) -> &'static [u8; LONGEST_PATCH] {
+    static BEHIND: [[u8; LONGEST_PATCH]; 2] = [[0; LONGEST_PATCH], [0xff; LONGEST_PATCH]];
+    BEHIND.as_flattened()[LONGEST_PATCH - length..].first_chunk().expect("32 bytes of 64")
 }
 
 /// How many records are in the chain, and the youngest; 0 and 0 for none.
