@@ -12,7 +12,7 @@ use Rattle.fields.proofs.FieldLaws.{length-store, contents-store}
 use Rattle.window.specs.Windows.{Window, windowOf, storeWindow, sent}
 use Rattle.window.proofs.RowLaws.{window-whole}
 use Rattle.windows.specs.Visits.{window, RightFor}
-use Rattle.windows.proofs.RowLaws.{tail-back, cut-window}
+use Rattle.patches.proofs.RowLaws.{tail-back, cut-window}
 use Rattle.protocol.specs.Rows.{sentContents, refreshedRow}
 
 module _ (row source : List ℕ) (long : 608 ≤ length row) (same : length row ≡ length source) where

@@ -34,7 +34,7 @@ fn send_contents(row: &mut [u8], source: &[u8], missing: usize)
 {
     let at = row.len() - fields::RECORDS;
     let oldest = fields::oldest(source) as usize;
-    windows::sent_over(
+    patches::sent_over(
         &mut row[fields::HEAD..at],
         &source[fields::HEAD..at],
         oldest,

@@ -8,7 +8,7 @@ ghost use Rattle.sets.specs.Upto.{Within};
 ghost use Rattle.sets.specs.Sets.{has};
 ghost use Rattle.fields.specs.Layout.{usedOf, rowLength, rowBytes, withRows};
 ghost use Rattle.window.specs.Windows.{windowOf};
-ghost use Rattle.windows.specs.Visits.{IsRight};
+ghost use Rattle.windows.specs.Visits.{RightFor};
 ghost use Rattle.table.specs.Contracts.{Sized};
 ghost use Rattle.protocol.specs.Rows.{markedRow, patchedRow, wroteRow};
 
@@ -23,17 +23,17 @@ pub fn mark_row(row: &mut [u8], desired: u32)
 
 // A row takes a patch, and a version; its window takes the patch too.
 fn patch_row(row: &mut [u8], version: u32, offset: usize, patch: &[u8])
-    requires { ⌜ (608 + offset + length (now patch) ≤ length (now row)) × IsRight (windowOf (now row)) ⌝ }
+    requires { ⌜ (608 + offset + length (now patch) ≤ length (now row)) × ((file : ℕ) × RightFor file (windowOf (now row))) ⌝ }
     ensures { λ r. ⌜ now (row .exit) ≡ patchedRow version offset (now (patch .entry)) (now (row .entry)) ⌝ }
 {
     fields::set_version(row, version);
     fields::patch(row, offset, patch);
-    windows::add(row, offset, patch);
+    patches::add(row, offset, patch);
 }
 
 // What a write makes of a row that it works on: a good one takes the patch, another is marked.
 fn write_row(row: &mut [u8], good: bool, version: u32, offset: usize, patch: &[u8])
-    requires { ⌜ (608 + offset + length (now patch) ≤ length (now row)) × IsRight (windowOf (now row)) ⌝ }
+    requires { ⌜ (608 + offset + length (now patch) ≤ length (now row)) × ((file : ℕ) × RightFor file (windowOf (now row))) ⌝ }
     ensures { λ r. ⌜ now (row .exit) ≡ cond good (patchedRow version offset (now (patch .entry)) (now (row .entry))) (markedRow version (now (row .entry))) ⌝ }
 {
     if good {
@@ -52,7 +52,7 @@ pub fn write_rows(
     offset: usize,
     patch: &[u8],
 )
-    requires { ⌜ Sized (now t) × ((i : ℕ) → has (works .bits) i ≡ true → Within (usedOf (now t)) i) × (608 + offset + length (now patch) ≤ rowLength (now t)) × ((i : ℕ) → has (works .bits) i ≡ true → IsRight (windowOf (rowBytes (now t) i))) ⌝ }
+    requires { ⌜ Sized (now t) × ((i : ℕ) → has (works .bits) i ≡ true → Within (usedOf (now t)) i) × (608 + offset + length (now patch) ≤ rowLength (now t)) × ((i : ℕ) → has (works .bits) i ≡ true → (file : ℕ) × RightFor file (windowOf (rowBytes (now t) i))) ⌝ }
     ensures { λ r. ⌜ now (t .exit) ≡ withRows (now (t .entry)) (has (works .bits)) (wroteRow (has (good .bits)) version offset (now (patch .entry))) (usedOf (now (t .entry))) ⌝ }
 {
     let size = table::row_length(t);

@@ -93,7 +93,7 @@ module _ (x : ℕ) (r : List ℕ) (long : length r ≡ width) where
   )
 
 -- ---- a record that holds a patch is not all zero
-zero-size : (r : List ℕ) → length r ≡ width → allZero r ≡ true → get size r ≡ 0
+pub zero-size : (r : List ℕ) → length r ≡ width → allZero r ≡ true → get size r ≡ 0
 unfolding width size get number part zeros
 zero-size r long z = ap (get size) (zeros-are r z ∙ ap zeros long)
 

@@ -67,6 +67,14 @@ zero-take zero xs e = refl
 zero-take (suc n) [] e = e
 zero-take (suc n) (x ∷ xs) e = and-i (eqb x 0) _ (and-l _ _ e) (zero-take n xs (and-r (eqb x 0) _ e))
 
+-- behind zeros from record k on, each record is all zero
+pub zero-behind : (k : ℕ) (records : List ℕ) → allZero (drop (k * 36) records) ≡ true → (x : ℕ) → k < x → allZero (block 0 36 x records) ≡ true
+unfolding block part
+zero-behind k records z zero h = absurd (omega arith)
+zero-behind k records z (suc y) h =
+    let n : k * 36 + (y - k) * 36 ≡ 0 + y * 36 = omega arith in
+    zero-take 36 (drop (0 + y * 36) records) (rw (← n, ← drop-drop ((y - k) * 36) (k * 36) records) (zero-drop ((y - k) * 36) _ z))
+
 module _ {file version : ℕ} (w : Window) (long : Whole w) (r : Right file version w) where
   -- its chain ends, has records 1 to k and no other
   pub right-path : Path (behind (w .oldest) (next w)) 0 (path w)
@@ -76,13 +84,9 @@ module _ {file version : ℕ} (w : Window) (long : Whole w) (r : Right file vers
   pub right-within : (x : ℕ) → among (path w) x ≡ true → Within (length (path w)) x
   right-within = only-those (length (path w)) (path w) refl (r .each)
 
-  -- a record behind those in use is all zero
-  rest-zero : (x : ℕ) → length (path w) < x → x ≤ 16 → allZero (recordOf w x) ≡ true
-  unfolding recordOf block part width
-  rest-zero zero h g = absurd (omega arith)
-  rest-zero (suc y) h g =
-      let n : length (path w) * 36 + (y - length (path w)) * 36 ≡ 0 + y * 36 = omega arith in
-      zero-take 36 (drop (0 + y * 36) (w .records)) (rw (← n, ← drop-drop ((y - length (path w)) * 36) (length (path w) * 36) (w .records)) (zero-drop ((y - length (path w)) * 36) _ (r .rest)))
+  rest-zero : (x : ℕ) → length (path w) < x → allZero (recordOf w x) ≡ true
+  unfolding recordOf width
+  rest-zero = zero-behind (length (path w)) (w .records) (r .rest)
 
   used-not : (x : ℕ) → Within (length (path w)) x → allZero (recordOf w x) ≡ false
   unfolding width
@@ -91,7 +95,7 @@ module _ {file version : ℕ} (w : Window) (long : Whole w) (r : Right file vers
   -- "the lowest all-zero record"
   pub free-next : length (path w) < 16 → free w ≡ suc (length (path w))
   unfolding free places
-  free-next h = lowest-is 16 _ (suc (length (path w))) (omega arith) (rest-zero (suc (length (path w))) (omega arith) (omega arith)) (λ i p q. used-not i (omega arith))
+  free-next h = lowest-is 16 _ (suc (length (path w))) (omega arith) (rest-zero (suc (length (path w))) (omega arith)) (λ i p q. used-not i (omega arith))
 
   pub free-none : length (path w) ≡ 16 → free w ≡ 0
   unfolding free places

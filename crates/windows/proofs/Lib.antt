@@ -1,5 +1,4 @@
 pub mod WalkLaws
-pub mod TailLaws
-pub mod RecordLaws
-pub mod RowLaws
-pub mod LayLaws
+pub mod OrderLaws
+pub mod ZeroLaws
+pub mod HeadLaws

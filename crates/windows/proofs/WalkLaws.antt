@@ -1,4 +1,4 @@
--- The walk along a window's chain, and each way out of the test of a window.
+-- The walk along a window's chain.
 use mathlib.Core.Path.{_≡_, refl, sym, _∙_, ap, ap₂, fun-ext}
 use mathlib.Core.Bool.{Bool, true, false, cond, _&&_, _||_, and-true}
 use mathlib.Core.List.{List, [], _∷_, _++_, append-nil, append-assoc}
@@ -23,14 +23,6 @@ use Rattle.linking.proofs.PathLaws.{chain-zero, chain-suc}
 use Rattle.sets.proofs.EachLaws.{only-those}
 use Rattle.window.specs.Windows.{Window, places, width, younger, size, start, recordOf, next, path, recordRight, windowRight}
 use Rattle.windows.specs.Visits.{window, visits}
-
--- the next index of record x, as the code reads it
-pub next-byte : (records : List ℕ) (x : ℕ) → Within 16 x → number (part ((x - 1) * 36) 1 records) ≡ get younger (block 0 36 x records)
-unfolding get younger block
-next-byte records zero v = absurd (omega arith)
-next-byte records (suc k) v =
-    let z : (suc k - 1) * 36 ≡ 0 + k * 36 + 0 = omega arith in
-    rw z (ap number (sym (part-part (0 + k * 36) 36 0 1 records (omega arith))))
 
 among-append : (xs : List ℕ) (x j : ℕ) → among (xs ++ (x ∷ [])) j ≡ (among xs j || eqb x j)
 unfolding among
@@ -106,74 +98,3 @@ module _ {w : Window} {seen : ℕ → Bool} {count to : ℕ} (p : Passed w seen 
   at-most h =
       let n : 16 < length (path w) = omega (arith, p .long, ap length (p .whole), length-append (p .before) (chain (next w) (17 - count) to)) in
       rw (lt-leb (length (path w)) 16 n)
-
--- ---- each way out of the test
-module _ (file version oldest : ℕ) (records : List ℕ) where
-  w : Window
-  w = window oldest records
-
-  stages : windowRight file version (window oldest records)
-      ≡ (visits w && (leb (length (path w)) version && (allZero (drop (length (path w) * 36) records) && every (length (path w)) (λ x. recordRight file (block 0 36 x records)))))
-  unfolding windowRight visits w window recordOf places width
-  stages = sym (and-assoc (leb (length (path w)) 16) (every (length (path w)) (among (path w))) _)
-
-  pub by-none : oldest ≡ 0 → allZero records ≡ windowRight file version (window oldest records)
-  unfolding windowRight window path chain places width every
-  by-none z = rw (z, le-leb 0 version (omega arith)) (sym (and-true (allZero records)))
-
-  visits-few : visits (window oldest records) ≡ true → length (path (window oldest records)) ≤ 16
-  unfolding visits
-  visits-few h = leb-true _ 16 (and-l _ _ h)
-
-  module _ (k : ℕ) (e : k ≡ cond (visits (window oldest records)) (length (path (window oldest records))) 17) where
-    pub by-chain : 16 < k → false ≡ windowRight file version (window oldest records)
-    unfolding w
-    by-chain h = sym (stages ∙ go (visits (window oldest records)) refl)
-      where
-        go : (b : Bool) → visits (window oldest records) ≡ b
-            → (b && (leb (length (path w)) version && (allZero (drop (length (path w) * 36) records) && every (length (path w)) (λ x. recordRight file (block 0 36 x records))))) ≡ false
-        go false q = refl
-        go true q = let n : k ≡ length (path (window oldest records)) = rw q at e in absurd (omega (arith, n, visits-few q))
-
-    module _ (few : k ≤ 16) where
-      found : visits (window oldest records) ≡ true
-      found = go (visits (window oldest records)) refl
-        where
-          go : (b : Bool) → visits (window oldest records) ≡ b → b ≡ true
-          go true q = refl
-          go false q = let n : k ≡ 17 = rw q at e in absurd (omega (arith, n))
-
-      pub chain-long : length (path (window oldest records)) ≡ k
-      chain-long = sym (rw found at e)
-
-      rest : windowRight file version (window oldest records) ≡ (leb k version && (allZero (drop (k * 36) records) && every k (λ x. recordRight file (block 0 36 x records))))
-      unfolding w
-      rest = stages ∙ rw (found, chain-long)
-
-      pub by-version : version < k → false ≡ windowRight file version (window oldest records)
-      by-version h = sym (rest ∙ rw (lt-leb k version h))
-
-      module _ (enough : k ≤ version) where
-        pub by-rest : allZero (drop (k * 36) records) ≡ false → false ≡ windowRight file version (window oldest records)
-        by-rest z = sym (rest ∙ rw (le-leb k version enough, z))
-
-        pub by-records : allZero (drop (k * 36) records) ≡ true → every k (λ x. recordRight file (block 0 36 x records)) ≡ windowRight file version (window oldest records)
-        by-records z = sym (rest ∙ rw (le-leb k version enough, z))
-
--- ---- one record
-module _ (file : ℕ) (r : List ℕ) where
-  pub record-empty : get size r ≡ 0 → false ≡ recordRight file r
-  unfolding recordRight
-  record-empty e = sym (rw (lt-leb 1 (get size r) (omega (arith, e))))
-
-  pub record-big : 1 ≤ get size r → 32 < get size r → false ≡ recordRight file r
-  unfolding recordRight
-  record-big h e = sym (rw (le-leb 1 (get size r) h, lt-leb (get size r) 32 e))
-
-  pub record-out : 1 ≤ get size r → get size r ≤ 32 → file < get start r + get size r → false ≡ recordRight file r
-  unfolding recordRight
-  record-out h g e = sym (rw (le-leb 1 (get size r) h, le-leb (get size r) 32 g, lt-leb (get start r + get size r) file e))
-
-  pub record-in : 1 ≤ get size r → get size r ≤ 32 → get start r + get size r ≤ file → allZero (drop (4 + get size r) r) ≡ recordRight file r
-  unfolding recordRight
-  record-in h g e = sym (rw (le-leb 1 (get size r) h, le-leb (get size r) 32 g, le-leb (get start r + get size r) file e))

@@ -13,7 +13,7 @@ use Rattle.quorums.specs.declared.Kind.the-variants.{Write}
 use Rattle.fields.specs.Layout.{get, version, contents, usedOf, nameOf, rowLength, rowBytes, withRows}
 use Rattle.fields.proofs.FieldLaws.{row-room}
 use Rattle.window.specs.Windows.{windowOf}
-use Rattle.windows.specs.Visits.{IsRight}
+use Rattle.windows.specs.Visits.{RightFor}
 use Rattle.table.proofs.FormLaws.{formed}
 use Rattle.table.specs.Chain.{orderOf}
 use Rattle.table.specs.WellFormed.{limit}
@@ -76,8 +76,8 @@ module _ (t : List ℕ) (a : Writing) where
             (worked-in Write (orderOf t) (answers t (a .r)) (a .c) (nameOf t (a .c)) (has (a .r)) i (ap (λ (f : ℕ → Bool). f i) (sym (j .rows)) ∙ h))
 
         -- their windows are right
-        pub works-right : (i : ℕ) → has (v .rows .bits) i ≡ true → IsRight (windowOf (rowBytes t i))
-        works-right i h = record { file = length (contents (rowBytes t i)); version = get version (rowBytes t i); right = formed t (write-yes t a all-yes .first .formed) .rows i (works-used i h) .kept }
+        pub works-right : (i : ℕ) → has (v .rows .bits) i ≡ true → (file : ℕ) × RightFor file (windowOf (rowBytes t i))
+        works-right i h = (length (contents (rowBytes t i)), record { version = get version (rowBytes t i); right = formed t (write-yes t a all-yes .first .formed) .rows i (works-used i h) .kept })
 
         pub write-done : (0 * 2 ^ 32 + (v .version + 1) ≡ resultOf (outcome t (write a)))
             × (withRows t (has (v .rows .bits)) (wroteRow (has (v .good .bits)) (v .version + 1) (a .offset) (a .patch)) (usedOf t) ≡ outcome t (write a) .table)

@@ -8,7 +8,7 @@ use Rattle.fields.specs.Layout.{store, version, storeContents}
 use Rattle.fields.proofs.FieldLaws.{length-store, length-contents}
 use Rattle.window.specs.Windows.{Window, windowOf, storeWindow, added}
 use Rattle.window.proofs.RowLaws.{window-store, window-contents}
-use Rattle.windows.specs.Visits.{IsRight}
+use Rattle.windows.specs.Visits.{RightFor}
 use Rattle.protocol.specs.Rows.{patchedRow}
 use Rattle.store.proofs.patch_row.Statement.{statement}
 use Rattle.store.proofs.patch_row.Tie as tie
@@ -42,7 +42,7 @@ add-requires c κs =
     let k = c .before .before .before in
     let s = k .before .before .before .before .before .before .before .before in
     let long = new-long (s .args .row .now) _ (s .args .version) (s .args .offset) (s .args .patch .now) (s .pre .0) (found k) in
-    (omega (arith, long, s .pre .0), subst IsRight (sym (new-window (s .args .row .now) _ (s .args .version) (s .args .offset) (s .args .patch .now) (s .pre .0) (found k))) (s .pre .1))
+    (omega (arith, long, s .pre .0), subst (λ (w : Window). (file : ℕ) × RightFor file w) (sym (new-window (s .args .row .now) _ (s .args .version) (s .args .offset) (s .args .patch .now) (s .pre .0) (found k))) (s .pre .1))
 
 same-length : tie.Need-same-length
 same-length c = search needs

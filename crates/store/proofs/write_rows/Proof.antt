@@ -2,7 +2,7 @@ use mathlib.Core.Bool.{Bool, true, false}
 use mathlib.Core.Path.{_≡_, sym, _∙_, subst}
 use mathlib.Core.List.{List}
 use Rattle.window.specs.Windows.{windowOf}
-use Rattle.windows.specs.Visits.{IsRight}
+use Rattle.windows.specs.Visits.{RightFor}
 use Prim.Native.Nat.{ℕ}
 use native.Mathlib.Omega.{arith}
 use borrow.Author.Needs.{needs}
@@ -79,7 +79,7 @@ write-row-requires c κs =
     let z = w .before .before .before .before .before .before .before .before in
     let l = w .before .before .before .loop .inv in (
       omega (arith, turn-long (l .2) (used w) (new w), z .pre .2),
-      subst (λ (row : List ℕ). IsRight (windowOf row)) (sym (turn-row (l .2) (used w) (new w))) (z .pre .3 _ (in-set (l .1) (some-left (w .before)) (w .lowest .ensures))),
+      subst (λ (row : List ℕ). (file : ℕ) × RightFor file (windowOf row)) (sym (turn-row (l .2) (used w) (new w))) (z .pre .3 _ (in-set (l .1) (some-left (w .before)) (w .lowest .ensures))),
     )
 
 rest-requires : tie.Need-rest-requires Inv-loop μ-loop

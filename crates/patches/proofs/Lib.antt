@@ -1,0 +1,4 @@
+pub mod EndLaws
+pub mod RecordLaws
+pub mod RowLaws
+pub mod LayLaws

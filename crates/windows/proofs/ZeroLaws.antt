@@ -1,0 +1,131 @@
+-- Zeros behind the patches of records, four records at a time.
+use mathlib.Core.Path.{_≡_, refl, sym, _∙_, ap, ap₂}
+use mathlib.Core.Bool.{Bool, true, false, _&&_, and-true}
+use mathlib.Core.List.{List}
+use Prim.Native.Nat.{ℕ, zero, suc, _+_, _-_, _*_, _≤_, _<_, min, max}
+use native.Mathlib.Decide.{decLe, decLt}
+use native.Mathlib.Omega.{arith}
+use lib.Dec.{eqb}
+use lib.ListN.{length, getD, drop, length-drop}
+use lib.Seq.{getD-take, getD-drop}
+use borrow.Author.Tests.{eqb-true, eq-eqb}
+use Rattle.bools.proofs.BoolLaws.{and-l, and-r, and-i, and-assoc, same-test}
+use Rattle.sets.specs.Upto.{Within, every}
+use Rattle.sets.proofs.UptoLaws.{every-at, every-of, every-ext}
+use Rattle.bytes.specs.Bytes.{number, part, allZero}
+use Rattle.bytes.proofs.ByteLaws.{length-part, part-part, zero-drop}
+use Rattle.bytes.proofs.CodeLaws.{number-one, zero-at, zero-of}
+use Rattle.blocks.specs.Blocks.{block}
+use Rattle.fields.specs.Layout.{get}
+use Rattle.window.specs.Windows.{size}
+use Rattle.window.proofs.RightLaws.{zero-behind}
+use Rattle.windows.specs.Visits.{tailZero, over}
+
+max-zero : (a b : ℕ) → eqb (max a b) 0 ≡ (eqb a 0 && eqb b 0)
+max-zero a b = same-test (eqb (max a b) 0) (eqb a 0 && eqb b 0)
+    (λ e. and-i (eqb a 0) _ (eq-eqb a 0 (omega (arith, eqb-true (max a b) 0 e))) (eq-eqb b 0 (omega (arith, eqb-true (max a b) 0 e))))
+    (λ e. eq-eqb (max a b) 0 (omega (arith, eqb-true a 0 (and-l _ _ e), eqb-true b 0 (and-r (eqb a 0) _ e))))
+
+-- byte n of each of the four is one of the patch or 0
+quiet : List ℕ → ℕ → Bool
+quiet r n = every 4 (λ x. eqb (over r ((x - 1) * 36) n) 0)
+
+-- ---- the loop over the 32 bytes: the largest so far
+pub Largest : List ℕ → ℕ → ℕ → Type 0
+Largest r most n = eqb most 0 ≡ every n (quiet r)
+
+pub largest-none : (r : List ℕ) → Largest r 0 0
+unfolding Largest every
+largest-none r = refl
+
+pub largest-turn : (r : List ℕ) (most n m : ℕ) → Largest r most n → m ≡ max most (max (max (over r 0 (n + 1)) (over r 36 (n + 1))) (max (over r 72 (n + 1)) (over r 108 (n + 1)))) → Largest r m (n + 1)
+unfolding Largest every quiet
+largest-turn r most n m h e =
+    let s : n + 1 ≡ suc n = omega arith in
+    let a = over r 0 (suc n) in
+    let b = over r 36 (suc n) in
+    let c = over r 72 (suc n) in
+    let d = over r 108 (suc n) in
+    rw s (ap (λ (x : ℕ). eqb x 0) (e ∙ ap (λ (k : ℕ). max most (max (max (over r 0 k) (over r 36 k)) (max (over r 72 k) (over r 108 k)))) s)
+    ∙ max-zero most (max (max a b) (max c d))
+    ∙ ap₂ (λ (p q : Bool). p && q) h (max-zero (max a b) (max c d) ∙ ap₂ (λ (p q : Bool). p && q) (max-zero a b) (max-zero c d) ∙ sym (and-assoc (eqb a 0 && eqb b 0) (eqb c 0) (eqb d 0))))
+
+-- ---- one record
+-- the record at a place, by its bytes
+tail-is : (r : List ℕ) (at : ℕ) → at + 36 ≤ length r → every 32 (λ n. eqb (over r at n) 0) ≡ allZero (drop (4 + getD r (at + 1) 0) (part at 36 r))
+unfolding over part
+tail-is r at h = same-test _ _ there back
+  where
+    s : ℕ
+    s = getD r (at + 1) 0
+
+    byte : (j : ℕ) → j < 36 → getD (part at 36 r) j 0 ≡ getD r (at + j) 0
+    byte j l = getD-take 36 (drop at r) j 0 l ∙ getD-drop at r j 0
+
+    there : every 32 (λ n. eqb (min (getD r (at + 3 + n) 0) (n - s)) 0) ≡ true → allZero (drop (4 + s) (part at 36 r)) ≡ true
+    there e = zero-of (drop (4 + s) (part at 36 r)) (λ j l.
+        let n : s + j + 5 ≤ 36 = omega (arith, l, length-drop (4 + s) (part at 36 r), length-part at 36 r h) in
+        let q : at + (4 + s + j) ≡ at + 3 + (s + j + 1) = omega arith in
+        let z : min (getD r (at + 3 + (s + j + 1)) 0) (s + j + 1 - s) ≡ 0 = eqb-true _ 0 (every-at 32 _ e (s + j + 1) (omega arith)) in
+        getD-drop (4 + s) (part at 36 r) j 0 ∙ byte (4 + s + j) (omega arith) ∙ ap (λ (k : ℕ). getD r k 0) q ∙ omega (arith, z))
+
+    back : allZero (drop (4 + s) (part at 36 r)) ≡ true → every 32 (λ n. eqb (min (getD r (at + 3 + n) 0) (n - s)) 0) ≡ true
+    back e = every-of 32 _ (λ n v. eq-eqb _ 0 (go n v (decLe n s)))
+      where
+        go : (n : ℕ) → Within 32 n → Dec (n ≤ s) → min (getD r (at + 3 + n) 0) (n - s) ≡ 0
+        go n v (yes l) = omega arith
+        go n v (no l) =
+            let q : at + (4 + s + (n - s - 1)) ≡ at + 3 + n = omega arith in
+            let z : getD r (at + 3 + n) 0 ≡ 0 =
+            ap (λ (k : ℕ). getD r k 0) (sym q) ∙ sym (byte (4 + s + (n - s - 1)) (omega arith)) ∙ sym (getD-drop (4 + s) (part at 36 r) (n - s - 1) 0)
+            ∙ zero-at (drop (4 + s) (part at 36 r)) e (n - s - 1) (omega (arith, length-drop (4 + s) (part at 36 r), length-part at 36 r h)) in
+            omega (arith, z)
+
+block-tail : (r : List ℕ) (x : ℕ) → 1 ≤ x → x * 36 ≤ length r → every 32 (λ n. eqb (over r ((x - 1) * 36) n) 0) ≡ tailZero (block 0 36 x r)
+unfolding tailZero block get size
+block-tail r zero h g = absurd (omega arith)
+block-tail r (suc y) h g =
+    let a : (suc y - 1) * 36 ≡ 0 + y * 36 = omega arith in
+    let s : getD r (0 + y * 36 + 1) 0 ≡ get size (part (0 + y * 36) 36 r) = sym (number-one (0 + y * 36 + 1) r) ∙ ap number (sym (part-part (0 + y * 36) 36 1 1 r (omega arith))) in
+    ap (λ (k : ℕ). every 32 (λ n. eqb (over r k n) 0)) a ∙ tail-is r (0 + y * 36) (omega arith) ∙ ap (λ (k : ℕ). allZero (drop (4 + k) (part (0 + y * 36) 36 r))) s
+
+-- four at once, and so each
+pub four-tails : (r : List ℕ) (most : ℕ) → length r ≡ 144 → Largest r most 32 → eqb most 0 ≡ every 4 (λ x. tailZero (block 0 36 x r))
+unfolding Largest quiet
+four-tails r most long h = h ∙ swap ∙ every-ext 4 _ _ (λ x v. block-tail r x (v .0) (omega arith))
+  where
+    f : ℕ → ℕ → Bool
+    f x n = eqb (over r ((x - 1) * 36) n) 0
+
+    swap : every 32 (λ n. every 4 (λ x. f x n)) ≡ every 4 (λ x. every 32 (λ n. f x n))
+    swap = same-test _ _ (λ e. every-of 4 _ (λ x v. every-of 32 _ (λ n u. every-at 4 _ (every-at 32 _ e n u) x v))) (λ e. every-of 32 _ (λ n u. every-of 4 _ (λ x v. every-at 32 _ (every-at 4 _ e x v) n u)))
+
+-- ---- the loop over the records
+every-append : (i n : ℕ) (p : ℕ → Bool) → every (i + n) p ≡ (every i p && every n (λ x. p (i + x)))
+unfolding every
+every-append i zero p = let e : i + zero ≡ i = omega arith in rw e (sym (and-true (every i p)))
+every-append i (suc n) p =
+    let e : i + suc n ≡ suc (i + n) = omega arith in
+    rw e (ap (λ (b : Bool). b && p (suc (i + n))) (every-append i n p) ∙ and-assoc (every i p) _ _)
+
+block-moved : (records : List ℕ) (i x : ℕ) → Within 4 x → block 0 36 x (part (i * 36) 144 records) ≡ block 0 36 (i + x) records
+unfolding block
+block-moved records i zero v = absurd (omega arith)
+block-moved records i (suc y) v =
+    let e : i + suc y ≡ suc (i + y) = omega arith in
+    let a : i * 36 + (0 + y * 36) ≡ 0 + (i + y) * 36 = omega arith in
+    part-part (i * 36) 144 (0 + y * 36) 36 records (omega arith) ∙ ap (λ (k : ℕ). part k 36 records) a ∙ ap (λ (j : ℕ). block 0 36 j records) (sym e)
+
+-- four more
+pub tails-turn : (records : List ℕ) (i : ℕ) (ok b : Bool) → ok ≡ every i (λ x. tailZero (block 0 36 x records)) → b ≡ every 4 (λ x. tailZero (block 0 36 x (part (i * 36) 144 records)))
+    → (ok && b) ≡ every (i + 4) (λ x. tailZero (block 0 36 x records))
+tails-turn records i ok b e q = ap₂ (λ (p r : Bool). p && r) e (q ∙ every-ext 4 _ _ (λ x v. ap tailZero (block-moved records i x v))) ∙ sym (every-append i 4 (λ x. tailZero (block 0 36 x records)))
+
+-- behind the records in use there is nothing
+pub tails-more : (records : List ℕ) (k i : ℕ) → allZero (drop (k * 36) records) ≡ true → k ≤ i → every i (λ x. tailZero (block 0 36 x records)) ≡ every k (λ x. tailZero (block 0 36 x records))
+unfolding tailZero
+tails-more records k i z h = same-test _ _ (λ e. every-of k _ (λ x v. every-at i _ e x (omega arith))) (λ e. every-of i _ (λ x v. go x v (decLe x k) e))
+  where
+    go : (x : ℕ) → Within i x → Dec (x ≤ k) → every k (λ x. allZero (drop (4 + get size (block 0 36 x records)) (block 0 36 x records))) ≡ true → allZero (drop (4 + get size (block 0 36 x records)) (block 0 36 x records)) ≡ true
+    go x v (yes l) e = every-at k _ e x (omega arith)
+    go x v (no l) e = zero-drop (4 + get size (block 0 36 x records)) (block 0 36 x records) (zero-behind k records z x (omega arith))
