@@ -1,11 +1,11 @@
 // Arrays with a place for each of the 64 rows: what the rows of a set have.
 use rows::RowSet;
 ghost use mathlib.Core.Path.{_≡_};
-ghost use mathlib.Core.Bool.{true, false, _&&_};
+ghost use mathlib.Core.Bool.{_&&_};
 ghost use lib.Dec.{ltb};
 ghost use Rattle.sets.specs.Upto.{some};
 ghost use Rattle.sets.specs.Sets.{has};
-ghost use Rattle.places.specs.Places.{placed, Tops, Better};
+ghost use Rattle.places.specs.Places.{placed, Tops, Better, Behind};
 
 // The highest value, and the rows that have it.
 pub struct Top {
@@ -40,19 +40,34 @@ fn better(b: Top, v: u32, one: RowSet) -> Top
     b
 }
 
-// The same, where the row counts.
-pub fn better_where(b: Top, counts: bool, v: u32, one: RowSet) -> Top
-    ensures { λ r. ⌜ (counts ≡ true → Better b v (has (one .bits)) r) × (counts ≡ false → r ≡ b) ⌝ }
+// What is left of some rows behind the first of them that have v.
+fn behind(values: &[u32; 64], s: RowSet, v: u32) -> RowSet
+    ensures { λ r. ⌜ Behind (placed (now (values .entry))) v (s .bits) (r .bits) ⌝ }
 {
-    if counts { better(b, v, one) } else { b }
+    let mut left = s;
+    while !left.is_empty() {
+        if values[left.lowest() - 1] != v {
+            return left;
+        }
+        left = left.rest();
+    }
+    left
 }
 
-// The highest value over the rows of a set, and its rows that have it; 0 where it is empty.
+// The highest value over the rows of a set, and its rows that have it; 0 where it is empty. Most often all have what the first has, and are
+// passed over by one test each.
 pub fn best(values: &[u32; 64], s: RowSet) -> Top
     ensures { λ r. ⌜ Tops (has (s .bits)) (placed (now (values .entry))) r ⌝ }
 {
-    let mut b = Top::NONE;
-    let mut left = s;
+    if s.is_empty() {
+        return Top::NONE;
+    }
+    let first = values[s.lowest() - 1];
+    let mut left = behind(values, s.rest(), first);
+    let mut b = Top {
+        value: first,
+        rows: s.outside(left),
+    };
     while !left.is_empty() {
         let rest = left.rest();
         b = better(b, values[left.lowest() - 1], left.outside(rest));

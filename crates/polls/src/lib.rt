@@ -7,35 +7,44 @@ ghost use Rattle.table.specs.Contracts.{Sized};
 ghost use Rattle.protocol.specs.Polls.{polled};
 ghost use Rattle.polls.specs.Shows.{Shows};
 
-// The state gathered by a poll: a place for each of the 64 rows, 0 for rows that did not answer.
+// The state gathered by a poll: a place for each of the 64 rows, 0 for rows that did not answer; which rows are stale, and which have a list.
+// (The sets stand between the arrays: so the compiler clears each array by a few stores, and not all of them by a call.)
 pub struct Poll {
-    pub stale: RowSet,
     pub versions: [u32; 64],
+    pub stale: RowSet,
     pub desired: [u32; 64],
+    pub listed: RowSet,
     pub epochs: [u32; 64],
 }
 
-// What the rows that answered say.
+// What the rows that answered say. The sets are known behind the loop.
 pub fn gather(t: &[u8], answering: RowSet) -> Poll
     requires { ⌜ Sized (now t) × (answering .bits < 2 ^ usedOf (now t)) ⌝ }
     ensures { λ r. ⌜ Shows r (polled (now (t .entry)) (has (answering .bits))) ⌝ }
 {
     let mut p = Poll {
-        stale: RowSet::EMPTY,
         versions: [0u32; 64],
+        stale: answering,
         desired: [0u32; 64],
+        listed: answering,
         epochs: [0u32; 64],
     };
+    let mut stale = RowSet::EMPTY;
+    let mut listed = RowSet::EMPTY;
     let mut left = answering;
     while !left.is_empty() {
         let i = left.lowest();
         let row = table::row_of(t, i);
-        p.stale = p.stale.gain(i, fields::is_stale(row));
+        let list = fields::list(row);
+        stale = stale.gain(i, fields::is_stale(row));
+        listed = listed.gain(i, !list.is_empty());
         let k = i - 1;
         p.versions[k] = fields::version(row);
         p.desired[k] = fields::desired(row);
         p.epochs[k] = fields::epoch(row);
         left = left.rest();
     }
+    p.stale = stale;
+    p.listed = listed;
     p
 }

@@ -1,16 +1,16 @@
 // The set that a call works on: P or R.
 use bools::both;
-use fields::Laid;
 use quorums::Kind;
 use rows::RowSet;
-use scans::scanned;
 use verdicts::Verdict;
 use verdicts::asked;
+use verdicts::judged;
 use verdicts::quorum_held;
 ghost use mathlib.Core.Path.{_≡_};
 ghost use mathlib.Core.Bool.{true, not, cond, _&&_};
 ghost use Prim.Native.Nat.{_^_, _<_};
 ghost use lib.ListN.{take};
+ghost use Rattle.sets.specs.Upto.{count};
 ghost use Rattle.sets.specs.Sets.{has};
 ghost use Rattle.fields.specs.Layout.{isEmpty, usedOf};
 ghost use Rattle.table.specs.WellFormed.{wellFormed};
@@ -40,26 +40,11 @@ fn settled_on(rows: RowSet, refusal: u32, found: Verdict, called: u8) -> Settled
     }
 }
 
-// Questions 6 and 7 of a set that is current or not: are both yes? A quorum is counted only where it is not sure.
-fn passes(
-    kind: Kind,
-    order: &[u8; 64],
-    count: usize,
-    list: Laid,
-    s: RowSet,
-    current: bool,
-    sure: bool,
-) -> bool
-    requires { ⌜ Listed count (now order) count × (current ≡ true → sure ≡ true → (not (isEmpty list) && listQuorum kind (take count (now order)) list (has (s .bits))) ≡ true) ⌝ }
-    ensures { λ r. ⌜ r ≡ (current && (not (isEmpty list) && listQuorum kind (take count (now (order .entry))) list (has (s .bits)))) ⌝ }
+// P is worked on: the rows that the coordinator chose were called.
+fn on_try(tried: RowSet, part: Verdict, chosen: RowSet) -> Settled
+    ensures { λ r. ⌜ r ≡ record { rows = tried; refusal = 0; good = part .good; version = part .version; called = count 64 (has (chosen .bits)) } ⌝ }
 {
-    if !current {
-        return false;
-    }
-    if sure {
-        return true;
-    }
-    quorum_held(kind, order, count, list, s)
+    settled_on(tried, 0, part, chosen.size() as u8)
 }
 
 // All rows that answered are worked on, with what questions 6 and 7 say of them: every used row was called.
@@ -82,15 +67,21 @@ pub fn settle(kind: Kind, t: &[u8], order: &[u8; 64], c: usize, answering: RowSe
     let own = fields::list(row);
     let chosen = lists::choice(kind, order, count, own, fields::name(row));
     let tried = chosen.cut(answering);
-    let part = scanned(t, tried);
-    // a choice that answered whole holds a quorum of the list that it was made over
-    let sure = both(tried.bits == chosen.bits, part.list.same(own));
-    if passes(kind, order, count, part.list, tried, part.current, sure) {
-        return settled_on(tried, 0, part, chosen.size() as u8);
+    // pointer and length of the table, each by itself: loaded as one, they would wait until the stores of the caller are done
+    let lent = &t[0..t.len()];
+    let part = judged(lent, tried);
+    if part.current {
+        // a choice that answered whole holds a quorum of the list that it was made over; otherwise one is counted
+        if both(tried.bits == chosen.bits, part.list.same(own)) {
+            return on_try(tried, part, chosen);
+        }
+        if quorum_held(kind, order, count, part.list, tried) {
+            return on_try(tried, part, chosen);
+        }
     }
     if tried.bits == answering.bits {
-        // P is all that answered: it is not looked at again
+        // P is all that answered: it is not polled again
         return on_all(kind, order, count, answering, part);
     }
-    on_all(kind, order, count, answering, scanned(t, answering))
+    on_all(kind, order, count, answering, judged(lent, answering))
 }

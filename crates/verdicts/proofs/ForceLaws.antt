@@ -22,33 +22,7 @@ use Rattle.protocol.specs.Calls.{answers}
 use Rattle.protocol.proofs.PollLaws.{listed-at, listed-of, epoch-le, lead-none, held-list, Agree, listed-same, epoch-same, list-same, good-same, version-same, current-same}
 use Rattle.verdicts.specs.declared.Force.{Force}
 use Rattle.verdicts.specs.declared.Verdict.{Verdict}
-use Rattle.verdicts.specs.Judged.{withLists, Led, Forced, Judged}
-
--- of any poll: the lowest row of the highest epoch of all leads those that have a list, where it has one
-module _ (p : Poll) (s : ℕ → Bool) where
-  foremost : ℕ
-  foremost = lowest 64 (λ i. s i && eqb (p .epoch i) (most 64 s (p .epoch)))
-
-  module _ (row : 1 ≤ foremost) (full : isEmpty (p .list foremost) ≡ false) where
-    there : Within 64 foremost × ((s foremost && eqb (p .epoch foremost) (most 64 s (p .epoch))) ≡ true)
-    unfolding foremost
-    there = lowest-in 64 _ row
-
-    inside : s foremost ≡ true
-    inside = and-l _ _ (there .1)
-
-    foremost-epoch : most 64 s (p .epoch) ≡ highestEpoch p s
-    unfolding highestEpoch
-    foremost-epoch =
-        let here : p .epoch foremost ≡ most 64 s (p .epoch) = eqb-true _ _ (and-r (s foremost) _ (there .1)) in
-        omega (arith, epoch-le p s foremost (there .0) inside full, most-under 64 (listed p s) (p .epoch) _ (λ i w h. most-le 64 s (p .epoch) i w (listed-at p s i h .0)))
-
-    foremost-list : p .list foremost ≡ inForce p s
-    unfolding inForce foremost
-    foremost-list = ap (p .list) (sym (lowest-part 64 _ _ less row (and-i _ _ (listed-of p s foremost inside full) (ap (eqb (p .epoch foremost)) (sym foremost-epoch) ∙ and-r (s foremost) _ (there .1)))))
-      where
-        less : (i : ℕ) → (listed p s i && eqb (p .epoch i) (highestEpoch p s)) ≡ true → (s i && eqb (p .epoch i) (most 64 s (p .epoch))) ≡ true
-        less i h = and-i _ _ (listed-at p s i (and-l _ _ h) .0) (ap (eqb (p .epoch i)) foremost-epoch ∙ and-r (listed p s i) _ h)
+use Rattle.verdicts.specs.Judged.{Led, Judged}
 
 -- ---- a set of rows that answered, by their poll
 module _ (t : List ℕ) (r s : ℕ) (sub : (i : ℕ) → has s i ≡ true → has r i ≡ true) where
@@ -62,34 +36,18 @@ module _ (t : List ℕ) (r s : ℕ) (sub : (i : ℕ) → has s i ≡ true → ha
   unfolding isEmpty noList
   no-place = ap isEmpty (said 0 (λ h. absurd (omega arith)) ∙ no-row-no-list t)
 
-  -- the list in force is that of the row that leads them all, where it has one
-  pub first-leads : (f : Force) → Led t (answers t r .epoch) (has s) f → isEmpty (f .list) ≡ false → Forced (answers t r) (has s) f
-  unfolding foremost isEmpty noList
-  first-leads f l full =
-      let x = foremost (answers t r) (has s) in
-      let list : f .list ≡ listOf t x = l .list ∙ ap (λ (n : ℕ). listOf t (lowest 64 (λ i. has s i && eqb (answers t r .epoch i) n))) (l .epoch) in
-      let row : 1 ≤ x = pos-of-ne-zero (λ z. clash (sym full ∙ ap isEmpty (list ∙ ap (listOf t) z ∙ no-row-no-list t))) in
-      let is : answers t r .list x ≡ listOf t x = said x (λ one. and-l _ _ (lowest-in 64 _ one .1)) in
-      let has-list : isEmpty (answers t r .list x) ≡ false = ap isEmpty (is ∙ sym list) ∙ full in
-      record { epoch = l .epoch ∙ foremost-epoch _ (has s) row has-list; list = list ∙ sym is ∙ foremost-list _ (has s) row has-list }
-
-  -- and that of the row that leads those that have one
-  pub listed-leads : (f : Force) (w : ℕ → Bool) → w ≡ withLists t (has s) → Led t (answers t r .epoch) w f → Forced (answers t r) (has s) f
-  unfolding inForce highestEpoch withLists listed
-  listed-leads f w ew l =
+  -- the list in force is that of the row that leads those that have one
+  pub listed-leads : (f : Force) (w : ℕ → Bool) → w ≡ listed (answers t r) (has s) → Led t (answers t r .epoch) w f
+      → (f .epoch ≡ highestEpoch (answers t r) (has s)) × (f .list ≡ inForce (answers t r) (has s))
+  unfolding inForce highestEpoch
+  listed-leads f w these l =
       let p = answers t r in
-      let these : w ≡ listed p (has s) = ew ∙ fun-ext (λ i. go i (has s i) refl) in
       let epoch : f .epoch ≡ highestEpoch p (has s) = l .epoch ∙ ap (λ (u : ℕ → Bool). most 64 u (p .epoch)) these in
-      let leader = lowest 64 (λ i. listed p (has s) i && eqb (p .epoch i) (highestEpoch p (has s))) in
-      record {
-        epoch = epoch;
-        list = l .list ∙ ap₂ (λ (u : ℕ → Bool) (n : ℕ). listOf t (lowest 64 (λ i. u i && eqb (p .epoch i) n))) these epoch
-            ∙ sym (said leader (λ one. listed-at p (has s) leader (and-l _ _ (lowest-in 64 _ one .1)) .0));
-      }
-    where
-      go : (i : ℕ) (b : Bool) → has s i ≡ b → withLists t (has s) i ≡ listed (answers t r) (has s) i
-      go i true m = rw m (ap (λ (l : Laid). not (isEmpty l)) (sym (said i (λ one. m))))
-      go i false m = rw m
+      let leader = lowest 64 (λ i. listed p (has s) i && eqb (p .epoch i) (highestEpoch p (has s))) in (
+        epoch,
+        l .list ∙ ap₂ (λ (u : ℕ → Bool) (n : ℕ). listOf t (lowest 64 (λ i. u i && eqb (p .epoch i) n))) these epoch
+            ∙ sym (said leader (λ one. listed-at p (has s) leader (and-l _ _ (lowest-in 64 _ one .1)) .0)),
+      )
 
   -- a poll of the set alone says the same of it
   same : Agree (answers t s) (answers t r) (has s)

@@ -1,26 +1,22 @@
 -- What a poll says of a set of rows, in the code's words.
 use mathlib.Core.Path.{_≡_}
-use mathlib.Core.Bool.{Bool, not, _&&_}
+use mathlib.Core.Bool.{Bool, _&&_}
 use mathlib.Core.List.{List}
 use Prim.Native.Nat.{ℕ}
 use lib.Dec.{eqb}
 use Rattle.sets.specs.Upto.{lowest, most}
 use Rattle.sets.specs.Sets.{has}
 use Rattle.rows.specs.declared.RowSet.{RowSet}
-use Rattle.fields.specs.Layout.{isEmpty, listOf}
+use Rattle.fields.specs.Layout.{listOf}
 use Rattle.protocol.specs.Polls.{Poll, highestEpoch, inForce, goodVersion, good, current}
 use Rattle.polls.specs.declared.Poll as code
 use Rattle.verdicts.specs.declared.Tally.{Tally}
 use Rattle.verdicts.specs.declared.Force.{Force}
 use Rattle.verdicts.specs.declared.Verdict.{Verdict}
 
--- the code's poll by its arrays
-abbrev pub pollOf : RowSet → List ℕ → List ℕ → List ℕ → code.Poll
-pollOf stale versions desired epochs = record { stale = stale; versions = versions; desired = desired; epochs = epochs }
-
--- the rows of s that have a list in the table
-unfoldable pub withLists : List ℕ → (ℕ → Bool) → ℕ → Bool
-withLists t s i = s i && not (isEmpty (listOf t i))
+-- the code's poll by its sets and arrays
+abbrev pub pollOf : RowSet → RowSet → List ℕ → List ℕ → List ℕ → code.Poll
+pollOf stale listed versions desired epochs = record { versions = versions; stale = stale; desired = desired; listed = listed; epochs = epochs }
 
 -- of a set: the good rows, their version, is it current
 pub record Tallied (p : Poll) (s : ℕ → Bool) (c : Tally) : Type 0 where
@@ -32,11 +28,6 @@ pub record Tallied (p : Poll) (s : ℕ → Bool) (c : Tally) : Type 0 where
 pub record Led (t : List ℕ) (epochs : ℕ → ℕ) (s : ℕ → Bool) (f : Force) : Type 0 where
   pub epoch : f .epoch ≡ most 64 s epochs
   pub list : f .list ≡ listOf t (lowest 64 (λ i. s i && eqb (epochs i) (f .epoch)))
-
--- the highest epoch and the list in force
-pub record Forced (p : Poll) (s : ℕ → Bool) (f : Force) : Type 0 where
-  pub epoch : f .epoch ≡ highestEpoch p s
-  pub list : f .list ≡ inForce p s
 
 -- all of it
 pub record Judged (p : Poll) (s : ℕ → Bool) (v : Verdict) : Type 0 where

@@ -10,6 +10,7 @@ ghost use Prim.Native.Nat.{ℕ, _^_, _<_};
 ghost use lib.ListN.{take};
 ghost use Rattle.sets.specs.Upto.{Within, lowest};
 ghost use Rattle.sets.specs.Sets.{has};
+ghost use Rattle.rows.specs.declared.RowSet.{RowSet};
 ghost use Rattle.fields.specs.Layout.{isEmpty, usedOf, listOf};
 ghost use Rattle.table.specs.Contracts.{Sized, Listed};
 ghost use Rattle.protocol.specs.Lists.{listQuorum};
@@ -17,7 +18,7 @@ ghost use Rattle.protocol.specs.Polls.{Poll};
 ghost use Rattle.protocol.specs.Calls.{answers};
 ghost use Rattle.places.specs.Places.{placed};
 ghost use Rattle.polls.specs.Shows.{Shows};
-ghost use Rattle.verdicts.specs.Judged.{pollOf, withLists, Tallied, Led, Forced, Judged};
+ghost use Rattle.verdicts.specs.Judged.{pollOf, Tallied, Led, Judged};
 
 // Of a set, by a poll: its good rows, their version, is it current.
 struct Tally {
@@ -41,9 +42,9 @@ pub struct Verdict {
     pub list: Laid,
 }
 
-// What a poll says of a set of rows. The arrays are those of the poll.
+// What a poll says of a set of rows. Set and arrays are those of the poll.
 fn tally_of<'a>(stale: RowSet, versions: &'a [u32; 64], desired: &'a [u32; 64], s: RowSet) -> Tally
-    ensures { λ r. ⌜ ((p : Poll) → (epochs : List ℕ) → Shows (pollOf stale (now (versions .entry)) (now (desired .entry)) epochs) p → Tallied p (has (s .bits)) r) ⌝ }
+    ensures { λ r. ⌜ ((p : Poll) → (listed : RowSet) → (epochs : List ℕ) → Shows (pollOf stale listed (now (versions .entry)) (now (desired .entry)) epochs) p → Tallied p (has (s .bits)) r) ⌝ }
 {
     let best = places::best(versions, s.outside(stale));
     let passed = places::above(desired, s.cut(stale), best.value);
@@ -57,7 +58,7 @@ fn tally_of<'a>(stale: RowSet, versions: &'a [u32; 64], desired: &'a [u32; 64], 
 }
 
 // The list of the lowest of some rows; none where there is no row.
-pub fn list_of(t: &[u8], leaders: RowSet) -> Laid
+fn list_of(t: &[u8], leaders: RowSet) -> Laid
     requires { ⌜ Sized (now t) × ((i : ℕ) → has (leaders .bits) i ≡ true → Within (usedOf (now t)) i) ⌝ }
     ensures { λ r. ⌜ r ≡ listOf (now (t .entry)) (lowest 64 (has (leaders .bits))) ⌝ }
 {
@@ -81,50 +82,21 @@ fn lead(t: &[u8], epochs: &[u32; 64], s: RowSet) -> Force
     }
 }
 
-// Those of some rows that have a list.
-fn listed(t: &[u8], s: RowSet) -> RowSet
-    requires { ⌜ Sized (now t) × (s .bits < 2 ^ usedOf (now t)) ⌝ }
-    ensures { λ r. ⌜ has (r .bits) ≡ withLists (now (t .entry)) (has (s .bits)) ⌝ }
-{
-    let mut out = RowSet::EMPTY;
-    let mut left = s;
-    while !left.is_empty() {
-        let i = left.lowest();
-        let list = fields::list(table::row_of(t, i));
-        out = out.gain(i, !list.is_empty());
-        left = left.rest();
-    }
-    out
-}
-
-// The list in force among some rows, and its epoch: rows without a list are passed over. Where the row that leads them all has one,
-// it leads those that have a list.
-fn force_of(t: &[u8], epochs: &[u32; 64], s: RowSet) -> Force
-    requires { ⌜ Sized (now t) × (s .bits < 2 ^ usedOf (now t)) ⌝ }
-    ensures { λ r. ⌜ ((a : ℕ) → ((i : ℕ) → has (s .bits) i ≡ true → has a i ≡ true) → placed (now (epochs .entry)) ≡ answers (now (t .entry)) a .epoch → Forced (answers (now (t .entry)) a) (has (s .bits)) r) ⌝ }
-{
-    let force = lead(t, epochs, s);
-    if !force.list.is_empty() {
-        return force;
-    }
-    let rows = listed(t, s);
-    lead(t, epochs, rows)
-}
-
-// What a poll of some rows says of a set of them. The arrays are those of the poll.
-pub fn told<'a>(
+// What a poll of a set of rows says of it. Sets and arrays are those of the poll; rows without a list are passed over in finding the highest epoch.
+fn told<'a>(
     t: &[u8],
     stale: RowSet,
+    listed: RowSet,
     versions: &'a [u32; 64],
     desired: &'a [u32; 64],
     epochs: &'a [u32; 64],
     s: RowSet,
 ) -> Verdict
     requires { ⌜ Sized (now t) × (s .bits < 2 ^ usedOf (now t)) ⌝ }
-    ensures { λ v. ⌜ ((r : ℕ) → ((i : ℕ) → has (s .bits) i ≡ true → has r i ≡ true) → Shows (pollOf stale (now (versions .entry)) (now (desired .entry)) (now (epochs .entry))) (answers (now (t .entry)) r) → Judged (answers (now (t .entry)) r) (has (s .bits)) v) ⌝ }
+    ensures { λ v. ⌜ (Shows (pollOf stale listed (now (versions .entry)) (now (desired .entry)) (now (epochs .entry))) (answers (now (t .entry)) (s .bits)) → Judged (answers (now (t .entry)) (s .bits)) (has (s .bits)) v) ⌝ }
 {
     let found = tally_of(stale, versions, desired, s);
-    let force = force_of(t, epochs, s);
+    let force = lead(t, epochs, s.cut(listed));
     let good = found.good;
     let list = force.list;
     Verdict {
@@ -145,6 +117,7 @@ pub fn judged(t: &[u8], s: RowSet) -> Verdict
     told(
         t,
         poll.stale,
+        poll.listed,
         &poll.versions,
         &poll.desired,
         &poll.epochs,

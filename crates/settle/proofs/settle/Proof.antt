@@ -1,28 +1,29 @@
-use mathlib.Core.Bool.{Bool, cond}
+use mathlib.Core.Bool.{Bool, true, false, not, cond, _&&_, and-false}
 use mathlib.Core.Path.{_≡_, refl, sym, _∙_, ap, ap₂, subst}
+use mathlib.Core.Logic.{⊎-elim}
 use mathlib.Core.List.{List}
-use Prim.Native.Nat.{ℕ, _^_, _<_}
+use Prim.Native.Nat.{ℕ, _-_, _^_, _<_}
 use native.Mathlib.Omega.{arith}
 use lib.Dec.{eqb}
 use borrow.Author.Needs.{needs}
 use borrow.Author.Tests.{eqb-true}
-use lib.ListN.{take}
+use lib.ListN.{length, take}
+use lib.Seq.{take-all}
 use Rattle.settle.proofs.SettleLaws.{sure-held, try-in, works-on-try, works-on-all, alone}
 use Rattle.verdicts.specs.Judged.{Judged}
 use Rattle.protocol.specs.Calls.{answers}
 use Rattle.protocol.specs.Polls.{polled, ownTry}
-use Rattle.protocol.specs.Lists.{listChoice}
+use Rattle.protocol.specs.Lists.{listQuorum, listChoice}
 use Rattle.table.proofs.WellFormedLaws.{sized, long, few-rows}
 use Rattle.table.proofs.FormLaws.{formed}
 use Rattle.table.specs.Contracts.{Listed}
 use Rattle.table.specs.Chain.{orderOf}
 use Rattle.fields.specs.declared.Laid.{Laid}
-use Rattle.fields.specs.Layout.{get, name, list, noList, usedOf, nameOf, listOf}
-use Rattle.bools.proofs.BoolLaws.{and-l, and-r}
+use Rattle.fields.specs.Layout.{get, name, list, noList, isEmpty, usedOf, nameOf, listOf}
+use Rattle.bools.proofs.BoolLaws.{and-l, and-r, and-i}
 use Rattle.sets.proofs.SetLaws.{has-within, within-lt}
 use Rattle.sets.specs.Sets.{has, cutTo}
 use Rattle.sets.specs.Upto.{Within, count}
-use Rattle.sets.proofs.UptoLaws.{count-le}
 use Rattle.settle.proofs.settle.Statement.{statement}
 use Rattle.settle.proofs.settle.Tie as tie
 
@@ -75,12 +76,58 @@ tried-used c =
     within-lt (usedOf (s .args .t .now)) (c .cut .result .bits) (few-rows (sized (s .pre .0))) (omega arith)
     (λ i m. has-within _ (s .args .answering .bits) i (s .pre .2) (try-in (s .args .kind) (s .args .t .now) (s .args .c) (s .args .answering .bits) (c .cut .result .bits) (tried c) i m))
 
--- what a poll of the rows that answered says of P
-part : (c : tie.After-scanned) → let s = c .before .before .before .before .before .before .before .before in
-    Judged (answers (s .args .t .now) (s .args .answering .bits)) (has (c .before .cut .result .bits)) (c .scanned .result)
+-- the whole table as a part of itself
+lent-all : (xs : List ℕ) → take (length xs - 0) xs ≡ xs
+lent-all xs = take-all (length xs - 0) xs (omega arith)
+
+-- what a poll of P says of it
+alone-part : (c : tie.After-judged) → Judged (answers (c .before .before .before .before .before .before .before .before .before .args .t .now) (c .before .before .cut .result .bits)) (has (c .before .before .cut .result .bits)) (c .judged .result)
+alone-part c = rw (lent-all (c .before .before .before .before .before .before .before .before .before .args .t .now)) at (c .judged .ensures)
+
+-- and a poll of the rows that answered
+part : (c : tie.After-judged) → Judged (answers (c .before .before .before .before .before .before .before .before .before .args .t .now) (c .before .before .before .before .before .before .before .before .before .args .answering .bits)) (has (c .before .before .cut .result .bits)) (c .judged .result)
 part c =
-    let s = c .before .before .before .before .before .before .before .before in
-    alone (s .args .kind) (s .args .t .now) (s .args .c) (s .args .answering .bits) (c .before .cut .result .bits) (tried (c .before)) _ (c .scanned .ensures)
+    let a = c .before .before .before .before .before .before .before .before .before .args in
+    let p = c .before .before in
+    alone (a .kind) (a .t .now) (a .c) (a .answering .bits) (p .cut .result .bits) (tried p) _ (alone-part c)
+
+-- question 6 of P, and both: is it current too?
+abbrev six : tie.After-judged → Bool
+six c = not (isEmpty (c .judged .result .list)) && listQuorum (c .before .before .before .before .before .before .before .before .before .args .kind) (take (c .before .before .before .before .before .before .before .used .result) (c .before .before .before .before .before .before .before .before .before .args .order .now)) (c .judged .result .list) (has (c .before .before .cut .result .bits))
+
+abbrev yes : tie.After-judged → Bool
+yes c = c .judged .result .current && six c
+
+-- where the list in force is the coordinator's own, P, which is the whole choice, holds a quorum of it
+sure : (c : tie.Then2) → yes (c .before .before .before .before .before .before) ≡ true
+unfolding listOf list
+sure c =
+    let j = c .before .before .before .before .before .before in
+    let p = j .before .before in
+    let o = p .before .before .before in
+    let u = o .before .before in
+    let s = u .before .before in
+    let t = s .args .t .now in
+    let k = c .before .before .before .before .before .if1 .taken in
+    let both = sym (c .before .both .ensures) ∙ c .if2 .taken in
+    let whole : has (p .cut .result .bits) ≡ has (p .before .choice .result .bits) = ap has (eqb-true _ _ (and-l _ _ both)) in
+    let force : j .judged .result .list ≡ listOf t (s .args .c) = c .before .before .same .ensures .0 (and-r (eqb (p .cut .result .bits) (p .before .choice .result .bits)) _ both) ∙ own-is o in
+    and-i _ _ k
+    (rw (order-is u, force) (sure-held (s .args .kind) t (p .cut .result .bits) _ (listOf t (s .args .c)) (s .pre .0) (formed t (s .pre .0) .rows _ (own-used u) .only) (whole ∙ chosen-is (p .before)) (sym (alone-part j .current) ∙ k)))
+
+-- or it was counted
+counted : (c : tie.Then3) → yes (c .before .before .before .before .before .before .before .before) ≡ true
+counted c = and-i _ _ (c .before .before .before .before .before .before .before .if1 .taken) (sym (c .before .quorum-held .ensures) ∙ c .if3 .taken)
+
+-- otherwise one of them is no
+failed : (c : tie.Joined1) → yes (c .before) ≡ false
+failed c = ⊎-elim (λ w. no-second (c .before .judged .result .current) (six (c .before)) (sym (w .6 .ensures) ∙ w .7 .left)) (λ w. no-first (c .before .judged .result .current) (six (c .before)) (w .left)) (c .if1 .came)
+  where
+    no-first : (a b : Bool) → a ≡ false → (a && b) ≡ false
+    no-first a b e = rw e
+
+    no-second : (a b : Bool) → b ≡ false → (a && b) ≡ false
+    no-second a b e = rw e (and-false a)
 
 used-requires : tie.Need-used-requires
 used-requires c κs = long (sized (c .before .pre .0))
@@ -100,8 +147,17 @@ choice-requires c κs = listed (c .before .before .before)
 cut-requires : tie.Need-cut-requires
 cut-requires c κs = search needs
 
-scanned-requires : tie.Need-scanned-requires
-scanned-requires c κs = (sized (c .before .before .before .before .before .before .before .pre .0), tried-used c)
+sub-lent : tie.Need-sub-lent
+sub-lent c = search needs
+
+part-lent-start : tie.Need-part-lent-start
+part-lent-start c = search needs
+
+part-lent-end : tie.Need-part-lent-end
+part-lent-end c = search needs
+
+judged-requires : tie.Need-judged-requires
+judged-requires c κs = let s = c .before .before .before .before .before .before .before .before in rw (lent-all (s .args .t .now)) (sized (s .pre .0), tried-used (c .before))
 
 same-requires : tie.Need-same-requires
 same-requires c κs = search needs
@@ -109,75 +165,64 @@ same-requires c κs = search needs
 both-requires : tie.Need-both-requires
 both-requires c κs = search needs
 
--- where the list in force is the coordinator's own, P, which is the whole choice, holds a quorum of it
-passes-requires : tie.Need-passes-requires
-unfolding listOf list
-passes-requires c κs =
-    let j = c .before .before .before .before in
-    let p = j .before in
-    let o = p .before .before .before in
-    let u = o .before .before in
-    let s = u .before .before in
-    let t = s .args .t .now in (
-      listed u,
-      λ k sure.
-          let yes = sym (c .both .ensures) ∙ sure in
-          let whole : has (p .cut .result .bits) ≡ has (p .before .choice .result .bits) = ap has (eqb-true _ _ (and-l _ _ yes)) in
-          let force : j .scanned .result .list ≡ listOf t (s .args .c) = c .before .same .ensures .0 (and-r (eqb (p .cut .result .bits) (p .before .choice .result .bits)) _ yes) ∙ own-is o in
-          rw (order-is u, force) (sure-held (s .args .kind) t (p .cut .result .bits) _ (listOf t (s .args .c)) (s .pre .0) (formed t (s .pre .0) .rows _ (own-used u) .only) (whole ∙ chosen-is (p .before)) (sym (j .scanned .ensures .current) ∙ k)),
-    )
-
-size-requires : tie.Need-size-requires
-size-requires c κs = search needs
-
-cast-settled-on : tie.Need-cast-settled-on
-cast-settled-on c = record { fits = omega (arith, c .size .ensures, count-le 64 (has (c .before .before .before .before .before .before .before .before .before .choice .result .bits))) }
-
-settled-on-requires : tie.Need-settled-on-requires
-settled-on-requires c κs = search needs
+on-try-requires : tie.Need-on-try-requires
+on-try-requires c κs = search needs
 
 returns : tie.Need-returns
 returns c =
-    let y = c .before .before .before in
-    let j = y .before .before .before .before .before in
-    let p = j .before in
+    let h = c .before in
+    let j = h .before .before .before .before .before .before in
+    let p = j .before .before in
     let u = p .before .before .before .before .before in
-    let s = u .before .before in
-    works-on-try (s .args .kind) (s .args .t .now) (s .args .c) (s .args .answering .bits) (p .cut .result .bits) (tried p) _ (order-is u) _ (part j) _ (y .passes .ensures)
-    (c .before .before .if1 .taken) _ (p .cut .result) _ refl (c .before .size .ensures ∙ ap (count 64) (chosen-said (p .before))) (c .settled-on .ensures)
+    let a = u .before .before .args in
+    works-on-try (a .kind) (a .t .now) (a .c) (a .answering .bits) (p .cut .result .bits) (tried p) _ (order-is u) _ (part j) (yes j) refl
+    (sure h) _ (p .cut .result) _ refl (ap (count 64) (chosen-said (p .before))) (c .on-try .ensures)
 
-on-all-requires : tie.Need-on-all-requires
-on-all-requires c κs = listed (c .before .before .before .before .before .before .before .before .before .before .before .before .before .before .before)
+quorum-held-requires : tie.Need-quorum-held-requires
+quorum-held-requires c κs = listed (c .before .before .before .before .before .before .before .before .before .before .before .before .before)
+
+on-try-requires-2 : tie.Need-on-try-requires-2
+on-try-requires-2 c κs = search needs
 
 returns-2 : tie.Need-returns-2
 returns-2 c =
-    let e = c .before .before .before .before in
-    let y = e .before in
-    let j = y .before .before .before .before .before in
-    let p = j .before in
+    let h = c .before in
+    let j = h .before .before .before .before .before .before .before .before in
+    let p = j .before .before in
     let u = p .before .before .before .before .before in
-    let s = u .before .before in
-    let a = s .args in
-    works-on-all (a .kind) (a .t .now) (a .c) (a .answering .bits) (p .cut .result .bits) (tried p) _ (order-is u) _ (part j) _ (y .passes .ensures)
-    (e .if1 .left) _ (a .answering) _ _ refl (u .used .ensures)
-    (subst (λ (x : ℕ). Judged (answers (a .t .now) (a .answering .bits)) (has x) (j .scanned .result)) (c .before .if2 .taken) (part j)) (c .on-all .ensures)
+    let a = u .before .before .args in
+    works-on-try (a .kind) (a .t .now) (a .c) (a .answering .bits) (p .cut .result .bits) (tried p) _ (order-is u) _ (part j) (yes j) refl
+    (counted h) _ (p .cut .result) _ refl (ap (count 64) (chosen-said (p .before))) (c .on-try2 .ensures)
 
-scanned-requires-2 : tie.Need-scanned-requires-2
-scanned-requires-2 c κs = let s = c .before .before .before .before .before .before .before .before .before .before .before .before .before .before .before .before .before in (sized (s .pre .0), s .pre .2)
-
-on-all-requires-2 : tie.Need-on-all-requires-2
-on-all-requires-2 c κs = listed (c .before .before .before .before .before .before .before .before .before .before .before .before .before .before .before .before)
+on-all-requires : tie.Need-on-all-requires
+on-all-requires c κs = listed (c .before .before .before .before .before .before .before .before .before .before .before)
 
 returns-3 : tie.Need-returns-3
 returns-3 c =
-    let e = c .before .before .before .before .before in
-    let y = e .before in
-    let j = y .before .before .before .before .before in
-    let p = j .before in
+    let g = c .before .before .before .before in
+    let j = g .before in
+    let p = j .before .before in
     let u = p .before .before .before .before .before in
-    let s = u .before .before in
-    works-on-all (s .args .kind) (s .args .t .now) (s .args .c) (s .args .answering .bits) (p .cut .result .bits) (tried p) _ (order-is u) _ (part j) _ (y .passes .ensures)
-    (e .if1 .left) _ (s .args .answering) _ _ refl (u .used .ensures) (c .before .scanned2 .ensures) (c .on-all2 .ensures)
+    let a = u .before .before .args in
+    works-on-all (a .kind) (a .t .now) (a .c) (a .answering .bits) (p .cut .result .bits) (tried p) _ (order-is u) _ (part j) (yes j) refl
+    (failed g) _ (a .answering) _ _ refl (u .used .ensures)
+    (subst (λ (x : ℕ). Judged (answers (a .t .now) (a .answering .bits)) (has x) (j .judged .result)) (c .before .if4 .taken) (part j)) (c .on-all .ensures)
+
+judged-requires-2 : tie.Need-judged-requires-2
+judged-requires-2 c κs = let s = c .before .before .before .before .before .before .before .before .before .before .before .before .before in rw (lent-all (s .args .t .now)) (sized (s .pre .0), s .pre .2)
+
+on-all-requires-2 : tie.Need-on-all-requires-2
+on-all-requires-2 c κs = listed (c .before .before .before .before .before .before .before .before .before .before .before .before)
+
+returns-4 : tie.Need-returns-4
+returns-4 c =
+    let g = c .before .before .before .before .before in
+    let j = g .before in
+    let p = j .before .before in
+    let u = p .before .before .before .before .before in
+    let a = u .before .before .args in
+    works-on-all (a .kind) (a .t .now) (a .c) (a .answering .bits) (p .cut .result .bits) (tried p) _ (order-is u) _ (part j) (yes j) refl
+    (failed g) _ (a .answering) _ _ refl (u .used .ensures) (rw (lent-all (a .t .now)) at (c .before .judged2 .ensures)) (c .on-all2 .ensures)
 
 pub settle-spec : {M : Type 1} → statement M
 settle-spec =
@@ -189,16 +234,19 @@ settle-spec =
     name-requires
     choice-requires
     cut-requires
-    scanned-requires
+    sub-lent
+    part-lent-start
+    part-lent-end
+    judged-requires
     same-requires
     both-requires
-    passes-requires
-    size-requires
-    cast-settled-on
-    settled-on-requires
+    on-try-requires
     returns
-    on-all-requires
+    quorum-held-requires
+    on-try-requires-2
     returns-2
-    scanned-requires-2
+    on-all-requires
+    returns-3
+    judged-requires-2
     on-all-requires-2
-    returns-3)
+    returns-4)

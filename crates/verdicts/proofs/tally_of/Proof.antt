@@ -23,7 +23,7 @@ both-requires : tie.Need-both-requires
 both-requires c κs = search needs
 
 returns : tie.Need-returns
-returns c p epochs shown =
+returns c p listed epochs shown =
     let e = c .before in
     let above = e .before .before in
     let best = above .before .before in
