@@ -44,7 +44,7 @@ pub struct Counts {
     moved: [[[u64; BUFFERS.len()]; MOVE_FORMS.len()]; Rules::ALL.len()],
     /// For each of `WAYS`, how many founded histories went that way.
     went_on: [u64; WAYS.len()],
-    /// For each form, how many moves to form 1 were of tables of each of `UNPUBLISHED`, whose rules allow it.
+    /// For each form, how many moves to form 1 were of tables with one alone of `UNPUBLISHED`.
     unpublished: [[u64; UNPUBLISHED.len()]; Rules::ALL.len()],
     /// How many well-formed tables were looked at through the wrapper, and how many sends would be done there.
     looked: u64,
@@ -113,7 +113,7 @@ const WAYS: [(u8, u64); 4] = [(1, 3), (2, 3), (3, 1), (3, 2)];
 /// The lengths of a move's buffer that must come.
 const BUFFERS: [(&str, isize); 3] = [("a byte short", -1), ("right", 0), ("a byte long", 1)];
 
-/// The tables that cannot move to form 1.
+/// What keeps a table from moving to form 1.
 const UNPUBLISHED: [&str; 2] = ["a grid mark", "an empty list"];
 
 /// What a done write added to the window of a row.
@@ -339,7 +339,8 @@ impl Counts {
             lengths.into_iter().for_each(|(_, fills)| fills[fill(added.patches)] += 1);
         }
         if let Some(Moved { from, form, over, marked, unlisted, went_on }) = step.moved {
-            let ways = WAYS.iter().zip(&mut self.went_on).filter(|(way, _)| went_on && **way == (from.form(), form));
+            let ways =
+                WAYS.iter().zip(&mut self.went_on).filter(|(way, _)| went_on && **way == (from.form(), form));
             ways.for_each(|(_, count)| *count += 1);
             let to = MOVE_FORMS.iter().position(|&such| such == form);
             let buffer = BUFFERS.iter().position(|&(_, such)| such == over);
@@ -348,7 +349,6 @@ impl Counts {
             }
             if form == 1 {
                 let counts = &mut self.unpublished[from as usize];
-                // One ground at a time.
                 counts[0] += u64::from(marked && !unlisted);
                 counts[1] += u64::from(unlisted && !marked);
             }

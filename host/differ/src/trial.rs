@@ -761,7 +761,10 @@ mod tests {
                 altered.buffer[at] ^= 1;
                 assert!(!frame(&altered), "byte {at}");
             }
-            assert!(!frame(&Answer { result: 12 << 32, ..answer.clone() }), "refused, and the wrapper moves it");
+            assert!(
+                !frame(&Answer { result: 12 << 32, ..answer.clone() }),
+                "refused, and the wrapper moves it"
+            );
             assert!(trial.move_frame(&call, &answer, None, &before).is_err(), "a malformed table moved");
         }
     }

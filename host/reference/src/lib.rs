@@ -1,8 +1,8 @@
 //! A second implementation of the grid table's calls, written from the papers alone: plain and obvious,
 //! table bytes in, table bytes out. It shares no code with the library that it is compared with.
 //!
-//! [`Engine`] answers the calls, by the newest [`Rules`] or by those of an older form, of which form 1 has the scope's alone; [`Book`] is the plain book, and a
-//! [`Blunder`] turns the engine into a wrong one.
+//! [`Engine`] answers the calls, by the newest [`Rules`] or by those of an older form, of which form 1 has the scope's alone;
+//! [`Book`] is the plain book, and a [`Blunder`] turns the engine into a wrong one.
 
 mod blunder;
 mod book;
