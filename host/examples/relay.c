@@ -163,7 +163,9 @@ int main(void)
     if (grid_refusal(read_score(3, grid_row(3) | grid_row(4), score)) != GRID_NOT_CURRENT)
         return 1;
     /* Row 4 lacks two patches, which row 2 has in its window. With them they are a quorum that is current. */
-    if (send_row(2, 4) != 2 || read_score(3, grid_row(3) | grid_row(4), score) != 2)
+    if (grid_patches(machines[1], FILE_BYTES) != 2 || send_row(2, 4) != 2)
+        return 1;
+    if (read_score(3, grid_row(3) | grid_row(4), score) != 2)
         return 1;
     return memcmp(score, "0-1", 3) != 0;
 }
