@@ -1,22 +1,20 @@
 -- Patches laid one after another, along a right window's chain.
-use mathlib.Core.Path.{_≡_, refl, sym, _∙_, ap, ap₂}
+use mathlib.Core.Path.{_≡_, refl, sym, _∙_, ap}
 use mathlib.Core.Bool.{Bool, true, false, cond}
 use mathlib.Core.List.{List, [], _∷_, _++_, map, map-append, append-nil, append-assoc}
-use Prim.Native.Nat.{ℕ, zero, suc, _+_, _-_, _*_, _≤_, _<_}
+use Prim.Native.Nat.{ℕ, zero, suc, _+_, _-_, _≤_, _<_}
 use native.Mathlib.Omega.{arith}
 use lib.Dec.{leb}
-use lib.ListN.{length, take, drop, length-append, length-map}
-use lib.Seq.{drop-append-le, drop-at, drop-drop}
+use lib.ListN.{length, drop, length-append, length-map}
+use lib.Seq.{drop-append-le}
 use borrow.Author.Tests.{leb-true, leb-false, le-leb, lt-leb}
 use Rattle.bools.proofs.BoolLaws.{and-l, and-r}
 use Rattle.sets.specs.Upto.{Within, among}
-use Rattle.bytes.specs.Bytes.{part, put}
-use Rattle.bytes.proofs.ByteLaws.{length-put, length-part}
+use Rattle.bytes.specs.Bytes.{put}
 use Rattle.fields.specs.Layout.{get}
-use Rattle.blocks.specs.Blocks.{block}
 use Rattle.linking.specs.Linking.{chain}
 use Rattle.linking.proofs.PathLaws.{chain-zero, chain-suc}
-use Rattle.window.specs.Windows.{Window, Patch, size, start, patchIn, recordOf, next, path, patches, recordRight, windowRight, laid, lastly, sent}
+use Rattle.window.specs.Windows.{Window, Patch, size, start, patchIn, recordOf, next, path, patches, recordRight, laid, lastly, sent}
 use Rattle.window.specs.Claims.{Whole}
 use Rattle.window.proofs.RightLaws.{Right, right-is, right-within}
 use Rattle.windows.specs.Visits.{RightFor}

@@ -1,17 +1,16 @@
 -- Records written by the code: a record filled, and a record lent and back in its place.
 use mathlib.Core.Path.{_≡_, refl, sym, _∙_, ap, ap₂}
-use mathlib.Core.List.{List, [], _∷_, _++_}
+use mathlib.Core.List.{List, _++_}
 use Prim.Native.Nat.{ℕ, zero, suc, _+_, _-_, _*_, _≤_}
 use native.Mathlib.Omega.{arith}
 use lib.ListN.{length, take, drop}
 use lib.Seq.{drop-drop}
-use Rattle.sets.specs.Upto.{Within}
-use Rattle.bytes.specs.Bytes.{bytesOf, part, put, zeros}
-use Rattle.bytes.proofs.ByteLaws.{bytes-zero, split-zeros, length-zeros}
+use Rattle.bytes.specs.Bytes.{bytesOf, put, zeros}
+use Rattle.bytes.proofs.ByteLaws.{split-zeros, length-zeros}
 use Rattle.bytes.proofs.CodeLaws.{part-back, part-is}
 use lib.Seq.{drop-at}
 use Rattle.blocks.specs.Blocks.{block, withBlock}
-use Rattle.window.specs.Windows.{Patch, recordWith}
+use Rattle.window.specs.Windows.{recordWith}
 
 -- zeros, then length, offset and patch
 first : ℕ → ℕ → List ℕ
@@ -43,10 +42,6 @@ lent-record xs ys zero f h e n = absurd (omega arith)
 lent-record xs ys (suc k) f h e n =
     let z : (suc k - 1) * 36 ≡ 0 + k * 36 = omega arith in
     part-back ((suc k - 1) * 36) 36 xs ys ys refl n ∙ ap₂ (λ (a : ℕ) (p : List ℕ). put a p xs) z (e ∙ ap f (part-is xs ((suc k - 1) * 36) 36 (0 + k * 36) 36 z refl))
-
--- its bytes are 36
-pub lent-long : (xs : List ℕ) (l : ℕ) → Within 16 l → length xs ≡ 576 → (l - 1) * 36 + 36 ≤ length xs
-lent-long xs l v e = omega arith
 
 -- a record as the code cuts it
 pub cut-record : (records : List ℕ) (x : ℕ) → 1 ≤ x → take (((x - 1) * 36 + 36) - (x - 1) * 36) (drop ((x - 1) * 36) records) ≡ block 0 36 x records

@@ -1,22 +1,19 @@
 -- A row whose window was changed by the code.
-use mathlib.Core.Path.{_≡_, refl, sym, _∙_, ap, ap₂, subst}
-use mathlib.Core.Bool.{Bool, true, cond}
-use mathlib.Core.List.{List, [], _∷_, _++_}
-use Prim.Native.Nat.{ℕ, zero, suc, _+_, _-_, _*_, _≤_, _<_}
+use mathlib.Core.Path.{_≡_, sym, _∙_, ap, ap₂}
+use mathlib.Core.List.{List, _++_}
+use Prim.Native.Nat.{ℕ, zero, suc, _+_, _-_, _≤_}
 use native.Mathlib.Omega.{arith}
-use lib.Dec.{eqb, leb}
 use lib.ListN.{length, take, drop, length-take, length-drop}
 use lib.Seq.{drop-drop, take-all}
 use borrow.Author.Tests.{le-leb}
 use Rattle.sets.specs.Upto.{Within}
-use Rattle.bytes.specs.Bytes.{bytesOf, part, put, zeros}
+use Rattle.bytes.specs.Bytes.{bytesOf, put, zeros}
 use Rattle.bytes.proofs.ByteLaws.{bytes-zero, length-zeros}
-use Rattle.bytes.proofs.CodeLaws.{tail-is}
 use Rattle.blocks.specs.Blocks.{block, withBlock}
 use Rattle.blocks.proofs.BlockLaws.{length-stays, length-block}
-use Rattle.fields.specs.Layout.{Field, get, store, oldest, records, storeRecords}
+use Rattle.fields.specs.Layout.{get, store, oldest, records, storeRecords}
 use Rattle.fields.proofs.FieldLaws.{length-store, records-store}
-use Rattle.window.specs.Windows.{Window, Patch, places, width, younger, recordWith, taken, left, youngest, emptied, added, windowOf, storeWindow}
+use Rattle.window.specs.Windows.{Window, Patch, places, width, younger, recordWith, emptied, added, windowOf, storeWindow}
 use Rattle.window.proofs.PatchLaws.{record-long, relinked-long}
 use Rattle.windows.specs.Visits.{window}
 use Rattle.patches.specs.Places.{Placed}

@@ -15,7 +15,7 @@ ghost use Rattle.window.specs.Windows.{younger, size, path, recordRight, younge
 ghost use Rattle.windows.specs.Visits.{window, RightFor};
 ghost use Rattle.patches.specs.Places.{Placed};
 
-// The end of a right window's chain: how many records it has, and the youngest, 0 for none.
+// How many records a right window has in use, and the youngest of them, 0 for none.
 struct Tail {
     count: usize,
     youngest: usize,
@@ -36,7 +36,7 @@ fn either(c: bool, a: usize, b: usize) -> usize
     if c { a } else { b }
 }
 
-// The records in use are the first ones, and the youngest is the one that none follows: so the chain need not be followed.
+// The records in use are the first ones, and the youngest is the one that none follows: the chain need not be followed.
 fn ended(oldest: usize, records: &[u8]) -> Tail
     requires { ⌜ (length (now records) ≡ 576) × ((file : ℕ) × RightFor file (window oldest (now records))) ⌝ }
     ensures { λ r. ⌜ (r .count ≡ length (path (window oldest (now (records .entry))))) × (r .youngest ≡ youngest (window oldest (now (records .entry)))) ⌝ }

@@ -1,29 +1,22 @@
 -- The sender's row on a page, and the target's row lent.
-use mathlib.Core.Path.{_≡_, refl, sym, _∙_, ap, ap₂, subst}
-use mathlib.Core.List.{List, [], _++_}
-use Prim.Native.Nat.{ℕ, zero, suc, _+_, _-_, _*_, _≤_, _<_}
+use mathlib.Core.Path.{_≡_, refl, sym, _∙_, ap, ap₂}
+use mathlib.Core.List.{List, _++_}
+use Prim.Native.Nat.{ℕ, zero, suc, _+_, _-_, _≤_}
 use native.Mathlib.Omega.{arith}
 use lib.ListN.{length, take, drop}
-use lib.Seq.{take-at}
 use Rattle.sets.specs.Upto.{Within}
-use Rattle.bytes.specs.Bytes.{part, put}
+use Rattle.bytes.specs.Bytes.{put}
 use Rattle.bytes.proofs.CodeLaws.{part-back, part-is, part-length}
-use Rattle.blocks.specs.Blocks.{block, withBlock}
-use Rattle.fields.specs.Layout.{formValue, formOf, usedOf, fileLengthOf, rowLength, rowsEnd, rowBytes, withRow}
+use Rattle.blocks.specs.Blocks.{withBlock}
+use Rattle.fields.specs.Layout.{formValue, formOf, usedOf, rowLength, rowsEnd, rowBytes, withRow}
 use Rattle.fields.proofs.FieldLaws.{row-room}
 use Rattle.table.specs.Contracts.{Sized}
-use Rattle.table.proofs.WellFormedLaws.{header, row-in, row-part, length-row}
-use Rattle.window.specs.Windows.{Window, windowOf}
-use Rattle.windows.specs.Visits.{RightFor}
+use Rattle.table.proofs.WellFormedLaws.{header, row-in, row-part}
 
 with-row : (t : List ℕ) (i : ℕ) → 1 ≤ i → (f : List ℕ → List ℕ) → withRow t i f ≡ put (rowsEnd t (i - 1)) (f (rowBytes t i)) t
 unfolding withRow withBlock rowsEnd rowBytes
 with-row t zero w f = absurd (omega arith)
 with-row t (suc k) w f = let z : suc k - 1 ≡ k = omega arith in rw z
-
--- bytes copied to the start of a page, and cut from it
-pub page-is : (page ys : List ℕ) (n : ℕ) → length ys ≡ n → take (n - 0) (drop 0 (take 0 page ++ (ys ++ drop (n - 0) (drop 0 page)))) ≡ ys
-page-is page ys n e = let z : n - 0 ≡ n = omega arith in rw z (take-at ys (drop n page) n e)
 
 module _ {t : List ℕ} (z : Sized t) (i : ℕ) (w : Within (usedOf t) i) (size at : ℕ) (e : size ≡ rowLength t) (q : at ≡ rowsEnd t (i - 1)) where
   pub row-fits : at + size ≤ length t

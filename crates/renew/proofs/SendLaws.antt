@@ -1,7 +1,7 @@
 -- What a send leaves of a row, as the code makes it.
-use mathlib.Core.Path.{_≡_, refl, sym, _∙_, ap, ap₂, subst}
+use mathlib.Core.Path.{_≡_, sym, _∙_, ap, ap₂, subst}
 use mathlib.Core.List.{List, _++_}
-use Prim.Native.Nat.{ℕ, zero, suc, _+_, _-_, _*_, _≤_, _<_}
+use Prim.Native.Nat.{ℕ, _+_, _-_, _≤_}
 use native.Mathlib.Omega.{arith}
 use lib.ListN.{length, take, drop, length-take, length-drop}
 use lib.Seq.{drop-drop}
@@ -10,7 +10,6 @@ use Rattle.bytes.proofs.CodeLaws.{tail-is}
 use Rattle.fields.specs.Layout.{get, store, mark, version, desired, oldest, contents, records, storeContents, storeRecords}
 use Rattle.fields.proofs.FieldLaws.{length-store, contents-store}
 use Rattle.window.specs.Windows.{Window, windowOf, storeWindow, sent}
-use Rattle.window.proofs.RowLaws.{window-whole}
 use Rattle.windows.specs.Visits.{window, RightFor}
 use Rattle.patches.proofs.RowLaws.{tail-back, cut-window}
 use Rattle.protocol.specs.Rows.{sentContents, refreshedRow}

@@ -4,7 +4,7 @@ ghost use mathlib.Core.Logic.{_≢_};
 ghost use Prim.Native.Nat.{_-_, _≤_};
 ghost use lib.ListN.{length};
 ghost use Rattle.sets.specs.Upto.{Within};
-ghost use Rattle.fields.specs.Layout.{store, formValue, mark, version, desired, contents, storeContents, formOf, usedOf, rowBytes, withRow};
+ghost use Rattle.fields.specs.Layout.{store, formValue, mark, version, desired, contents, storeContents, formOf, usedOf, rowLength, rowBytes, withRow};
 ghost use Rattle.window.specs.Windows.{windowOf, storeWindow, sent};
 ghost use Rattle.windows.specs.Visits.{RightFor};
 ghost use Rattle.table.specs.Contracts.{Sized};
@@ -66,8 +66,24 @@ fn refresh_row(row: &mut [u8], source: &[u8])
     take_window(row, source);
 }
 
-// Where a row is on its way.
-fn new_page() -> [u8; 4704] {
+// Row `to` takes the contents, the version and the window of row `from`, which is on its way on a page.
+fn refresh_by(t: &mut [u8], from: usize, to: usize, page: &mut [u8])
+    requires { ⌜ Sized (now t) × Within (usedOf (now t)) from × Within (usedOf (now t)) to × (from ≢ to) × RightFor (length (rowBytes (now t) to) - 608) (windowOf (rowBytes (now t) from)) × (formOf (now t) ≡ formValue) × (rowLength (now t) ≤ length (now page)) ⌝ }
+    ensures { λ r. ⌜ now (t .exit) ≡ withRow (now (t .entry)) to (refreshedRow (rowBytes (now (t .entry)) from)) ⌝ }
+{
+    let size = table::row_length(t);
+    let source = table::rows_end(t, from - 1);
+    let at = table::rows_end(t, to - 1);
+    copying::copy(&mut page[0..size], &t[source..source + size]);
+    refresh_row(&mut t[at..at + size], &page[0..size]);
+}
+
+// A page for a row of a small file, and one for any row.
+fn small_page() -> [u8; 1024] {
+    [0u8; 1024]
+}
+
+fn large_page() -> [u8; 4704] {
     [0u8; 4704]
 }
 
@@ -76,10 +92,10 @@ pub fn refresh(t: &mut [u8], from: usize, to: usize)
     requires { ⌜ Sized (now t) × Within (usedOf (now t)) from × Within (usedOf (now t)) to × (from ≢ to) × RightFor (length (rowBytes (now t) to) - 608) (windowOf (rowBytes (now t) from)) × (formOf (now t) ≡ formValue) ⌝ }
     ensures { λ r. ⌜ now (t .exit) ≡ withRow (now (t .entry)) to (refreshedRow (rowBytes (now (t .entry)) from)) ⌝ }
 {
-    let size = table::row_length(t);
-    let source = table::rows_end(t, from - 1);
-    let at = table::rows_end(t, to - 1);
-    let mut page = new_page();
-    copying::copy(&mut page[0..size], &t[source..source + size]);
-    refresh_row(&mut t[at..at + size], &page[0..size]);
+    if table::row_length(t) <= 1_024 {
+        let mut page = small_page();
+        return refresh_by(t, from, to, &mut page);
+    }
+    let mut page = large_page();
+    refresh_by(t, from, to, &mut page);
 }

@@ -1,27 +1,26 @@
 -- A patch more: the last 15 at most of the patches before, then the new one; and the window stays right.
 use mathlib.Core.Path.{_≡_, refl, sym, _∙_, ap, ap₂, subst}
-use mathlib.Core.Bool.{Bool, true, false, cond, _&&_, _||_}
+use mathlib.Core.Bool.{Bool, true, false, cond}
 use mathlib.Core.Logic.{_⊎_, inl, inr, ⊎-elim}
 use mathlib.Core.List.{List, [], _∷_, _++_, map, map-append}
 use Prim.Native.Nat.{ℕ, zero, suc, _+_, _-_, _*_, _≤_, _<_}
-use native.Mathlib.Nat.{mul-le-mul-right}
 use native.Mathlib.Decide.{decLe, ℕ-discrete}
 use native.Mathlib.Omega.{arith}
-use lib.Dec.{eqb, leb, ltb}
-use lib.ListN.{length, take, drop, length-append, length-map}
+use lib.Dec.{eqb}
+use lib.ListN.{length, drop, length-append, length-map}
 use lib.Seq.{drop-drop}
-use borrow.Author.Tests.{leb-true, le-leb, eqb-true, eq-eqb, ne-eqb, lt-leb}
-use Rattle.bools.proofs.BoolLaws.{and-l, and-r, and-i, or-l, or-r, clash}
+use borrow.Author.Tests.{le-leb, eq-eqb, ne-eqb, lt-leb}
+use Rattle.bools.proofs.BoolLaws.{or-l, or-r, clash}
 use Rattle.sets.specs.Upto.{Within, every, among}
 use Rattle.sets.proofs.UptoLaws.{last}
 use Rattle.sets.proofs.RisingLaws.{among-head, among-tail, among-e}
-use Rattle.bytes.specs.Bytes.{part, allZero, zeros}
+use Rattle.bytes.specs.Bytes.{allZero, zeros}
 use Rattle.bytes.proofs.ByteLaws.{zero-drop, zeros-zero, length-zeros}
 use Rattle.blocks.specs.Blocks.{block, withBlock}
-use Rattle.blocks.proofs.BlockLaws.{Altered, one-changed, tail-stays, ends}
-use Rattle.fields.specs.Layout.{Field, get, store}
+use Rattle.blocks.proofs.BlockLaws.{one-changed, tail-stays, ends}
+use Rattle.fields.specs.Layout.{get, store}
 use Rattle.linking.specs.Linking.{chain, lastOf, behind}
-use Rattle.linking.proofs.PathLaws.{Path, path-of, path-rows, path-same, chain-of, chain-zero, behind-row}
+use Rattle.linking.proofs.PathLaws.{Path, chain-of, behind-row}
 use Rattle.linking.proofs.InsertLaws.{last-among}
 use Rattle.linking.proofs.EndLaws.{path-more, path-apart, path-behind}
 use Rattle.window.specs.Windows.{Window, Patch, places, width, younger, patchIn, recordWith, recordOf, next, path, patches, recordRight, windowRight, emptied, free, taken, left, youngest, added}

@@ -3,7 +3,7 @@ use mathlib.Core.Bool.{Bool, true, false, not, _&&_}
 use mathlib.Core.List.{List, [], _∷_, _++_, map}
 use Prim.Native.Nat.{ℕ, zero, suc, _+_, _-_}
 use lib.Dec.{eqb}
-use lib.ListN.{length, replicate}
+use lib.ListN.{replicate}
 use Rattle.sets.specs.Upto.{upward}
 use Rattle.bytes.specs.Bytes.{bytesOf, put, zeros}
 use Rattle.window.specs.Windows.{Window, Patch, path, patches, windowRight, emptied, added, sent}

@@ -1,18 +1,17 @@
 -- One record: what is written in it is read; another next index alters nothing else of it.
-use mathlib.Core.Path.{_≡_, refl, sym, _∙_, ap, ap₂}
-use mathlib.Core.Bool.{Bool, true, false, _&&_}
-use mathlib.Core.Logic.{inl, inr}
-use mathlib.Core.List.{List, [], _∷_, _++_}
-use Prim.Native.Nat.{ℕ, zero, suc, _+_, _-_, _*_, _%_, _/_, _^_, _≤_, _<_}
+use mathlib.Core.Path.{_≡_, refl, sym, _∙_, ap}
+use mathlib.Core.Bool.{true, false}
+use mathlib.Core.Logic.{inr}
+use mathlib.Core.List.{List, _++_}
+use Prim.Native.Nat.{ℕ, zero, suc, _+_, _-_, _≤_, _<_}
 use native.Mathlib.Omega.{arith}
-use lib.Dec.{eqb, leb}
-use lib.ListN.{length, take, drop, length-append}
+use lib.ListN.{length, drop, length-append}
 use lib.Seq.{take-at, drop-at, drop-drop}
 use borrow.Author.Tests.{leb-true, le-leb}
-use Rattle.bools.proofs.BoolLaws.{and-l, and-r, and-i, clash, same-test}
-use Rattle.bytes.specs.Bytes.{number, bytesOf, part, put, zeros, allZero}
+use Rattle.bools.proofs.BoolLaws.{and-l, clash, same-test}
+use Rattle.bytes.specs.Bytes.{number, bytesOf, part, zeros, allZero}
 use Rattle.bytes.proofs.ByteLaws.{length-bytes, length-zeros, zeros-zero, zeros-are, drop-put-after}
-use Rattle.fields.specs.Layout.{Field, get, store}
+use Rattle.fields.specs.Layout.{get, store}
 use Rattle.fields.proofs.FieldLaws.{length-store, get-store, get-other, part-store}
 use Rattle.window.specs.Windows.{Patch, width, younger, size, start, patchIn, recordWith, recordRight}
 use Rattle.window.specs.Claims.{Fits}

@@ -1,5 +1,5 @@
 -- The last d patches of a row's window, laid over what a row kept d versions back.
-use mathlib.Core.Path.{_≡_, refl, sym, _∙_, ap, ap₂, subst}
+use mathlib.Core.Path.{_≡_, refl, sym, _∙_, ap}
 use mathlib.Core.Bool.{Bool, true, false, cond}
 use mathlib.Core.List.{List, [], _∷_, _++_}
 use Prim.Native.Nat.{ℕ, zero, suc, _+_, _-_, _≤_, _<_}
@@ -9,11 +9,10 @@ use lib.Dec.{leb}
 use lib.ListN.{length, drop, length-append, length-drop}
 use lib.Seq.{drop-drop, drop-length, drop-append-le}
 use borrow.Author.Tests.{leb-true, le-leb, lt-leb}
-use Rattle.bytes.specs.Bytes.{put, zeros}
+use Rattle.bytes.specs.Bytes.{put}
 use Rattle.bytes.proofs.ByteLaws.{length-put, length-zeros}
-use Rattle.window.specs.Windows.{Window, Patch, Kept, patches, windowRight, emptied, added, patched, laid, lastly, sent}
+use Rattle.window.specs.Windows.{Window, Patch, Kept, patches, windowRight, added, patched, laid, lastly, sent}
 use Rattle.window.specs.Claims.{Whole, Fits, LatestKept, StaysRight, Grown, SentIsWhole}
-use Rattle.window.proofs.RightLaws.{right-is}
 use Rattle.window.proofs.AddLaws.{patches-added, added-long, patches-emptied, emptied-whole, emptied-right, added-right}
 
 -- ---- lists of patches

@@ -1,16 +1,14 @@
 -- What a right window is, as facts; and which record is free in it.
-use mathlib.Core.Path.{_≡_, refl, sym, _∙_, ap, ap₂}
-use mathlib.Core.Bool.{Bool, true, false, cond, _&&_}
-use mathlib.Core.List.{List, [], _∷_, _++_}
+use mathlib.Core.Path.{_≡_, refl}
+use mathlib.Core.Bool.{true, false}
+use mathlib.Core.List.{List, [], _∷_}
 use Prim.Native.Nat.{ℕ, zero, suc, _+_, _-_, _*_, _≤_, _<_}
-use native.Mathlib.Nat.{zero-add, mul-le-mul-right}
-use native.Mathlib.Decide.{decLe}
 use native.Mathlib.Omega.{arith}
 use lib.Dec.{eqb, leb}
-use lib.ListN.{length, take, drop, length-drop}
+use lib.ListN.{length, take, drop}
 use lib.Seq.{drop-drop}
-use borrow.Author.Tests.{leb-true, le-leb, eqb-true}
-use Rattle.bools.proofs.BoolLaws.{and-l, and-r, and-i, clash}
+use borrow.Author.Tests.{leb-true, le-leb}
+use Rattle.bools.proofs.BoolLaws.{and-l, and-r, and-i}
 use Rattle.sets.specs.Upto.{Within, every, lowest, among}
 use Rattle.sets.proofs.UptoLaws.{every-at, every-of, lowest-is, lowest-none}
 use Rattle.bytes.specs.Bytes.{part, allZero}
@@ -18,7 +16,7 @@ use Rattle.bytes.proofs.ByteLaws.{zero-drop}
 use Rattle.blocks.specs.Blocks.{block}
 use Rattle.blocks.proofs.BlockLaws.{length-block}
 use Rattle.linking.specs.Linking.{behind}
-use Rattle.linking.proofs.PathLaws.{Path, path-of, path-rows}
+use Rattle.linking.proofs.PathLaws.{Path, path-of}
 use Rattle.sets.proofs.EachLaws.{only-those}
 use Rattle.window.specs.Windows.{Window, places, width, recordOf, next, path, recordRight, windowRight, free}
 use Rattle.window.specs.Claims.{Whole}

@@ -1,18 +1,17 @@
 -- A row's window: what is stored is read, nothing else changes; no other change of a row alters it.
-use mathlib.Core.Path.{_≡_, refl, sym, _∙_, ap, ap₂}
+use mathlib.Core.Path.{_≡_, refl, _∙_, ap}
 use mathlib.Core.Bool.{true}
 use mathlib.Core.Logic.{inl, inr}
 use mathlib.Core.List.{List, [], _∷_}
-use Prim.Native.Nat.{ℕ, _+_, _-_, _^_, _≤_, _<_}
+use Prim.Native.Nat.{ℕ, _+_, _-_, _≤_, _<_}
 use native.Mathlib.Omega.{arith}
 use lib.ListN.{length, take, drop, length-drop}
 use lib.Seq.{drop-drop}
-use Rattle.sets.specs.Upto.{Within}
 use Rattle.sets.proofs.RisingLaws.{among-head}
 use Rattle.bytes.specs.Bytes.{number, part, zeros, allZero}
 use Rattle.bytes.proofs.ByteLaws.{zeros-are, first-zeros, zero-drop}
-use Rattle.fields.specs.Layout.{Field, get, store, oldest, records, storeRecords, reserved, contents, storeContents}
-use Rattle.fields.proofs.FieldLaws.{Ends, length-store, get-store, get-other, reserved-store, contents-store, records-store, length-contents, get-contents, records-contents, length-records, get-records, reserved-records, contents-records, records-records}
+use Rattle.fields.specs.Layout.{Field, get, store, oldest, records, reserved, contents, storeContents}
+use Rattle.fields.proofs.FieldLaws.{Ends, length-store, get-store, get-other, reserved-store, contents-store, records-store, get-contents, records-contents, length-records, get-records, reserved-records, contents-records, records-records}
 use Rattle.linking.proofs.PathLaws.{Path}
 use Rattle.window.specs.Windows.{Window, next, path, places, width, emptied, windowRight, windowOf, storeWindow}
 use Rattle.window.specs.Claims.{Whole}

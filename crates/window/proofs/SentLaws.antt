@@ -1,17 +1,16 @@
 -- What a send lays is as long as the file.
-use mathlib.Core.Path.{_≡_, refl, sym, _∙_, ap, ap₂}
-use mathlib.Core.Bool.{Bool, true, false, cond, _&&_}
-use mathlib.Core.Logic.{⊎-elim}
+use mathlib.Core.Path.{_≡_, _∙_}
+use mathlib.Core.Bool.{Bool, true, false, cond}
 use mathlib.Core.List.{List, [], _∷_, map}
 use Prim.Native.Nat.{ℕ, zero, suc, _+_, _-_, _≤_}
 use native.Mathlib.Omega.{arith}
 use lib.Dec.{leb}
-use lib.ListN.{length, drop, length-map}
+use lib.ListN.{length, drop}
 use borrow.Author.Tests.{leb-true}
-use Rattle.bools.proofs.BoolLaws.{and-l, and-r, clash}
-use Rattle.sets.specs.Upto.{Within, among}
+use Rattle.bools.proofs.BoolLaws.{and-l, and-r}
+use Rattle.sets.specs.Upto.{among}
 use Rattle.sets.proofs.RisingLaws.{among-head, among-tail}
-use Rattle.bytes.specs.Bytes.{part, put, allZero}
+use Rattle.bytes.specs.Bytes.{put}
 use Rattle.bytes.proofs.ByteLaws.{length-part, length-put}
 use Rattle.fields.specs.Layout.{get}
 use Rattle.window.specs.Windows.{Window, Patch, size, start, patchIn, recordOf, path, patches, recordRight, windowRight, laid, lastly, sent}

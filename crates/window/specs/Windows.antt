@@ -60,7 +60,7 @@ unfoldable pub patches : Window → List Patch
 patches w = map (λ (x : ℕ). patchIn (recordOf w x)) (path w)
 
 -- ---- what question 1 asks of a window
--- "each patch has 1 to 32 bytes within L", zeros behind it
+-- "each patch has 1 to 32 bytes within L"; "patch bytes, zeros"
 unfoldable pub recordRight : ℕ → List ℕ → Bool
 recordRight file r = leb 1 (get size r) && (leb (get size r) 32 && (leb (get start r + get size r) file && allZero (drop (4 + get size r) r)))
 

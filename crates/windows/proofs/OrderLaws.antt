@@ -1,23 +1,23 @@
 -- A chain in the order of writes: from the oldest record up to the last, and from the first up to the oldest.
-use mathlib.Core.Path.{_≡_, refl, sym, _∙_, ap, ap₂}
-use mathlib.Core.Bool.{Bool, true, false, cond, not, _&&_, _||_}
+use mathlib.Core.Path.{_≡_, sym, _∙_, ap, ap₂}
+use mathlib.Core.Bool.{Bool, true, false, cond}
 use mathlib.Core.List.{List, [], _∷_, _++_, append-nil}
 use mathlib.Core.Logic.{⊎-elim, _≢_}
 use Prim.Native.Nat.{ℕ, zero, suc, _+_, _-_, _≤_, _<_}
 use native.Mathlib.Decide.{decLt}
 use native.Mathlib.Omega.{arith}
-use lib.Dec.{eqb, leb, ltb}
+use lib.Dec.{eqb, leb}
 use lib.ListN.{length, length-append}
 use borrow.Author.Tests.{le-leb, lt-ltb, eqb-true, ne-eqb, not-false}
-use Rattle.bools.proofs.BoolLaws.{and-l, and-r, and-i, or-l, or-r, or-e, clash, same-test}
-use Rattle.sets.specs.Upto.{Within, every, count, upward, among}
+use Rattle.bools.proofs.BoolLaws.{and-i, or-l, or-r, or-e, clash, same-test}
+use Rattle.sets.specs.Upto.{Within, count, upward, among}
 use Rattle.sets.proofs.UptoLaws.{every-of}
 use Rattle.sets.proofs.RisingLaws.{upward-length, upward-among}
 use Rattle.fields.specs.Layout.{get}
 use Rattle.blocks.specs.Blocks.{block}
 use Rattle.linking.specs.Linking.{chain}
 use Rattle.linking.proofs.PathLaws.{chain-zero, chain-suc}
-use Rattle.window.specs.Windows.{Window, width, younger, recordOf, next, path}
+use Rattle.window.specs.Windows.{width, younger, recordOf, next, path}
 use Rattle.windows.specs.Visits.{window, visits, broken}
 
 -- those from a on, in a row, and then what follows the last of them

@@ -1,27 +1,23 @@
 -- The walk along a window's chain.
 use mathlib.Core.Path.{_≡_, refl, sym, _∙_, ap, ap₂, fun-ext}
-use mathlib.Core.Bool.{Bool, true, false, cond, _&&_, _||_, and-true}
+use mathlib.Core.Bool.{Bool, true, false, cond, _&&_, _||_}
 use mathlib.Core.List.{List, [], _∷_, _++_, append-nil, append-assoc}
-use Prim.Native.Nat.{ℕ, zero, suc, _+_, _-_, _*_, _≤_, _<_}
+use Prim.Native.Nat.{ℕ, suc, _+_, _-_, _≤_, _<_}
 use native.Mathlib.Omega.{arith}
 use lib.Dec.{eqb, leb}
-use lib.ListN.{length, drop, length-append}
-use borrow.Author.Tests.{leb-true, le-leb, lt-leb, eqb-true}
-use Rattle.bools.proofs.BoolLaws.{and-l, and-r, and-assoc, clash, same-test, or-l, or-r}
+use lib.ListN.{length, length-append}
+use borrow.Author.Tests.{leb-true, le-leb, lt-leb}
+use Rattle.bools.proofs.BoolLaws.{and-l, and-r, or-l}
 use Rattle.sets.specs.Upto.{Within, every, among}
-use Rattle.sets.specs.Sets.{has, gaining, isRow}
+use Rattle.sets.specs.Sets.{has, gaining}
 use Rattle.sets.proofs.UptoLaws.{every-at}
 use Rattle.sets.proofs.RisingLaws.{among-head}
 use Rattle.sets.proofs.SetLaws.{empty-at, gain-where}
 use Rattle.sets.proofs.TestLaws.{eqb-swap}
-use Rattle.bytes.specs.Bytes.{number, part, allZero}
-use Rattle.bytes.proofs.ByteLaws.{part-part}
-use Rattle.blocks.specs.Blocks.{block}
-use Rattle.fields.specs.Layout.{get}
 use Rattle.linking.specs.Linking.{chain}
 use Rattle.linking.proofs.PathLaws.{chain-zero, chain-suc}
 use Rattle.sets.proofs.EachLaws.{only-those}
-use Rattle.window.specs.Windows.{Window, places, width, younger, size, start, recordOf, next, path, recordRight, windowRight}
+use Rattle.window.specs.Windows.{Window, next, path}
 use Rattle.windows.specs.Visits.{window, visits}
 
 among-append : (xs : List ℕ) (x j : ℕ) → among (xs ++ (x ∷ [])) j ≡ (among xs j || eqb x j)

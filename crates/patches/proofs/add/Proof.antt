@@ -1,6 +1,6 @@
-use mathlib.Core.Path.{_≡_, refl, sym, _∙_, ap, subst}
+use mathlib.Core.Path.{refl, sym, _∙_, ap, subst}
 use native.Mathlib.Omega.{arith}
-use Prim.Native.Nat.{ℕ, _-_, _≤_, _<_}
+use Prim.Native.Nat.{ℕ, _-_}
 use lib.ListN.{length}
 use Rattle.bytes.proofs.CodeLaws.{tail-is}
 use Rattle.window.specs.Windows.{Window, windowOf, storeWindow}

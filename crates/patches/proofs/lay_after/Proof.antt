@@ -1,14 +1,12 @@
-use mathlib.Core.Path.{_≡_, refl, sym, _∙_, ap, subst}
-use mathlib.Core.Bool.{true, cond}
+use mathlib.Core.Path.{_∙_, ap}
+use mathlib.Core.Bool.{cond}
 use mathlib.Core.List.{List, [], _∷_}
 use native.Mathlib.Omega.{arith}
-use Prim.Native.Nat.{ℕ, _+_, _-_, _*_, _≤_}
+use Prim.Native.Nat.{ℕ, _-_, _*_}
 use lib.Dec.{leb}
-use lib.ListN.{length, take, drop}
 use borrow.Author.Needs.{needs}
 use Rattle.sets.specs.Upto.{Within}
 use Rattle.bytes.proofs.CodeLaws.{part-length}
-use Rattle.blocks.specs.Blocks.{block}
 use Rattle.window.specs.Windows.{width, patchIn, recordOf, next, recordRight, laid}
 use Rattle.windows.specs.Visits.{window}
 use Rattle.patches.proofs.RecordLaws.{cut-record}

@@ -1,8 +1,6 @@
-use mathlib.Core.Path.{_≡_, refl, sym, _∙_, ap}
-use Prim.Native.Nat.{ℕ, _+_, _≤_}
-use native.Mathlib.Omega.{arith}
+use mathlib.Core.Path.{refl, _∙_, ap}
+use Prim.Native.Nat.{ℕ}
 use lib.ListN.{length}
-use mathlib.Core.List.{List}
 use Rattle.bytes.specs.Bytes.{bytesOf, put}
 use Rattle.bytes.proofs.CodeLaws.{part-back}
 use Rattle.patches.proofs.RecordLaws.{record-made}

@@ -1,4 +1,3 @@
-use mathlib.Core.Path.{_≡_, refl, sym, _∙_, ap}
 use Rattle.renew.proofs.SendLaws.{records-long, both-long, right-cut, sent-in}
 use borrow.Author.Needs.{needs}
 use Rattle.renew.proofs.send_contents.Statement.{statement}

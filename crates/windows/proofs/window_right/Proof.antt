@@ -6,7 +6,6 @@ use lib.ListN.{drop}
 use native.Mathlib.Omega.{arith}
 use Prim.Native.Nat.{_*_}
 use mathlib.Core.Path.{_≡_, refl, sym, _∙_, ap}
-use mathlib.Core.Bool.{true}
 use borrow.Author.Needs.{needs}
 use Rattle.windows.proofs.window_right.Statement.{statement}
 use Rattle.windows.proofs.window_right.Tie as tie
