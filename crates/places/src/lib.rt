@@ -15,7 +15,7 @@ pub struct Top {
 
 impl Top {
     // Of no rows.
-    pub const NONE: Top = Top {
+    const NONE: Top = Top {
         value: 0,
         rows: RowSet::EMPTY,
     };

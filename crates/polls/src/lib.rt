@@ -8,25 +8,24 @@ ghost use Rattle.protocol.specs.Polls.{polled};
 ghost use Rattle.polls.specs.Shows.{Shows};
 
 // The state gathered by a poll: a place for each of the 64 rows, 0 for rows that did not answer; which rows are stale, and which have a list.
-// (The sets stand between the arrays: so the compiler clears each array by a few stores, and not all of them by a call.)
 pub struct Poll {
-    pub versions: [u32; 64],
     pub stale: RowSet,
-    pub desired: [u32; 64],
     pub listed: RowSet,
+    pub versions: [u32; 64],
+    pub desired: [u32; 64],
     pub epochs: [u32; 64],
 }
 
-// What the rows that answered say. The sets are known behind the loop.
+// What the rows that answered say. The sets are stored behind the loop.
 pub fn gather(t: &[u8], answering: RowSet) -> Poll
     requires { ⌜ Sized (now t) × (answering .bits < 2 ^ usedOf (now t)) ⌝ }
     ensures { λ r. ⌜ Shows r (polled (now (t .entry)) (has (answering .bits))) ⌝ }
 {
     let mut p = Poll {
+        stale: RowSet::EMPTY,
+        listed: RowSet::EMPTY,
         versions: [0u32; 64],
-        stale: answering,
         desired: [0u32; 64],
-        listed: answering,
         epochs: [0u32; 64],
     };
     let mut stale = RowSet::EMPTY;

@@ -1,25 +1,23 @@
 -- The list in force, as the code finds it, and questions 6 and 7 by it.
-use mathlib.Core.Path.{_≡_, refl, sym, _∙_, ap, ap₂, fun-ext}
+use mathlib.Core.Path.{_≡_, refl, sym, _∙_, ap, ap₂}
 use mathlib.Core.Bool.{Bool, true, false, not, cond, _&&_}
 use mathlib.Core.List.{List}
 use Prim.Native.Nat.{ℕ, zero, suc, _≤_}
-use native.Mathlib.Nat.{pos-of-ne-zero}
 use native.Mathlib.Omega.{arith}
 use lib.Dec.{eqb}
-use borrow.Author.Tests.{eqb-true}
-use Rattle.sets.specs.Upto.{Within, some, lowest, most}
+use Rattle.sets.specs.Upto.{some, lowest, most}
 use Rattle.sets.specs.Sets.{has}
-use Rattle.bools.proofs.BoolLaws.{and-l, and-r, and-i, clash}
-use Rattle.sets.proofs.UptoLaws.{lowest-in, lowest-part, most-le, most-under}
+use Rattle.bools.proofs.BoolLaws.{and-l}
+use Rattle.sets.proofs.UptoLaws.{lowest-in}
 use Rattle.quorums.specs.declared.Kind.{Kind}
 use Rattle.fields.specs.declared.Laid.{Laid}
 use Rattle.fields.specs.Layout.{noList, isEmpty, listOf}
 use Rattle.fields.proofs.FieldLaws.{no-row-no-list}
 use Rattle.table.specs.Chain.{orderOf}
 use Rattle.protocol.specs.Lists.{listQuorum}
-use Rattle.protocol.specs.Polls.{Poll, polled, listed, highestEpoch, inForce, current, quorumHeld}
+use Rattle.protocol.specs.Polls.{polled, listed, highestEpoch, inForce, current, quorumHeld}
 use Rattle.protocol.specs.Calls.{answers}
-use Rattle.protocol.proofs.PollLaws.{listed-at, listed-of, epoch-le, lead-none, held-list, Agree, listed-same, epoch-same, list-same, good-same, version-same, current-same}
+use Rattle.protocol.proofs.PollLaws.{listed-at, lead-none, held-list, Agree, listed-same, epoch-same, list-same, good-same, version-same, current-same}
 use Rattle.verdicts.specs.declared.Force.{Force}
 use Rattle.verdicts.specs.declared.Verdict.{Verdict}
 use Rattle.verdicts.specs.Judged.{Led, Judged}
@@ -27,7 +25,7 @@ use Rattle.verdicts.specs.Judged.{Led, Judged}
 -- ---- a set of rows that answered, by their poll
 module _ (t : List ℕ) (r s : ℕ) (sub : (i : ℕ) → has s i ≡ true → has r i ≡ true) where
   -- each says its list; no row says none
-  pub said : (i : ℕ) → (1 ≤ i → has s i ≡ true) → answers t r .list i ≡ listOf t i
+  said : (i : ℕ) → (1 ≤ i → has s i ≡ true) → answers t r .list i ≡ listOf t i
   unfolding answers polled has
   said zero m = sym (no-row-no-list t)
   said (suc k) m = rw (sub (suc k) (m (omega arith)))

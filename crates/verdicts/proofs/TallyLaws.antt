@@ -12,7 +12,7 @@ use Rattle.places.specs.declared.Top.{Top}
 use Rattle.places.specs.Places.{placed, Tops}
 use Rattle.verdicts.specs.Judged.{Tallied}
 
-pub not-not : (b : Bool) → not (not b) ≡ b
+not-not : (b : Bool) → not (not b) ≡ b
 not-not true = refl
 not-not false = refl
 

@@ -16,7 +16,7 @@ use Rattle.verdicts.specs.declared.Verdict.{Verdict}
 
 -- the code's poll by its sets and arrays
 abbrev pub pollOf : RowSet → RowSet → List ℕ → List ℕ → List ℕ → code.Poll
-pollOf stale listed versions desired epochs = record { versions = versions; stale = stale; desired = desired; listed = listed; epochs = epochs }
+pollOf stale listed versions desired epochs = record { stale = stale; listed = listed; versions = versions; desired = desired; epochs = epochs }
 
 -- of a set: the good rows, their version, is it current
 pub record Tallied (p : Poll) (s : ℕ → Bool) (c : Tally) : Type 0 where

@@ -1,12 +1,10 @@
 use mathlib.Core.Bool.{Bool, true}
-use mathlib.Core.Path.{_≡_, refl, sym, ap, _∙_}
-use mathlib.Core.Logic.{_⊎_, inl, inr}
+use mathlib.Core.Path.{_≡_, sym, _∙_}
 use Prim.Native.Nat.{ℕ}
 use native.Mathlib.Omega.{arith}
 use borrow.Author.Needs.{needs}
-use borrow.Author.Tests.{not-true, not-false, eqb-true}
-use lib.Dec.{eqb}
-use Rattle.bools.proofs.BoolLaws.{or-e, clash}
+use borrow.Author.Tests.{not-true, not-false}
+use Rattle.bools.proofs.BoolLaws.{clash}
 use Rattle.places.proofs.BestLaws.{taken-behind, same-more}
 use Rattle.places.proofs.PlaceLaws.{placed-row}
 use Rattle.places.specs.Places.{placed}
