@@ -14,7 +14,7 @@ fn kind_of(kind: u64) -> Kind
 
 // The set that a coordinator calls first, as a number in a lent list of 8 bytes. Value: its size.
 pub fn choice(t: &[u8], c: usize, kind: u64, set: &mut [u8]) -> u64
-    ensures { λ x. ⌜ (let o = chosen (now (t .entry)) c kind (now (set .entry)) in (x ≡ result (o .refusal) (o .value)) × (now (set .exit) ≡ o .set)) ⌝ }
+    ensures { λ x. ⌜ (let o = chosen (now (t .entry)) c kind (now (set .entry)) in (x ≡ result (o .refusal) (o .value)) × (now (t .exit) ≡ now (t .entry)) × (now (set .exit) ≡ o .set)) ⌝ }
 {
     let mut order = [0u8; 64];
     if !wellformed::ordered(t, &mut order) {

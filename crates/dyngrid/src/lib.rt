@@ -21,7 +21,7 @@ pub extern "C" fn grid_found(
     names: &[u8],
     choice: u64,
 ) -> u64
-    ensures { λ r. ⌜ (let o = outcome (now (table .entry)) (founding (record { capacity = capacity; fileLength = file; names = now (names .entry); choice = choice })) in (r ≡ resultOf o) × (now (table .exit) ≡ o .table)) ⌝ }
+    ensures { λ r. ⌜ (let o = outcome (now (table .entry)) (founding (record { capacity = capacity; fileLength = file; names = now (names .entry); choice = choice })) in (r ≡ resultOf o) × (now (table .exit) ≡ o .table) × (now (names .exit) ≡ now (names .entry))) ⌝ }
 {
     founding::found(table, capacity as usize, file as usize, names, choice)
 }
@@ -43,7 +43,7 @@ pub extern "C" fn grid_read(
     buffer: &mut [u8],
     called: &mut [u8],
 ) -> u64
-    ensures { λ r. ⌜ (let o = outcome (now (table .entry)) (read (record { c = coordinator; r = answering; offset = offset; count = length; buffer = now (buffer .entry); called = now (called .entry) })) in (r ≡ resultOf o) × (now (table .entry) ≡ o .table) × (now (buffer .exit) ≡ o .buffer) × (now (called .exit) ≡ o .called)) ⌝ }
+    ensures { λ r. ⌜ (let o = outcome (now (table .entry)) (read (record { c = coordinator; r = answering; offset = offset; count = length; buffer = now (buffer .entry); called = now (called .entry) })) in (r ≡ resultOf o) × (now (table .exit) ≡ o .table) × (now (buffer .exit) ≡ o .buffer) × (now (called .exit) ≡ o .called)) ⌝ }
 {
     let reader = coordinator as usize;
     let from = offset as usize;
@@ -60,7 +60,7 @@ pub extern "C" fn grid_write(
     patch: &[u8],
     called: &mut [u8],
 ) -> u64
-    ensures { λ r. ⌜ (let o = outcome (now (table .entry)) (write (record { c = coordinator; r = answering; offset = offset; patch = now (patch .entry); called = now (called .entry) })) in (r ≡ resultOf o) × (now (table .exit) ≡ o .table) × (now (called .exit) ≡ o .called)) ⌝ }
+    ensures { λ r. ⌜ (let o = outcome (now (table .entry)) (write (record { c = coordinator; r = answering; offset = offset; patch = now (patch .entry); called = now (called .entry) })) in (r ≡ resultOf o) × (now (table .exit) ≡ o .table) × (now (patch .exit) ≡ now (patch .entry)) × (now (called .exit) ≡ o .called)) ⌝ }
 {
     let writer = coordinator as usize;
     let to = offset as usize;
@@ -84,7 +84,7 @@ pub extern "C" fn grid_check(table: &mut [u8], coordinator: u64, answering: u64)
 // A table carried over to another form, into a second buffer.
 #[no_mangle]
 pub extern "C" fn grid_move(table: &[u8], form: u64, new: &mut [u8]) -> u64
-    ensures { λ r. ⌜ (let o = outcome (now (table .entry)) (carry (record { form = form; dest = now (new .entry) })) in (r ≡ resultOf o) × (now (table .entry) ≡ o .table) × (now (new .exit) ≡ o .buffer)) ⌝ }
+    ensures { λ r. ⌜ (let o = outcome (now (table .entry)) (carry (record { form = form; dest = now (new .entry) })) in (r ≡ resultOf o) × (now (table .exit) ≡ o .table) × (now (new .exit) ≡ o .buffer)) ⌝ }
 {
     moves::carry(table, form, new)
 }
@@ -99,7 +99,7 @@ pub extern "C" fn grid_chart(length: u64, mark: u64, list: &mut [u8]) -> u64
 // The set that a coordinator calls first.
 #[no_mangle]
 pub extern "C" fn grid_choice(table: &[u8], coordinator: u64, kind: u64, set: &mut [u8]) -> u64
-    ensures { λ r. ⌜ (let o = chosen (now (table .entry)) coordinator kind (now (set .entry)) in (r ≡ result (o .refusal) (o .value)) × (now (set .exit) ≡ o .set)) ⌝ }
+    ensures { λ r. ⌜ (let o = chosen (now (table .entry)) coordinator kind (now (set .entry)) in (r ≡ result (o .refusal) (o .value)) × (now (table .exit) ≡ now (table .entry)) × (now (set .exit) ≡ o .set)) ⌝ }
 {
     choices::choice(table, coordinator as usize, kind, set)
 }

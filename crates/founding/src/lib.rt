@@ -55,7 +55,7 @@ fn sizes_right(bytes: usize, capacity: usize, file: usize, n: usize) -> bool
 
 // A founding: a table of so many rows for a file of so many bytes, with the named machines in it; choice 0 wide, 1 tall. Value: how many.
 pub fn found(t: &mut [u8], capacity: usize, file: usize, names: &[u8], choice: u64) -> u64
-    ensures { λ x. ⌜ (let o = outcome (now (t .entry)) (founding (record { capacity = capacity; fileLength = file; names = now (names .entry); choice = choice })) in (x ≡ resultOf o) × (now (t .exit) ≡ o .table)) ⌝ }
+    ensures { λ x. ⌜ (let o = outcome (now (t .entry)) (founding (record { capacity = capacity; fileLength = file; names = now (names .entry); choice = choice })) in (x ≡ resultOf o) × (now (t .exit) ≡ o .table) × (now (names .exit) ≡ now (names .entry))) ⌝ }
 {
     // question 11
     if !both(names_right(names), choice <= 1) {

@@ -89,7 +89,7 @@ fn carry_table(dest: &mut [u8], t: &[u8], form: u8)
 
 // A move. Value: the rows used.
 pub fn carry(t: &[u8], form: u64, dest: &mut [u8]) -> u64
-    ensures { λ x. ⌜ (let o = outcome (now (t .entry)) (carry (record { form = form; dest = now (dest .entry) })) in (x ≡ resultOf o) × (now (t .entry) ≡ o .table) × (now (dest .exit) ≡ o .buffer)) ⌝ }
+    ensures { λ x. ⌜ (let o = outcome (now (t .entry)) (carry (record { form = form; dest = now (dest .entry) })) in (x ≡ resultOf o) × (now (t .exit) ≡ o .table) × (now (dest .exit) ≡ o .buffer)) ⌝ }
 {
     if !wellformed::own_form(t) {
         return result(1, 0);

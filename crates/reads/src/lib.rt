@@ -22,7 +22,7 @@ fn answer(
     buffer: &mut [u8],
     fits: bool,
 ) -> Answered
-    ensures { λ x. ⌜ ((called : List ℕ) → fits ≡ eqb (length called) 1 → (let o = outcome (now (t .entry)) (read (record { c = c; r = r; offset = offset; count = count; buffer = now (buffer .entry); called = called })) in (x .result ≡ resultOf o) × (now (t .entry) ≡ o .table) × (now (buffer .exit) ≡ o .buffer) × (noted called (x .called) ≡ o .called))) ⌝ }
+    ensures { λ x. ⌜ ((called : List ℕ) → fits ≡ eqb (length called) 1 → (let o = outcome (now (t .entry)) (read (record { c = c; r = r; offset = offset; count = count; buffer = now (buffer .entry); called = called })) in (x .result ≡ resultOf o) × (now (t .exit) ≡ o .table) × (now (buffer .exit) ≡ o .buffer) × (noted called (x .called) ≡ o .called))) ⌝ }
 {
     let answering = RowSet { bits: r };
     let mut order = [0u8; 64];
@@ -52,7 +52,7 @@ pub fn read(
     buffer: &mut [u8],
     called: &mut [u8],
 ) -> u64
-    ensures { λ x. ⌜ (let o = outcome (now (t .entry)) (read (record { c = c; r = r; offset = offset; count = count; buffer = now (buffer .entry); called = now (called .entry) })) in (x ≡ resultOf o) × (now (t .entry) ≡ o .table) × (now (buffer .exit) ≡ o .buffer) × (now (called .exit) ≡ o .called)) ⌝ }
+    ensures { λ x. ⌜ (let o = outcome (now (t .entry)) (read (record { c = c; r = r; offset = offset; count = count; buffer = now (buffer .entry); called = now (called .entry) })) in (x ≡ resultOf o) × (now (t .exit) ≡ o .table) × (now (buffer .exit) ≡ o .buffer) × (now (called .exit) ≡ o .called)) ⌝ }
 {
     let fits = called.len() == 1;
     let a = answer(t, c, r, offset, count, buffer, fits);

@@ -13,7 +13,7 @@ ghost use lib.ListN.{length};
 ghost use Rattle.protocol.specs.Calls.{resultOf, outcome, write, noted};
 
 // A write, all but its note of how many machines were called: `fits` says whether one byte is lent for it.
-pub fn answer(t: &mut [u8], c: usize, r: u64, offset: usize, patch: &[u8], fits: bool) -> Answered
+fn answer(t: &mut [u8], c: usize, r: u64, offset: usize, patch: &[u8], fits: bool) -> Answered
     ensures { λ x. ⌜ ((called : List ℕ) → fits ≡ eqb (length called) 1 → (let o = outcome (now (t .entry)) (write (record { c = c; r = r; offset = offset; patch = now (patch .entry); called = called })) in (x .result ≡ resultOf o) × (now (t .exit) ≡ o .table) × (noted called (x .called) ≡ o .called))) ⌝ }
 {
     let answering = RowSet { bits: r };
@@ -39,7 +39,7 @@ pub fn answer(t: &mut [u8], c: usize, r: u64, offset: usize, patch: &[u8], fits:
 
 // A write: the patch goes to the good rows worked on, the others are marked, and how many machines were called is noted. Value: the new version.
 pub fn write(t: &mut [u8], c: usize, r: u64, offset: usize, patch: &[u8], called: &mut [u8]) -> u64
-    ensures { λ x. ⌜ (let o = outcome (now (t .entry)) (write (record { c = c; r = r; offset = offset; patch = now (patch .entry); called = now (called .entry) })) in (x ≡ resultOf o) × (now (t .exit) ≡ o .table) × (now (called .exit) ≡ o .called)) ⌝ }
+    ensures { λ x. ⌜ (let o = outcome (now (t .entry)) (write (record { c = c; r = r; offset = offset; patch = now (patch .entry); called = now (called .entry) })) in (x ≡ resultOf o) × (now (t .exit) ≡ o .table) × (now (patch .exit) ≡ now (patch .entry)) × (now (called .exit) ≡ o .called)) ⌝ }
 {
     let fits = called.len() == 1;
     let a = answer(t, c, r, offset, patch, fits);

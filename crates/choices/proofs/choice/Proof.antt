@@ -1,5 +1,5 @@
 use mathlib.Core.Bool.{Bool, true}
-use mathlib.Core.Path.{_≡_, sym, _∙_, ap, ap₂}
+use mathlib.Core.Path.{_≡_, refl, sym, _∙_, ap, ap₂}
 use mathlib.Core.List.{List}
 use Prim.Native.Nat.{ℕ, _^_, _<_}
 use native.Mathlib.Omega.{arith}
@@ -59,7 +59,7 @@ returns c =
     let f = c .before .before in
     let s = f .before .before .before .before in
     let o = no-one (s .args .t .now) (s .args .c) (s .args .kind) (s .args .set .now) (sym (f .ordered .ensures .0) ∙ not-true _ (c .before .if1 .taken)) in
-    (told _ _ _ o (c .result .ensures), ap (λ (q : Chosen). q .set) (sym o))
+    (told _ _ _ o (c .result .ensures), refl, ap (λ (q : Chosen). q .set) (sym o))
 
 used-requires : tie.Need-used-requires
 used-requires c κs = long (sized (formed-here c))
@@ -76,7 +76,7 @@ returns-2 c =
     let e = b .before .before in
     let s = e .before .before .before .before .before in
     let o = no-two (s .args .t .now) (s .args .c) (s .args .kind) (s .args .set .now) (formed-here e) (used-here b ∙ not-true _ (c .before .if2 .taken)) in
-    (told _ _ _ o (c .result2 .ensures), ap (λ (q : Chosen). q .set) (sym o))
+    (told _ _ _ o (c .result2 .ensures), refl, ap (λ (q : Chosen). q .set) (sym o))
 
 result-requires-3 : tie.Need-result-requires-3
 result-requires-3 c κs = search needs
@@ -87,7 +87,7 @@ returns-3 c =
     let e = d .before .before .before in
     let s = e .before .before .before .before .before in
     let o = no-four (s .args .t .now) (s .args .c) (s .args .kind) (s .args .set .now) (formed-here e) (row-used d) (lt-leb (s .args .kind) 1 (c .before .if3 .taken)) in
-    (told _ _ _ o (c .result3 .ensures), ap (λ (q : Chosen). q .set) (sym o))
+    (told _ _ _ o (c .result3 .ensures), refl, ap (λ (q : Chosen). q .set) (sym o))
 
 result-requires-4 : tie.Need-result-requires-4
 result-requires-4 c κs = search needs
@@ -99,7 +99,7 @@ returns-4 c =
     let e = d .before .before .before in
     let s = e .before .before .before .before .before in
     let o = no-five (s .args .t .now) (s .args .c) (s .args .kind) (s .args .set .now) (formed-here e) (row-used d) (le-leb (s .args .kind) 1 (omega (arith, k .if3 .left))) (ne-eqb _ _ (c .before .if4 .taken)) in
-    (told _ _ _ o (c .result4 .ensures), ap (λ (q : Chosen). q .set) (sym o))
+    (told _ _ _ o (c .result4 .ensures), refl, ap (λ (q : Chosen). q .set) (sym o))
 
 row-of-requires : tie.Need-row-of-requires
 row-of-requires c κs = let d = c .before .before in (sized (formed-here (d .before .before .before)), coordinator d)
@@ -162,7 +162,7 @@ returns-5 c =
     let e = d .before .before .before in
     let s = e .before .before .before .before .before in
     let yes = all-yes (s .args .t .now) (s .args .c) (s .args .kind) (s .args .set .now) (formed-here e) (row-used d) (le-leb (s .args .kind) 1 (omega (arith, k .if3 .left))) (omega (arith, f .if4 .left)) (h .choice .result .bits) (small h) (rows-are h) in
-    (c .result5 .ensures ∙ ap₂ result (sym (yes .0)) (z .size .ensures ∙ yes .1), w .store-at .ensures ∙ yes .2)
+    (c .result5 .ensures ∙ ap₂ result (sym (yes .0)) (z .size .ensures ∙ yes .1), refl, w .store-at .ensures ∙ yes .2)
 
 pub choice-spec : {M : Type 1} → statement M
 choice-spec =

@@ -51,7 +51,7 @@ returns : tie.Need-returns
 returns c =
     let start = c .before .before .before .before .before .before in
     let no = refused-is (start .args .t .now) (founding (asked start)) 11 (sym (found-answers (start .args .t .now) (asked start) false _ (named (c .before .before) ∙ not-true _ (c .before .if1 .taken)) refl)) (omega arith) in
-    (c .result .ensures ∙ no .result, no .table)
+    (c .result .ensures ∙ no .result, no .table, refl)
 
 sizes-right-requires : tie.Need-sizes-right-requires
 sizes-right-requires c κs = search needs
@@ -63,7 +63,7 @@ returns-2 : tie.Need-returns-2
 returns-2 c =
     let start = c .before .before .before .before .before .before .before .before in
     let no = refused-is (start .args .t .now) (founding (asked start)) 12 (sym (found-answers (start .args .t .now) (asked start) true false (eleven (c .before .before .before)) (sized (c .before .before) ∙ not-true _ (c .before .if2 .taken)))) (omega arith) in
-    (c .result2 .ensures ∙ no .result, no .table)
+    (c .result2 .ensures ∙ no .result, no .table, refl)
 
 lay-table-requires : tie.Need-lay-table-requires
 lay-table-requires c κs = let start = c .before .before .before .before .before .before .before .before in found-fits (start .args .t .now) (asked start) (eleven (c .before .before .before)) (twelve (c .before))
@@ -84,7 +84,7 @@ returns-3 : tie.Need-returns-3
 returns-3 c =
     let start = c .before .before .before .before .before .before .before .before .before .before .before .before in
     let yes = found-done (start .args .t .now) (asked start) (eleven (c .before .before .before .before .before .before .before)) (twelve (c .before .before .before .before .before)) in
-    (c .result3 .ensures ∙ ap (λ (n : ℕ). 0 * 2 ^ 32 + n) (half (c .before .before .before .before .before .before .before)) ∙ yes .0, c .before .before .before .lay-table .ensures ∙ yes .1)
+    (c .result3 .ensures ∙ ap (λ (n : ℕ). 0 * 2 ^ 32 + n) (half (c .before .before .before .before .before .before .before)) ∙ yes .0, c .before .before .before .lay-table .ensures ∙ yes .1, refl)
 
 pub found-spec : {M : Type 1} → statement M
 found-spec =

@@ -21,7 +21,7 @@ returns c =
     let a = n .before .before .before .before in
     let s = a .before .before .before .before .before in
     let o = a .answer .ensures (s .args .called .now) refl in
-    (o .0, o .1, n .note .ensures ∙ o .2)
+    (o .0, o .1, refl, n .note .ensures ∙ o .2)
 
 pub write-spec : {M : Type 1} → statement M
 write-spec = tie.close (tie.spec answer-requires note-requires same-length same-length-2 returns)
