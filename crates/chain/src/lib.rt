@@ -4,13 +4,13 @@ use rows::RowSet;
 ghost use mathlib.Core.Path.{_≡_};
 ghost use mathlib.Core.Bool.{true, _&&_};
 ghost use Rattle.table.specs.WellFormed.{visitsEach, namesRise};
-ghost use Rattle.table.specs.Contracts.{Linked, Ordered};
+ghost use Rattle.table.specs.Contracts.{Linked, Ordered, walkedInto};
 
 // Does the chain visit each used row once, and do its names rise? `low` is the name of the row passed last.
-// Where they do, `order` starts with the used rows in chain order.
+// Where they do, `order` starts with the used rows in chain order; in any case with the rows passed, and its other places stay.
 pub fn follow(t: &[u8], order: &mut [u8; 64]) -> bool
     requires { ⌜ Linked (now t) ⌝ }
-    ensures { λ r. ⌜ (r ≡ (visitsEach (now (t .entry)) && namesRise (now (t .entry)))) × (r ≡ true → Ordered (now (t .entry)) (now (order .exit))) ⌝ }
+    ensures { λ r. ⌜ (r ≡ (visitsEach (now (t .entry)) && namesRise (now (t .entry)))) × (r ≡ true → Ordered (now (t .entry)) (now (order .exit))) × (now (order .exit) ≡ walkedInto (now (t .entry)) (now (order .entry))) ⌝ }
 {
     // a slice tells how many elements it has
     let rows = &mut order[..];

@@ -276,6 +276,7 @@ module _ (n N : ℕ) (held rest : ℕ → Bool) (shift : (k : ℕ) → 1 ≤ k �
         (λ a. ⊎-elim (λ b. c .inside j (or-l (w j) _ b)) (λ b. first-within n j (and-r (firstRows N j) _ (and-l _ _ (and-r (t j) _ b)))) (or-e (w j) _ a))
         (λ a. c .inside j (or-r (w j) _ (and-l _ _ a)))
         (or-e (w j || (t j && (seats j && held j))) (h j && not (seats j && not (held j))) e);
+    touched-inside = λ j e. ⊎-elim (c .touched-inside j) (λ b. first-within n j (and-r (firstRows N j) _ (and-l _ _ b))) (or-e (t j) _ e);
   }
     where
       not-or : (a b : Bool) → not (a || b) ≡ (not a && not b)
@@ -290,4 +291,5 @@ no-row n held few N e = rw e (record {
   two = λ j w. empty-at j;
   whole = λ j w. first-in n j few w;
   inside = λ j q. first-within n j (sym (rw (empty-at j)) ∙ q);
+  touched-inside = λ j q. absurd (clash (sym (empty-at j) ∙ q));
 })

@@ -21,4 +21,6 @@ pub record ColumnsOf (touched′ two′ whole′ : ℕ → Bool) (n N : ℕ) (he
   pub touched : (j : ℕ) → Within n j → touched′ j ≡ touches n N held j
   pub two : (j : ℕ) → Within n j → two′ j ≡ twice n N held j
   pub whole : (j : ℕ) → Within n j → whole′ j ≡ covers n N held j
+  -- and no other column is in any of them
   pub inside : (j : ℕ) → joining two′ whole′ j ≡ true → Within n j
+  pub touched-inside : (j : ℕ) → touched′ j ≡ true → Within n j

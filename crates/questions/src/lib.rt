@@ -8,7 +8,7 @@ ghost use mathlib.Core.List.{[]};
 ghost use Prim.Native.Nat.{_+_};
 ghost use lib.Dec.{leb, ltb};
 ghost use Rattle.table.specs.WellFormed.{limit};
-ghost use Rattle.table.specs.Contracts.{Ordered};
+ghost use Rattle.table.specs.Contracts.{Ordered, orderLeft};
 ghost use Rattle.asking.specs.Asking.{firstNo, result};
 ghost use Rattle.protocol.specs.Calls.{byCoordinator, noted};
 ghost use Rattle.questions.specs.Stages.{toRange};
@@ -46,7 +46,7 @@ pub fn below_limit(number: u32) -> bool
 
 // Questions 1 to 3 of a call by a coordinator: the first no, 0 where there is none. Then `order` starts with the used rows in chain order.
 pub fn coordinator_asked(t: &[u8], c: usize, answering: RowSet, order: &mut [u8; 64]) -> u32
-    ensures { λ r. ⌜ (r ≡ firstNo (byCoordinator (now (t .entry)) c (answering .bits) [])) × (r ≡ 0 → Ordered (now (t .entry)) (now (order .exit))) ⌝ }
+    ensures { λ r. ⌜ (r ≡ firstNo (byCoordinator (now (t .entry)) c (answering .bits) [])) × (r ≡ 0 → Ordered (now (t .entry)) (now (order .exit))) × (now (order .exit) ≡ orderLeft (now (t .entry)) (now (order .entry))) ⌝ }
 {
     if wellformed::ordered(t, order) {
         let used = header::used(t);
@@ -86,7 +86,7 @@ pub fn range_asked(
     count: usize,
     order: &mut [u8; 64],
 ) -> u32
-    ensures { λ r. ⌜ (r ≡ firstNo (toRange (now (t .entry)) c (answering .bits) offset count)) × (r ≡ 0 → Ordered (now (t .entry)) (now (order .exit))) ⌝ }
+    ensures { λ r. ⌜ (r ≡ firstNo (toRange (now (t .entry)) c (answering .bits) offset count)) × (r ≡ 0 → Ordered (now (t .entry)) (now (order .exit))) × (now (order .exit) ≡ orderLeft (now (t .entry)) (now (order .entry))) ⌝ }
 {
     let no = coordinator_asked(t, c, answering, order);
     if no != 0 {

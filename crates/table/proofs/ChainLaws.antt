@@ -8,8 +8,8 @@ use native.Mathlib.Numerals.{add-one}
 use native.Mathlib.Decide.{decLe}
 use native.Mathlib.Omega.{arith}
 use lib.Dec.{eqb}
-use lib.ListN.{length, take, set, length-set, length-take, length-append}
-use lib.Seq.{take-all, take-suc-set, append-snoc, getD-set-same, getD-set-other}
+use lib.ListN.{length, take, drop, set, length-set, length-take, length-append, take-append-drop}
+use lib.Seq.{take-all, drop-set-lt, drop-drop, take-suc-set, append-snoc, getD-set-same, getD-set-other}
 use borrow.Author.Tests.{eqb-true, eq-eqb, ne-eqb, lt-ltb, le-ltb}
 use borrow.Author.Count.{below-more}
 use Rattle.sets.specs.Upto.{Within, every, among, risesFrom}
@@ -17,12 +17,13 @@ use Rattle.sets.specs.Sets.{has, gaining}
 use Rattle.bools.proofs.BoolLaws.{and-l, and-r}
 use Rattle.sets.proofs.UptoLaws.{every-at}
 use Rattle.sets.proofs.SetLaws.{empty-at, gain-where}
-use Rattle.fields.specs.Layout.{usedOf, firstOf, linkOf, nameOf}
+use Rattle.fields.specs.Layout.{formOf, usedOf, firstOf, linkOf, nameOf, rowBytes}
+use Rattle.bytes.specs.Bytes.{put}
 use Rattle.linking.specs.Linking.{chain}
 use Rattle.linking.proofs.PathLaws.{chain-zero, chain-suc}
 use Rattle.table.specs.Chain.{orderOf}
-use Rattle.table.specs.WellFormed.{visitsEach, namesRise, ownForm, wellFormed}
-use Rattle.table.specs.Contracts.{Linked, Listed, Ordered}
+use Rattle.table.specs.WellFormed.{headerValues, lengthRight, rowRight, visitsEach, namesRise, ownForm, wellFormed}
+use Rattle.table.specs.Contracts.{Linked, Listed, Ordered, passed, walkedInto, orderLeft}
 use Rattle.sets.proofs.TestLaws.{eqb-swap}
 use Rattle.table.proofs.WellFormedLaws.{own-form, header, few-rows, link-in}
 
@@ -70,16 +71,40 @@ abbrev rest : List ℕ → ℕ → ℕ → List ℕ
 rest t count next = chain (linkOf t) (suc (usedOf t) - count) next
 
 -- `count` rows were passed: `rows` starts with them, `seen` are they, their names rise to `low`; `next` is to come (0 where the chain has ended)
-pub record Walked (t rows : List ℕ) (seen : ℕ → Bool) (low count next : ℕ) : Type 0 where
+-- `lent` is what `rows` were before
+pub record Walked (t lent rows : List ℕ) (seen : ℕ → Bool) (low count next : ℕ) : Type 0 where
   pub listed : Listed (usedOf t) rows count
   pub few : count ≤ usedOf t
   pub on : next ≤ usedOf t
   pub path : (m : ℕ) → take count rows ++ chain (linkOf t) m next ≡ chain (linkOf t) (count + m) (firstOf t)
   pub members : among (whole t) ≡ (λ (i : ℕ). seen i || among (rest t count next) i)
   pub rising : risesFrom 0 (nameOf t) (whole t) ≡ risesFrom low (nameOf t) (rest t count next)
+  -- the rows that are passed in all, and the places behind
+  pub passing : take count rows ++ passed (linkOf t) (nameOf t) (usedOf t - count) low next ≡ passed (linkOf t) (nameOf t) (usedOf t) 0 (firstOf t)
+  pub others : drop count rows ≡ drop count lent
+
+drop-more : (n : ℕ) (xs ys : List ℕ) → drop n xs ≡ drop n ys → drop (n + 1) xs ≡ drop (n + 1) ys
+drop-more n xs ys e = sym (drop-drop 1 n xs) ∙ ap (drop 1) e ∙ drop-drop 1 n ys
+
+-- one row more, or none
+passed-on : (next name : ℕ → ℕ) (n a i : ℕ) → 1 ≤ i → a < name i → passed next name (suc n) a i ≡ i ∷ passed next name n (name i) (next i)
+unfolding passed
+passed-on next name n a zero p h = absurd (omega arith)
+passed-on next name n a (suc k) p h = rw (lt-ltb a (name (suc k)) h)
+
+passed-falls : (next name : ℕ → ℕ) (n a i : ℕ) → name i ≤ a → passed next name n a i ≡ []
+unfolding passed
+passed-falls next name zero a i h = refl
+passed-falls next name (suc n) a zero h = refl
+passed-falls next name (suc n) a (suc k) h = rw (le-ltb a (name (suc k)) h)
+
+passed-end : (next name : ℕ → ℕ) (n a : ℕ) → passed next name n a 0 ≡ []
+unfolding passed
+passed-end next name zero a = refl
+passed-end next name (suc n) a = refl
 
 module _ {t : List ℕ} (l : Linked t) where
-  pub walk-start : (rows : List ℕ) (next : ℕ) → length rows ≡ 64 → next ≡ firstOf t → Walked t rows (has 0) 0 0 next
+  pub walk-start : (rows : List ℕ) (next : ℕ) → length rows ≡ 64 → next ≡ firstOf t → Walked t rows rows (has 0) 0 0 next
   walk-start rows next d e =
       let z : suc (usedOf t) - 0 ≡ suc (usedOf t) = omega arith in
       let all : whole t ≡ rest t 0 next = sym (ap₂ (chain (linkOf t)) z e) in
@@ -90,13 +115,15 @@ module _ {t : List ℕ} (l : Linked t) where
         path = λ m. ap₂ (chain (linkOf t)) (sym (zero-add m)) e;
         members = fun-ext (λ i. rw (empty-at i) (ap (λ (xs : List ℕ). among xs i) all));
         rising = ap (risesFrom 0 (nameOf t)) all;
+        passing = let n : usedOf t - 0 ≡ usedOf t = omega arith in ap₂ (λ (m i : ℕ). passed (linkOf t) (nameOf t) m 0 i) n e;
+        others = refl;
       }
 
-  pub walk-turn : {rows : List ℕ} {seen : ℕ → Bool} {low count next : ℕ} → Walked t rows seen low count next
+  pub walk-turn : {lent rows : List ℕ} {seen : ℕ → Bool} {low count next : ℕ} → Walked t lent rows seen low count next
       → (more : ℕ → Bool) (name after : ℕ) → count < usedOf t → 1 ≤ next → more ≡ gaining seen next → name ≡ nameOf t next → low < name → after ≡ linkOf t next
-      → Walked t (set rows count next) more name (count + 1) after
+      → Walked t lent (set rows count next) more name (count + 1) after
   unfolding among risesFrom
-  walk-turn {rows} {seen} {low} {count} {next} w more name after h p g d up e =
+  walk-turn {lent} {rows} {seen} {low} {count} {next} w more name after h p g d up e =
       let room : count < length rows = omega (arith, few-rows (l .sized), w .listed .places) in
       let n : suc (usedOf t) - count ≡ suc (suc (usedOf t) - (count + 1)) = omega arith in
       let step : rest t count next ≡ next ∷ rest t (count + 1) after =
@@ -123,6 +150,13 @@ module _ {t : List ℕ} (l : Linked t) where
             ∙ ap (λ (b : Bool). (seen i || b) || among (rest t (count + 1) after) i) (eqb-swap next i)
             ∙ ap (λ (q : ℕ → Bool). q i || among (rest t (count + 1) after) i) (sym (g ∙ gain-where seen next true (omega (arith, w .on, few-rows (l .sized))))));
         rising = w .rising ∙ ap (risesFrom low (nameOf t)) step ∙ rw (← d, lt-ltb low name up);
+        passing =
+            let m : usedOf t - count ≡ suc (usedOf t - suc count) = omega arith in
+            let one : passed (linkOf t) (nameOf t) (usedOf t - count) low next ≡ next ∷ passed (linkOf t) (nameOf t) (usedOf t - suc count) name after =
+            ap (λ (k : ℕ). passed (linkOf t) (nameOf t) k low next) m ∙ passed-on (linkOf t) (nameOf t) _ low next p (omega (arith, d))
+            ∙ ap₂ (λ (a i : ℕ). next ∷ passed (linkOf t) (nameOf t) (usedOf t - suc count) a i) (sym d) (sym e) in
+            rw (add-one count, take-suc-set rows count next room, append-snoc) (ap (λ (xs : List ℕ). take count rows ++ xs) (sym one) ∙ w .passing);
+        others = drop-set-lt (count + 1) rows count next (omega arith) ∙ drop-more count rows lent (w .others);
       }
     where
       swap : (a b c : Bool) → (a || (b || c)) ≡ ((a || c) || b)
@@ -132,7 +166,26 @@ module _ {t : List ℕ} (l : Linked t) where
       swap false false c = sym (or-false c)
 
 -- each way out
-module _ {t rows : List ℕ} {seen : ℕ → Bool} {low count next : ℕ} (w : Walked t rows seen low count next) where
+module _ {t lent rows : List ℕ} {seen : ℕ → Bool} {low count next : ℕ} (w : Walked t lent rows seen low count next) where
+  -- where no row more is passed, the array is what the walk leaves in it
+  left-in : passed (linkOf t) (nameOf t) (usedOf t - count) low next ≡ [] → rows ≡ walkedInto t lent
+  unfolding walkedInto put
+  left-in e =
+      let p : take count rows ≡ passed (linkOf t) (nameOf t) (usedOf t) 0 (firstOf t) = sym (append-nil (take count rows)) ∙ ap (λ (xs : List ℕ). take count rows ++ xs) (sym e) ∙ w .passing in
+      let n : length (take count rows) ≡ count = omega (arith, length-take count rows, w .listed .places, w .listed .few) in
+      let z : 0 + length (take count rows) ≡ count = omega arith in
+      rw (← p, z, ← w .others) (sym (take-append-drop count rows))
+
+  pub left-short : next ≡ 0 → rows ≡ walkedInto t lent
+  left-short e = left-in (ap (passed (linkOf t) (nameOf t) (usedOf t - count) low) e ∙ passed-end (linkOf t) (nameOf t) _ low)
+
+  pub left-falls : nameOf t next ≤ low → rows ≡ walkedInto t lent
+  left-falls h = left-in (passed-falls (linkOf t) (nameOf t) _ low next h)
+
+  pub left-all : count ≡ usedOf t → rows ≡ walkedInto t lent
+  unfolding passed
+  left-all e = let z : usedOf t - count ≡ 0 = omega arith in left-in (ap (λ (n : ℕ). passed (linkOf t) (nameOf t) n low next) z)
+
   ended : next ≡ 0 → rest t count next ≡ []
   ended e = ap (chain (linkOf t) (suc (usedOf t) - count)) e ∙ chain-zero (linkOf t) (suc (usedOf t) - count)
 
@@ -185,3 +238,17 @@ module _ {t rows : List ℕ} {seen : ℕ → Bool} {low count next : ℕ} (w : W
           let n : count + 0 ≡ usedOf t = omega arith in
           ap (λ (k : ℕ). take k rows) (sym e) ∙ sym (append-nil (take count rows)) ∙ w .path 0 ∙ ap (λ (k : ℕ). chain (linkOf t) k (firstOf t)) n;
     }
+
+-- ---- what question 1 leaves in the array
+module _ (t rows : List ℕ) where
+  pub left-unsized : (headerValues t && lengthRight t) ≡ false → rows ≡ orderLeft t rows
+  unfolding orderLeft
+  left-unsized e = rw e
+
+  pub left-wrong : every (usedOf t) (λ i. rowRight (formOf t) (usedOf t) i (rowBytes t i)) ≡ false → rows ≡ orderLeft t rows
+  unfolding orderLeft
+  left-wrong e = rw (e, and-false (headerValues t && lengthRight t))
+
+  pub left-linked : Linked t → walkedInto t rows ≡ orderLeft t rows
+  unfolding orderLeft
+  left-linked l = rw (l .sized .header, l .sized .bytes, l .rows)

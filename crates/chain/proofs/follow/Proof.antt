@@ -10,12 +10,12 @@ use Rattle.sets.specs.Sets.{has, gaining}
 use Rattle.sets.specs.Upto.{Within, every}
 use Rattle.fields.specs.Layout.{usedOf, linkOf, nameOf, get, link, name}
 use Rattle.table.proofs.WellFormedLaws.{few-rows, long}
-use Rattle.table.proofs.ChainLaws.{Walked, walk-start, walk-turn, walk-short, walk-falls, walk-all, walk-order}
+use Rattle.table.proofs.ChainLaws.{Walked, walk-start, walk-turn, walk-short, walk-falls, walk-all, walk-order, left-short, left-falls, left-all}
 use Rattle.chain.proofs.follow.Statement.{statement}
 use Rattle.chain.proofs.follow.Tie as tie
 
 abbrev Inv-loop : tie.InvT-loop
-Inv-loop t rows₀ used seen₀ low₀ count₀ next₀ rows seen low count next = Walked t rows (has (seen .bits)) low count next
+Inv-loop t rows₀ used seen₀ low₀ count₀ next₀ rows seen low count next = Walked t rows₀ rows (has (seen .bits)) low count next
 
 abbrev μ-loop : tie.MeasureT-loop
 μ-loop t rows₀ used seen₀ low₀ count₀ next₀ rows seen low count next = used - count
@@ -46,7 +46,7 @@ loop-holds c = let r = c .before .before in walk-start (r .before .before .pre) 
 returns : tie.Need-returns Inv-loop μ-loop
 returns c =
     let l = c .before .before in
-    (walk-short (l .loop .inv) (c .if1 .taken) (some-left (c .before)), λ e. absurd (clash e))
+    (walk-short (l .loop .inv) (c .if1 .taken) (some-left (c .before)), λ e. absurd (clash e), left-short (l .loop .inv) (c .if1 .taken))
 
 row-of-requires : tie.Need-row-of-requires Inv-loop μ-loop
 row-of-requires c κs = (c .before .before .before .before .before .before .before .pre .sized, row-here c)
@@ -57,7 +57,7 @@ name-requires c κs = c .row-of .ensures .1
 returns-2 : tie.Need-returns-2 Inv-loop μ-loop
 returns-2 c =
     let e = c .before .before .before in
-    (walk-falls (e .before .before .loop .inv) (row-here e .0) (omega (arith, c .if2 .taken, name-here (c .before))), λ e. absurd (clash e))
+    (walk-falls (e .before .before .loop .inv) (row-here e .0) (omega (arith, c .if2 .taken, name-here (c .before))), λ e. absurd (clash e), left-falls (e .before .before .loop .inv) (omega (arith, c .if2 .taken, name-here (c .before))))
 
 cast-rows : tie.Need-cast-rows Inv-loop μ-loop
 cast-rows c =
@@ -119,6 +119,7 @@ returns-3 c =
           ∙ ap (λ (b : Bool). eqb (l .loop .next) 0 && b) (f .fills .ensures ∙ ap (λ (n : ℕ). every n (has (l .loop .seen .bits))) (u .used .ensures))
           ∙ walk-all (l .loop .inv) all,
       λ _. walk-order (l .loop .inv) all,
+      left-all (l .loop .inv) all,
     )
 
 pub follow-spec : {M : Type 1} → statement M

@@ -47,20 +47,21 @@ returns c =
     let f = k .before .before .before .before in (
       by-answers _ _ _ true true true (formed f) (named k ∙ c .before .before .if2 .taken) (sym (c .before .has .ensures) ∙ c .if3 .taken),
       λ _. f .before .ordered .ensures .1 (f .if1 .taken),
+      f .before .ordered .ensures .2,
     )
 
 returns-2 : tie.Need-returns-2
 returns-2 c =
     let k = c .before .before .before in
-    (by-answers _ _ _ true true false (formed (k .before .before .before .before)) (named k ∙ c .before .before .if2 .taken) (sym (c .before .has .ensures) ∙ c .if3 .left), λ e. absurd (omega arith))
+    (by-answers _ _ _ true true false (formed (k .before .before .before .before)) (named k ∙ c .before .before .if2 .taken) (sym (c .before .has .ensures) ∙ c .if3 .left), λ e. absurd (omega arith), k .before .before .before .before .before .ordered .ensures .2)
 
 returns-3 : tie.Need-returns-3
 returns-3 c =
     let k = c .before in
-    (by-answers _ _ _ true false _ (formed (k .before .before .before .before)) (named k ∙ c .if2 .left) refl, λ e. absurd (omega arith))
+    (by-answers _ _ _ true false _ (formed (k .before .before .before .before)) (named k ∙ c .if2 .left) refl, λ e. absurd (omega arith), k .before .before .before .before .before .ordered .ensures .2)
 
 returns-4 : tie.Need-returns-4
-returns-4 c = (by-answers _ _ _ false _ _ (sym (c .before .ordered .ensures .0) ∙ c .if1 .left) refl refl, λ e. absurd (omega arith))
+returns-4 c = (by-answers _ _ _ false _ _ (sym (c .before .ordered .ensures .0) ∙ c .if1 .left) refl refl, λ e. absurd (omega arith), c .before .ordered .ensures .2)
 
 pub coordinator-asked-spec : {M : Type 1} → statement M
 coordinator-asked-spec =

@@ -30,7 +30,7 @@ coordinator-asked-requires c κs = search needs
 returns : tie.Need-returns
 returns c =
     let a = c .before .before .before .before .args in
-    (range-no _ _ _ (a .offset) (a .count) _ (c .before .coordinator-asked .ensures .0) (omega arith), λ e. absurd (omega arith))
+    (range-no _ _ _ (a .offset) (a .count) _ (c .before .coordinator-asked .ensures .0) (omega arith), λ e. absurd (omega arith), c .before .coordinator-asked .ensures .2)
 
 file-length-requires : tie.Need-file-length-requires
 file-length-requires c κs = long (sized (passed-first _ _ _ [] (passed c) .0 .formed))
@@ -44,13 +44,14 @@ returns-2 c =
     let a = e .before .before .before .before .args in (
       range-yes _ _ _ (a .offset) (a .count) true (passed e) (sym (c .if2 .taken) ∙ fits (c .before)),
       λ _. e .before .coordinator-asked .ensures .1 (omega arith),
+      e .before .coordinator-asked .ensures .2,
     )
 
 returns-3 : tie.Need-returns-3
 returns-3 c =
     let e = c .before .before .before in
     let a = e .before .before .before .before .args in
-    (range-yes _ _ _ (a .offset) (a .count) false (passed e) (sym (c .if2 .left) ∙ fits (c .before)), λ e. absurd (omega arith))
+    (range-yes _ _ _ (a .offset) (a .count) false (passed e) (sym (c .if2 .left) ∙ fits (c .before)), λ z. absurd (omega arith), e .before .coordinator-asked .ensures .2)
 
 pub range-asked-spec : {M : Type 1} → statement M
 range-asked-spec =

@@ -4,6 +4,7 @@ use borrow.Author.Tests.{not-true, not-false}
 use borrow.Author.Needs.{needs}
 use Rattle.bools.proofs.BoolLaws.{and-l, and-r, clash}
 use Rattle.table.proofs.WellFormedLaws.{by-size, by-rows, by-chain, by-lists, by-unused}
+use Rattle.table.proofs.ChainLaws.{left-unsized, left-wrong, left-linked}
 use Rattle.table.specs.Contracts.{Sized, Linked}
 use Rattle.table.specs.WellFormed.{headerValues, lengthRight, visitsEach, namesRise}
 use Rattle.wellformed.proofs.chained.Statement.{statement}
@@ -27,19 +28,19 @@ sized-requires : tie.Need-sized-requires
 sized-requires c κs = search needs
 
 returns : tie.Need-returns
-returns c = (by-size _ (sym (c .before .sized .ensures) ∙ not-true _ (c .if1 .taken)), λ e. absurd (clash e))
+returns c = (by-size _ (sym (c .before .sized .ensures) ∙ not-true _ (c .if1 .taken)), λ e. absurd (clash e), left-unsized _ _ (sym (c .before .sized .ensures) ∙ not-true _ (c .if1 .taken)))
 
 rows-right-requires : tie.Need-rows-right-requires
 rows-right-requires c κs = sized-here c
 
 returns-2 : tie.Need-returns-2
-returns-2 c = (by-rows _ (sized-here (c .before .before)) (sym (c .before .rows-right .ensures) ∙ not-true _ (c .if2 .taken)), λ e. absurd (clash e))
+returns-2 c = (by-rows _ (sized-here (c .before .before)) (sym (c .before .rows-right .ensures) ∙ not-true _ (c .if2 .taken)), λ e. absurd (clash e), left-wrong _ _ (sym (c .before .rows-right .ensures) ∙ not-true _ (c .if2 .taken)))
 
 follow-requires : tie.Need-follow-requires
 follow-requires c κs = linked-here (c .before)
 
 returns-3 : tie.Need-returns-3
-returns-3 c = (by-chain _ (linked-here (c .before .before .before)) (sym (c .before .follow .ensures .0) ∙ not-true _ (c .if3 .taken)), λ e. absurd (clash e))
+returns-3 c = (by-chain _ (linked-here (c .before .before .before)) (sym (c .before .follow .ensures .0) ∙ not-true _ (c .if3 .taken)), λ e. absurd (clash e), c .before .follow .ensures .2 ∙ left-linked _ _ (linked-here (c .before .before .before)))
 
 lists-right-requires : tie.Need-lists-right-requires
 lists-right-requires c κs = linked-here (c .before .before .before) .sized
@@ -47,7 +48,7 @@ lists-right-requires c κs = linked-here (c .before .before .before) .sized
 returns-4 : tie.Need-returns-4
 returns-4 c =
     let e = c .before .before in
-    (by-lists _ (linked-here (e .before .before .before)) (chain-right e) (sym (c .before .lists-right .ensures) ∙ not-true _ (c .if4 .taken)), λ e. absurd (clash e))
+    (by-lists _ (linked-here (e .before .before .before)) (chain-right e) (sym (c .before .lists-right .ensures) ∙ not-true _ (c .if4 .taken)), λ z. absurd (clash z), e .before .follow .ensures .2 ∙ left-linked _ _ (linked-here (e .before .before .before)))
 
 unused-zero-requires : tie.Need-unused-zero-requires
 unused-zero-requires c κs = linked-here (c .before .before .before .before .before) .sized
@@ -58,6 +59,7 @@ returns-5 c =
     let e = a .before .before in (
       c .unused-zero .ensures ∙ by-unused _ (linked-here (e .before .before .before)) (chain-right e) (sym (a .before .lists-right .ensures) ∙ not-false _ (a .if4 .left)),
       λ _. e .before .follow .ensures .1 (not-false _ (e .if3 .left)),
+      e .before .follow .ensures .2 ∙ left-linked _ _ (linked-here (e .before .before .before)),
     )
 
 pub chained-spec : {M : Type 1} → statement M

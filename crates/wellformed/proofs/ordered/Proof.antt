@@ -24,7 +24,7 @@ unfolding wellFormed formValue
 by-form t f e q = ap (λ (n : ℕ). eqb n 3) q ∙ sym (rw e (and-true (eqb (formOf t) 3)))
 
 returns : tie.Need-returns
-returns c = (by-own _ (sym (c .before .chained .ensures .0) ∙ not-true _ (c .if1 .taken)), λ e. absurd (clash e))
+returns c = (by-own _ (sym (c .before .chained .ensures .0) ∙ not-true _ (c .if1 .taken)), λ e. absurd (clash e), c .before .chained .ensures .2)
 
 form-requires : tie.Need-form-requires
 form-requires c κs = long (own-sized (sym (c .before .chained .ensures .0) ∙ not-false _ (c .if1 .left)))
@@ -32,7 +32,7 @@ form-requires c κs = long (own-sized (sym (c .before .chained .ensures .0) ∙ 
 returns-2 : tie.Need-returns-2
 returns-2 c =
     let k = c .before .before in
-    (by-form _ _ (sym (k .chained .ensures .0) ∙ not-false _ (c .before .if1 .left)) (c .form .ensures), λ _. k .chained .ensures .1 (not-false _ (c .before .if1 .left)))
+    (by-form _ _ (sym (k .chained .ensures .0) ∙ not-false _ (c .before .if1 .left)) (c .form .ensures), λ _. k .chained .ensures .1 (not-false _ (c .before .if1 .left)), k .chained .ensures .2)
 
 pub ordered-spec : {M : Type 1} → statement M
 ordered-spec = tie.close (tie.spec chained-requires returns form-requires returns-2)
