@@ -96,6 +96,11 @@ unfolding calledAfter
 notes t k kind c r bytes (ofRead {a}) = called-is t (read a)
 notes t k kind c r bytes (ofWrite {a}) = called-is t (write a)
 
+-- in a list of one byte
+one-noted : (bytes : List ℕ) (n : ℕ) → length bytes ≡ 1 → noted bytes n ≡ n ∷ []
+unfolding noted
+one-noted bytes n one = rw one
+
 module _ (t : List ℕ) (k : Call) (kind : Kind) (c r : ℕ) (bytes : List ℕ) (x : Counting k kind c r bytes) where
   -- by the order in which the questions are put
   before-six : firstNo (before 6 (questions t k)) ≡ cond (ltb (outcome t k .refusal) 6) (outcome t k .refusal) 0
@@ -109,14 +114,14 @@ module _ (t : List ℕ) (k : Call) (kind : Kind) (c r : ℕ) (bytes : List ℕ) 
 
   module _ (one : length bytes ≡ 1) where
     note-early : Within 5 (outcome t k .refusal) → outcome t k .called ≡ 0 ∷ []
-    unfolding noted fromSix
+    unfolding fromSix
     note-early h =
         let e : firstNo (before 6 (questions t k)) ≡ outcome t k .refusal = before-six ∙ rw (lt-ltb (outcome t k .refusal) 6 (omega arith)) in
-        notes t k kind c r bytes x ∙ rw (eq-eqb (length bytes) 1 one, ne-eqb (firstNo (before 6 (questions t k))) 0 (λ z. omega arith))
+        notes t k kind c r bytes x ∙ one-noted bytes _ one ∙ rw (ne-eqb (firstNo (before 6 (questions t k))) 0 (λ z. omega arith))
 
     note-late : 6 ≤ outcome t k .refusal → outcome t k .called ≡ calledBy kind t c r ∷ []
-    unfolding noted fromSix
-    note-late h = notes t k kind c r bytes x ∙ rw (eq-eqb (length bytes) 1 one, eq-eqb (firstNo (before 6 (questions t k))) 0 (from-six h))
+    unfolding fromSix
+    note-late h = notes t k kind c r bytes x ∙ one-noted bytes _ one ∙ rw (eq-eqb (firstNo (before 6 (questions t k))) 0 (from-six h))
 
 -- ---- a call refused by 6 or 7 went on to R
 -- where it stays with P, both are yes
