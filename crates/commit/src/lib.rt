@@ -1,0 +1,1 @@
+// A relay's calls in any interleaving, each atomic: definitions and proofs only.
