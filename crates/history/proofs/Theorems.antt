@@ -81,7 +81,7 @@ unfolding Demand3
 demand-3 t a ks h = all-right (outcome t (founding a) .table) (opened a) 0 (opens t a h) ks
 
 -- ---- the state after a list of calls
-later : (t : List ℕ) (b : Book) (e : ℕ) → State t b e → (ks : List Call) → (e′ : ℕ) × State (tableAfter t ks) (bookAfter t b ks) e′
+pub later : (t : List ℕ) (b : Book) (e : ℕ) → State t b e → (ks : List Call) → (e′ : ℕ) × State (tableAfter t ks) (bookAfter t b ks) e′
 unfolding tableAfter bookAfter
 later t b e S [] = (e, S)
 later t b e S (k ∷ ks) =

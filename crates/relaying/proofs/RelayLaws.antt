@@ -148,7 +148,7 @@ module _ {r : ℕ} {t u : List ℕ} (E : EqualIn r t u) where
   unfolding rowLength formOf form
   widths = ap₂ strideIn (get-same E form (omega arith)) (file-same E)
 
-  lengths : length u ≡ length t
+  pub lengths : length u ≡ length t
   unfolding lengthRight rowsEnd capacityOf capacity
   lengths = eqb-true _ _ (formed u (E .formed-too) .long) ∙ ap₂ (λ (k w : ℕ). 16 + k * w) (get-same E capacity (omega arith)) widths ∙ sym (eqb-true _ _ (formed t (E .formed) .long))
 
@@ -157,7 +157,7 @@ module _ {r : ℕ} {t u : List ℕ} (E : EqualIn r t u) where
   ends = rw (used-same E, widths)
 
   -- behind the used rows both are zero
-  rest : drop (rowsEnd t (usedOf t)) u ≡ drop (rowsEnd t (usedOf t)) t
+  pub rest : drop (rowsEnd t (usedOf t)) u ≡ drop (rowsEnd t (usedOf t)) t
   unfolding unusedZero
   rest =
       let e = rowsEnd t (usedOf t) in

@@ -52,13 +52,13 @@ module _ (r : ℕ) (t u v : List ℕ) (room : Roomy t (usedOf t)) (only : OnlyRo
   long : (i : ℕ) → Within (usedOf t) i → has r i ≡ true → length (rowBytes u i) ≡ rowLength t
   long i w m = ap length (sym (same i m)) ∙ row-long v (usedOf t) (omega (arith, like-end like (usedOf t), only .bytes)) i w ∙ like-length like
 
-  shipped-is : shipped r u t ≡ v
+  pub shipped-is : shipped r u t ≡ v
   unfolding shipped withRows rowsEnd
   shipped-is = alike 16 (rowLength t) (usedOf t) (blocks-changed 16 (rowLength t) t (has r) (λ i x. rowBytes u i) (usedOf t) room long) altered
 
 -- ---- one call on a well-formed table
 module _ (t : List ℕ) (e : wellFormed t ≡ true) where
-  only-answered : (k : Call) (r : ℕ) → Answering k r → OnlyRowsOf r t (outcome t k .table)
+  pub only-answered : (k : Call) (r : ℕ) → Answering k r → OnlyRowsOf r t (outcome t k .table)
   unfolding AltersOnlyAnswered
   only-answered k r a = go (outcome t k .refusal) refl
     where
