@@ -26,10 +26,10 @@ nothing : ℕ → List ℕ
 nothing i = []
 
 -- ---- what a call heard, machine by machine
-each-none : (P : ℕ → ℕ → List ℕ → Type 0) → EachOf (λ i. silent) P
+pub each-none : (P : ℕ → ℕ → List ℕ → Type 0) → EachOf (λ i. silent) P
 each-none P i k r q = absurd (no cc)
 
-each-set : (g : ℕ → Answer) (i k : ℕ) (r : List ℕ) (P : ℕ → ℕ → List ℕ → Type 0) → P i k r → EachOf g P → EachOf (set g i (gave k r)) P
+pub each-set : (g : ℕ → Answer) (i k : ℕ) (r : List ℕ) (P : ℕ → ℕ → List ℕ → Type 0) → P i k r → EachOf g P → EachOf (set g i (gave k r)) P
 each-set g i k r P a h j c x = set-elim (λ (y : Answer). y ≡ gave c x → P j c x) g i (gave k r) j (λ q z. it q z) (λ q z. h j c x z)
   where
     it : j ≡ i → gave k r ≡ gave c x → P j c x

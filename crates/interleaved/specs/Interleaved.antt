@@ -13,8 +13,8 @@ use Rattle.history.specs.Demand3.{Right}
 use Rattle.history.specs.Claims.{tableAfter, bookAfter}
 use Rattle.history.specs.Claims as History
 use Rattle.relaying.specs.Relaying.{blanked}
-use Rattle.commit.specs.Steps.{Answer, Shown, none, some, shown, Decision, State, Reached}
-use Rattle.commit.specs.Atomic.{Entry, calls, current, Ledger}
+use Rattle.commit.specs.Steps.{Shown, none, some, shown, Decision, State, Runs, Reached, Later}
+use Rattle.commit.specs.Atomic.{Entry, calls, current, Ended, Ledger}
 
 -- ---- a call decided by the library
 -- what a caller asks for; who answers is not known yet, and the set in its arguments counts for nothing
@@ -85,3 +85,24 @@ pub record OneAtATime (t : List ℕ) (b : Book) (request : ℕ → Request) (s :
 -- from any table that a founding and a list of calls left, whatever the callers ask for, whatever is lost, late or doubled, whoever crashes
 unfoldable pub EveryInterleaving : Type 0
 EveryInterleaving = (t : List ℕ) (b : Book) → History.Reached t b → (request : ℕ → Request) (s : State) → Reached (byLibrary t request) (rowBytes t) s → OneAtATime t b request s
+
+-- it is met with: two writes run at once, a machine crashes in doubt, messages come twice; both writes are done, in this order, and a read after them gives the later one's byte
+pub record OverlapMet : Type 0 where
+  pub table : List ℕ
+  pub book : Book
+  pub history : History.Reached table book
+  pub request : ℕ → Request
+  pub during : State
+  pub reached : Reached (byLibrary table request) (rowBytes table) during
+  pub both-run : Runs (during .phase 1) × Runs (during .phase 2)
+  pub end : State
+  pub from : Later (byLibrary table request) during end
+  pub both-ended : Ended (end .phase 1) × Ended (end .phase 2)
+  pub one : Writing
+  pub other : Writing
+  pub list : callsOf table request (calls end) ≡ write one ∷ write other ∷ []
+  pub one-done : outcome table (write one) .refusal ≡ 0
+  pub other-done : outcome (tableAfter table (write one ∷ [])) (write other) .refusal ≡ 0
+  pub then-read : Reading
+  pub read-done : outcome (tableAfter table (write one ∷ write other ∷ [])) (read then-read) .refusal ≡ 0
+  pub gives : outcome (tableAfter table (write one ∷ write other ∷ [])) (read then-read) .buffer ≡ other .patch
