@@ -7,7 +7,7 @@ use lib.Dec.{eqb}
 use Rattle.sets.specs.Upto.{every}
 use Rattle.bytes.specs.Bytes.{bytesOf, part, zeros}
 use Rattle.blocks.specs.Blocks.{inTurn}
-use Rattle.fields.specs.Layout.{store, oldest, bodyIn, strideIn, capacityOf, usedOf, fileLengthOf, rowBytes}
+use Rattle.fields.specs.Layout.{store, formerOldest, bodyIn, strideIn, capacityOf, usedOf, fileLengthOf, rowBytes}
 use Rattle.table.specs.WellFormed.{between, plain}
 
 -- "a pair of forms other than 1 or 2 with 3"
@@ -21,11 +21,11 @@ allPlain t = every (usedOf t) (λ i. plain (rowBytes t i))
 -- a row of a table of that form: its head and contents as they are, but for the window, which is empty: no oldest record, and where there are records
 -- they are zero
 unfoldable pub carriedRow : ℕ → ℕ → List ℕ → List ℕ
-carriedRow to fileLength row = store oldest 0 (part 0 (32 + fileLength) row) ++ zeros (bodyIn to fileLength - fileLength)
+carriedRow to fileLength row = store formerOldest 0 (part 0 (32 + fileLength) row) ++ zeros (bodyIn to 1 fileLength - fileLength)
 
 -- the table of that form: but for byte 0 the header stays, and every row is carried over, used or not
 unfoldable pub carried : ℕ → List ℕ → List ℕ
 carried to t = bytesOf 1 to ++ (part 1 15 t ++ inTurn (capacityOf t) (λ i. carriedRow to (fileLengthOf t) (rowBytes t i)))
 
 unfoldable pub carriedLength : ℕ → List ℕ → ℕ
-carriedLength to t = 16 + capacityOf t * strideIn to (fileLengthOf t)
+carriedLength to t = 16 + capacityOf t * strideIn to 1 (fileLengthOf t)

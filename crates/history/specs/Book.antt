@@ -116,14 +116,15 @@ admitted b x =
       hasWrite = λ i k. b .hasWrite i k && not (eqb i new);
     }
 
--- the book after a call, and whether that was done; "A read, or any refused call: nothing."
-unfoldable pub entered : Book → Call → Bool → Book
-entered b k false = b
-entered b (founding a) true = opened a
-entered b (join a) true = admitted b (a .name)
-entered b (read a) true = b
-entered b (write a) true = written b (writeSet b (a .c) (a .r)) (a .offset) (a .patch)
-entered b (send a) true = passedOn b (a .f) (a .t)
-entered b (check a) true = checked b (a .r)
+-- the book of file q after a call, and whether that was done; "A read, or any refused call: nothing.", and so a write or a send of another file. Lists
+-- are the same in the books of all files
+unfoldable pub entered : ℕ → Book → Call → Bool → Book
+entered q b k false = b
+entered q b (founding a) true = opened a
+entered q b (join a) true = admitted b (a .name)
+entered q b (read a) true = b
+entered q b (write a) true = cond (eqb (a .file) q) (written b (writeSet b (a .c) (a .r)) (a .offset) (a .patch)) b
+entered q b (send a) true = cond (eqb (a .file) q) (passedOn b (a .f) (a .t)) b
+entered q b (check a) true = checked b (a .r)
 -- a move leaves the table as it is
-entered b (carry a) true = b
+entered q b (carry a) true = b

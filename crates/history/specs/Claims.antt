@@ -5,11 +5,11 @@ use mathlib.Core.List.{List, [], _∷_}
 use Prim.Native.Nat.{ℕ, _+_, _≤_}
 use lib.Dec.{eqb, leb}
 use lib.ListN.{length}
-use Rattle.sets.specs.Upto.{Within, count}
+use Rattle.sets.specs.Upto.{Within, every, count}
 use Rattle.sets.specs.Sets.{has, losing}
 use Rattle.quorums.specs.declared.Kind.{Kind}
 use Rattle.quorums.specs.declared.Kind.the-variants.{Read, Write}
-use Rattle.fields.specs.Layout.{usedOf, rowBytes, listOf, staleOf, versionOf, desiredOf, contentsOf}
+use Rattle.fields.specs.Layout.{usedOf, filesOf, listOf, copyBytes, staleOf, versionOf, desiredOf, contentsOf}
 use Rattle.window.specs.Windows.{Kept, patches, windowOf}
 use Rattle.table.specs.WellFormed.{wellFormed}
 use Rattle.asking.specs.Asking.{firstNo, before}
@@ -17,116 +17,127 @@ use Rattle.protocol.specs.Calls.{Founding, Reading, Writing, Sending, Checking,
 use Rattle.history.specs.Book.{Book, opened, holdsQuorum, someHasAll, entered}
 use Rattle.history.specs.Demand3.{verdict, Right}
 
--- the table after a list of calls, and the book after it
+-- the table after a list of calls, and the book of file q after it
 unfoldable pub tableAfter : List ℕ → List Call → List ℕ
 tableAfter t [] = t
 tableAfter t (k ∷ ks) = tableAfter (outcome t k .table) ks
 
-unfoldable pub bookAfter : List ℕ → Book → List Call → Book
-bookAfter t b [] = b
-bookAfter t b (k ∷ ks) = bookAfter (outcome t k .table) (entered b k (eqb (outcome t k .refusal) 0)) ks
+unfoldable pub bookAfter : ℕ → List ℕ → Book → List Call → Book
+bookAfter q t b [] = b
+bookAfter q t b (k ∷ ks) = bookAfter q (outcome t k .table) (entered q b k (eqb (outcome t k .refusal) 0)) ks
 
--- a table, and the book, after a done founding and any list of calls
-pub data Reached : List ℕ → Book → Type 0 where
+-- a table, and the book of each file, after a done founding and any list of calls
+pub data Reached : List ℕ → (ℕ → Book) → Type 0 where
   after : (t : List ℕ) (a : Founding) (ks : List Call) → outcome t (founding a) .refusal ≡ 0
-      → Reached (tableAfter (outcome t (founding a) .table) ks) (bookAfter (outcome t (founding a) .table) (opened a) ks)
+      → Reached (tableAfter (outcome t (founding a) .table) ks) (λ q. bookAfter q (outcome t (founding a) .table) (opened a) ks)
 
 -- "after a founding this never happens": question 1 turns no table down
 unfoldable pub AlwaysWellFormed : Type 0
-AlwaysWellFormed = (t : List ℕ) (b : Book) → Reached t b → wellFormed t ≡ true
+AlwaysWellFormed = (t : List ℕ) (b : ℕ → Book) → Reached t b → wellFormed t ≡ true
 
--- a check that passes 1 to 3 meets 6 and 7 by the book: a write quorum of the list in force; R that list, or a row of R with every done write
+-- for each file a row of s has every done write
+unfoldable pub eachHasAll : ℕ → (ℕ → Book) → (ℕ → Bool) → Bool
+eachHasAll files b s = every files (λ q. someHasAll (b q) s)
+
+-- a check that passes 1 to 3 meets 6 and 7 by the books: a write quorum of the list in force, the same in all; R that list, or for each file a row of R
+-- with every done write
 unfoldable pub ChecksByBook : Type 0
-ChecksByBook = (t : List ℕ) (b : Book) → Reached t b → (a : Checking) → firstNo (before 6 (questions t (check a))) ≡ 0
-    → firstNo (before 8 (questions t (check a))) ≡ cond (holdsQuorum b Write (has (a .r))) (cond (eqb (a .r) (b .inForce .members) || someHasAll b (has (a .r))) 0 7) 6
+ChecksByBook = (t : List ℕ) (b : ℕ → Book) → Reached t b → (a : Checking) → firstNo (before 6 (questions t (check a))) ≡ 0
+    → firstNo (before 8 (questions t (check a)))
+    ≡ cond (holdsQuorum (b 1) Write (has (a .r))) (cond (eqb (a .r) (b 1 .inForce .members) || eachHasAll (filesOf t) b (has (a .r))) 0 7) 6
 
--- "Done check: R becomes the list in force, and the own list of each row of R", in the book and in the table; also where R was the list in force and nothing changes
+-- "Done check: R becomes the list in force, and the own list of each row of R", in each file's book and in the table; also where R was the list in force
+-- and nothing changes
 pub record Agreed (t : List ℕ) (b : Book) (r : ℕ) : Type 0 where
   pub members : b .inForce .members ≡ r
   pub own : (i : ℕ) → has r i ≡ true → b .own i ≡ b .inForce
   pub rows : (i : ℕ) → has r i ≡ true → listOf t i ≡ b .inForce
 
 unfoldable pub CheckAgrees : Type 0
-CheckAgrees = (t : List ℕ) (b : Book) → Reached t b → (a : Checking) → outcome t (check a) .refusal ≡ 0 → Agreed (outcome t (check a) .table) (entered b (check a) true) (a .r)
+CheckAgrees = (t : List ℕ) (b : ℕ → Book) → Reached t b → (a : Checking) → outcome t (check a) .refusal ≡ 0 → (q : ℕ) → Within (filesOf t) q
+    → Agreed (outcome t (check a) .table) (entered q (b q) (check a) true) (a .r)
 
 -- ---- "Send the last results only"
--- what row i keeps: its contents and its window
-unfoldable pub keptOf : List ℕ → ℕ → Kept
-keptOf t i = record { contents = contentsOf t i; window = windowOf (rowBytes t i) }
+-- what row i keeps of file q: contents and window
+unfoldable pub keptOf : List ℕ → ℕ → ℕ → Kept
+keptOf t q i = record { contents = contentsOf t q i; window = windowOf (copyBytes t q i) }
 
 -- u is t after a send of the whole contents
 pub record WholeSend (t u : List ℕ) (a : Sending) : Type 0 where
-  pub contents : contentsOf u (a .t) ≡ contentsOf t (a .f)
-  pub version : versionOf u (a .t) ≡ versionOf t (a .f)
-  pub mark : staleOf u (a .t) ≡ false
-  pub desired : desiredOf u (a .t) ≡ 0
+  pub contents : contentsOf u (a .file) (a .t) ≡ contentsOf t (a .file) (a .f)
+  pub version : versionOf u (a .file) (a .t) ≡ versionOf t (a .file) (a .f)
+  pub mark : staleOf u (a .file) (a .t) ≡ false
+  pub desired : desiredOf u (a .file) (a .t) ≡ 0
 
 -- "In a founded history, contents, version and marks come out as from a whole send"
 unfoldable pub SendsAreWhole : Type 0
-SendsAreWhole = (t : List ℕ) (b : Book) → Reached t b → (a : Sending) → outcome t (send a) .refusal ≡ 0 → WholeSend t (outcome t (send a) .table) a
+SendsAreWhole = (t : List ℕ) (b : ℕ → Book) → Reached t b → (a : Sending) → outcome t (send a) .refusal ≡ 0 → WholeSend t (outcome t (send a) .table) a
 
--- there, rows of one version keep the same, window bytes and all
+-- there, rows of one version of a file keep the same of it, window bytes and all
 unfoldable pub KeptByVersion : Type 0
-KeptByVersion = (t : List ℕ) (b : Book) → Reached t b → (i j : ℕ) → Within (usedOf t) i → Within (usedOf t) j → versionOf t i ≡ versionOf t j → keptOf t i ≡ keptOf t j
+KeptByVersion = (t : List ℕ) (b : ℕ → Book) → Reached t b → (q : ℕ) → Within (filesOf t) q → (i j : ℕ) → Within (usedOf t) i → Within (usedOf t) j
+    → versionOf t q i ≡ versionOf t q j → keptOf t q i ≡ keptOf t q j
 
 -- both ways are met with: a done send to a row n versions behind, and whether the sender's window reaches back so far
 pub record SendBehind (n : ℕ) (reaches : Bool) : Type 0 where
   pub table : List ℕ
-  pub book : Book
-  pub reached : Reached table book
+  pub books : ℕ → Book
+  pub reached : Reached table books
   pub call : Sending
-  pub behind : versionOf table (call .t) + n ≡ versionOf table (call .f)
+  pub behind : versionOf table (call .file) (call .t) + n ≡ versionOf table (call .file) (call .f)
   pub done : outcome table (send call) .refusal ≡ 0
-  pub way : leb n (length (patches (windowOf (rowBytes table (call .f))))) ≡ reaches
+  pub way : leb n (length (patches (windowOf (copyBytes table (call .file) (call .f))))) ≡ reaches
 
 unfoldable pub BothWaysMet : Type 0
 BothWaysMet = SendBehind 16 true × SendBehind 17 false
 
 -- ---- "One machine lost"
--- "a list of four or more .. in force, a check by all its members but one, some one of them having every done write": x is not there; the coordinator answers
-pub record AllButOneCheck (b : Book) (x : ℕ) (a : Checking) : Type 0 where
-  pub four : 4 ≤ count 64 (has (b .inForce .members))
-  pub others : has (a .r) ≡ losing (has (b .inForce .members)) x
-  pub current : someHasAll b (has (a .r)) ≡ true
+-- "a list of four or more .. in force, a check by all its members but one"; "each file needs some one machine having all its done writes": x is not
+-- there; the coordinator answers
+pub record AllButOneCheck (t : List ℕ) (b : ℕ → Book) (x : ℕ) (a : Checking) : Type 0 where
+  pub four : 4 ≤ count 64 (has (b 1 .inForce .members))
+  pub others : has (a .r) ≡ losing (has (b 1 .inForce .members)) x
+  pub current : (q : ℕ) → Within (filesOf t) q → someHasAll (b q) (has (a .r)) ≡ true
   pub coordinator : has (a .r) (a .c) ≡ true
 
 -- it "is not refused by 6 or 7", nor before. "so laid" is no premise: in a founded history every list in force was laid by its founding or by a check
 unfoldable pub OneLost : Type 0
-OneLost = (t : List ℕ) (b : Book) → Reached t b → (x : ℕ) (a : Checking) → AllButOneCheck b x a → firstNo (before 8 (questions t (check a))) ≡ 0
+OneLost = (t : List ℕ) (b : ℕ → Book) → Reached t b → (x : ℕ) (a : Checking) → AllButOneCheck t b x a → firstNo (before 8 (questions t (check a))) ≡ 0
 
--- it is met with: there is such a history, such a check, and a member that is not there
+-- it is met with, in a group of two files: there is such a history, such a check, and a member that is not there
 unfoldable pub OneLostMet : Type 0
-OneLostMet = (t : List ℕ) × (b : Book) × (x : ℕ) × (a : Checking) × Reached t b × AllButOneCheck b x a × (has (b .inForce .members) x ≡ true)
+OneLostMet = (t : List ℕ) × (b : ℕ → Book) × (x : ℕ) × (a : Checking) × Reached t b × AllButOneCheck t b x a × (has (b 1 .inForce .members) x ≡ true) × (filesOf t ≡ 2)
 
--- ---- 1,000,000 from both sides
--- k is a read or a write, with the answering set R
-pub data Asks : Call → Kind → ℕ → Type 0 where
-  aRead : {a : Reading} → Asks (read a) Read (a .r)
-  aWrite : {a : Writing} → Asks (write a) Write (a .r)
+-- ---- 1,000,000 from both sides, of one file's writes
+-- k is a read or a write of file q, with the answering set R
+pub data Asks : Call → Kind → ℕ → ℕ → Type 0 where
+  aRead : {a : Reading} → Asks (read a) Read (a .file) (a .r)
+  aWrite : {a : Writing} → Asks (write a) Write (a .file) (a .r)
 
 -- "After fewer than 1,000,000 done writes": after 999,999 too, reads and writes are refused by the book
 unfoldable pub BelowTheLimit : Type 0
-BelowTheLimit = (t : List ℕ) (b : Book) → Reached t b → b .writes ≡ 999_999 → (k : Call) (kind : Kind) (r : ℕ) → Asks k kind r
-    → firstNo (before 6 (questions t k)) ≡ 0 → outcome t k .refusal ≡ verdict b kind r
+BelowTheLimit = (t : List ℕ) (b : ℕ → Book) → Reached t b → (k : Call) (kind : Kind) (q r : ℕ) → Asks k kind q r → b q .writes ≡ 999_999
+    → firstNo (before 6 (questions t k)) ≡ 0 → outcome t k .refusal ≡ verdict (b q) kind r
 
 -- after 1,000,000 a write that passes 1 to 7 is refused by 8, while reads are refused by the book and give the file
-pub record Full (t : List ℕ) (b : Book) : Type 0 where
-  pub writes : (k : Call) (r : ℕ) → Asks k Write r → firstNo (before 8 (questions t k)) ≡ 0 → outcome t k .refusal ≡ 8
-  pub reads : (k : Call) (r : ℕ) → Asks k Read r → firstNo (before 6 (questions t k)) ≡ 0 → outcome t k .refusal ≡ verdict b Read r
-  pub gives : (k : Call) → Right t b k (outcome t k)
+pub record Full (q : ℕ) (t : List ℕ) (b : Book) : Type 0 where
+  pub writes : (k : Call) (r : ℕ) → Asks k Write q r → firstNo (before 8 (questions t k)) ≡ 0 → outcome t k .refusal ≡ 8
+  pub reads : (k : Call) (r : ℕ) → Asks k Read q r → firstNo (before 6 (questions t k)) ≡ 0 → outcome t k .refusal ≡ verdict b Read r
+  pub gives : (k : Call) → Right q t b k (outcome t k)
 
 unfoldable pub AtTheLimit : Type 0
-AtTheLimit = (t : List ℕ) (b : Book) → Reached t b → b .writes ≡ 1_000_000 → Full t b
+AtTheLimit = (t : List ℕ) (b : ℕ → Book) → Reached t b → (q : ℕ) → b q .writes ≡ 1_000_000 → Full q t (b q)
 
--- both are met with: there is a history with n done writes, after which a write that passes 1 to 7 is answered by the refusal x
+-- both are met with: there is a history with n done writes of a file, after which a write of it that passes 1 to 7 is answered by the refusal x
 pub record WithWrites (n x : ℕ) : Type 0 where
   pub table : List ℕ
-  pub book : Book
-  pub reached : Reached table book
-  pub writes : book .writes ≡ n
+  pub books : ℕ → Book
+  pub reached : Reached table books
+  pub file : ℕ
+  pub writes : books file .writes ≡ n
   pub call : Call
   pub rows : ℕ
-  pub asks : Asks call Write rows
+  pub asks : Asks call Write file rows
   pub passes : firstNo (before 8 (questions table call)) ≡ 0
   pub answer : outcome table call .refusal ≡ x
 

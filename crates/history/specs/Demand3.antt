@@ -21,29 +21,30 @@ pub record ReadGives (b : Book) (a : Reading) (o : Outcome) : Type 0 where
   pub value : o .value ≡ b .writes
   pub bytes : o .buffer ≡ part (a .offset) (a .count) (b .file)
 
--- "After fewer than 1,000,000 done writes, a read (write) that passes document 01's questions 1 to 5 is refused exactly when .."
+-- "After fewer than 1,000,000 done writes, a read (write) that passes document 01's questions 1 to 5 is refused exactly when .."; "for reads and writes that pass 16 too"
 unfoldable pub RefusedRight : List ℕ → Book → Call → Kind → ℕ → Outcome → Type 0
 RefusedRight t b k kind r o = firstNo (before 6 (questions t k)) ≡ 0 → b .writes < 1_000_000 → o .refusal ≡ verdict b kind r
 
--- what is claimed of one call, made on the table t with the book b
-unfoldable pub Right : List ℕ → Book → Call → Outcome → Type 0
-Right t b (read a) o = (o .refusal ≡ 0 → ReadGives b a o) × RefusedRight t b (read a) Read (a .r) o
-Right t b (write a) o = RefusedRight t b (write a) Write (a .r) o
-Right t b (founding a) o = Unit {0}
-Right t b (join a) o = Unit {0}
-Right t b (send a) o = Unit {0}
-Right t b (check a) o = Unit {0}
-Right t b (carry a) o = Unit {0}
+-- what is claimed of one call, made on the table t with the book b of file q
+unfoldable pub Right : ℕ → List ℕ → Book → Call → Outcome → Type 0
+Right q t b (read a) o = a .file ≡ q → (o .refusal ≡ 0 → ReadGives b a o) × RefusedRight t b (read a) Read (a .r) o
+Right q t b (write a) o = a .file ≡ q → RefusedRight t b (write a) Write (a .r) o
+Right q t b (founding a) o = Unit {0}
+Right q t b (join a) o = Unit {0}
+Right q t b (send a) o = Unit {0}
+Right q t b (check a) o = Unit {0}
+Right q t b (carry a) o = Unit {0}
 
 -- and of a list of calls, each getting the table as the last one left it; the book is fed the call and whether it was done
-unfoldable pub AllRight : List ℕ → Book → List Call → Type 0
-AllRight t b [] = Unit {0}
-AllRight t b (k ∷ ks) =
+unfoldable pub AllRight : ℕ → List ℕ → Book → List Call → Type 0
+AllRight q t b [] = Unit {0}
+AllRight q t b (k ∷ ks) =
     let o = outcome t k in
-    Right t b k o × AllRight (o .table) (entered b k (eqb (o .refusal) 0)) ks
+    Right q t b k o × AllRight q (o .table) (entered q b k (eqb (o .refusal) 0)) ks
 
--- "Demand 3's list of calls may contain joinings." Further foundings may stand in it too: a done one opens the book anew.
+-- "Demand 3 is stated file by file." "Demand 3's list of calls may contain joinings." Further foundings may stand in it too: a done one opens the book
+-- anew.
 unfoldable pub Demand3 : Type 0
 Demand3 = (t : List ℕ) (a : Founding) (ks : List Call)
     → let o = outcome t (founding a) in
-    o .refusal ≡ 0 → AllRight (o .table) (opened a) ks
+    o .refusal ≡ 0 → (q : ℕ) → AllRight q (o .table) (opened a) ks

@@ -26,9 +26,9 @@ pub data Request : Type 0 where
 
 -- the call, with the answering set R
 unfoldable pub asked : Request → ℕ → Call
-asked (toRead a) r = read (record { c = a .c; r = r; offset = a .offset; count = a .count; buffer = a .buffer; called = a .called })
-asked (toWrite a) r = write (record { c = a .c; r = r; offset = a .offset; patch = a .patch; called = a .called })
-asked (toSend a) r = send (record { f = a .f; t = a .t; r = r })
+asked (toRead a) r = read (record { c = a .c; r = r; offset = a .offset; count = a .count; buffer = a .buffer; called = a .called; file = a .file })
+asked (toWrite a) r = write (record { c = a .c; r = r; offset = a .offset; patch = a .patch; called = a .called; file = a .file })
+asked (toSend a) r = send (record { f = a .f; t = a .t; r = r; file = a .file })
 asked (toCheck a) r = check (record { c = a .c; r = r })
 
 unfoldable pub isShown : Shown → Bool
@@ -66,16 +66,16 @@ unfoldable pub callsOf : List ℕ → (ℕ → Request) → List Entry → List 
 callsOf t request [] = []
 callsOf t request (e ∷ es) = callsOf t request es ++ (callOf t request e ∷ [])
 
--- what the relay tells of the call e, after the calls es, is what the one table gives: result, read bytes, byte and rows of R. So it is what demand 3 says of it
-pub record Told (t : List ℕ) (b : Book) (request : ℕ → Request) (e : Entry) (es : List Entry) : Type 0 where
+-- what the relay tells of the call e, after the calls es, is what the one table gives: result, read bytes, byte and rows of R. So it is what demand 3 says of it, in each file's book
+pub record Told (t : List ℕ) (b : ℕ → Book) (request : ℕ → Request) (e : Entry) (es : List Entry) : Type 0 where
   pub same : SameFor (setOf (shown (e .heard)) (usedOf t)) (outcome (tableAfter t (callsOf t request es)) (callOf t request e)) (decidedOn t (request (e .call)) (shown (e .heard)))
-  pub right : Right (tableAfter t (callsOf t request es)) (bookAfter t b (callsOf t request es)) (callOf t request e) (decidedOn t (request (e .call)) (shown (e .heard)))
+  pub right : (q : ℕ) → Right q (tableAfter t (callsOf t request es)) (bookAfter q t (b q) (callsOf t request es)) (callOf t request e) (decidedOn t (request (e .call)) (shown (e .heard)))
 
-unfoldable pub AllTold : List ℕ → Book → (ℕ → Request) → List Entry → Type 0
+unfoldable pub AllTold : List ℕ → (ℕ → Book) → (ℕ → Request) → List Entry → Type 0
 AllTold t b request [] = Unit {0}
 AllTold t b request (e ∷ es) = Told t b request e es × AllTold t b request es
 
-pub record OneAtATime (t : List ℕ) (b : Book) (request : ℕ → Request) (s : State) : Type 0 where
+pub record OneAtATime (t : List ℕ) (b : ℕ → Book) (request : ℕ → Request) (s : State) : Type 0 where
   -- each call that has ended is in the list, once, and no other is (and by `in-real-time` between its begin and its end)
   pub listed : Ledger s
   pub told : AllTold t b request (calls s)
@@ -84,13 +84,13 @@ pub record OneAtATime (t : List ℕ) (b : Book) (request : ℕ → Request) (s :
 
 -- from any table that a founding and a list of calls left, whatever the callers ask for, whatever is lost, late or doubled, whoever crashes
 unfoldable pub EveryInterleaving : Type 0
-EveryInterleaving = (t : List ℕ) (b : Book) → History.Reached t b → (request : ℕ → Request) (s : State) → Reached (byLibrary t request) (rowBytes t) s → OneAtATime t b request s
+EveryInterleaving = (t : List ℕ) (b : ℕ → Book) → History.Reached t b → (request : ℕ → Request) (s : State) → Reached (byLibrary t request) (rowBytes t) s → OneAtATime t b request s
 
 -- it is met with: two writes run at once, a machine crashes in doubt, messages come twice; both writes are done, in this order, and a read after them gives the later one's byte
 pub record OverlapMet : Type 0 where
   pub table : List ℕ
-  pub book : Book
-  pub history : History.Reached table book
+  pub books : ℕ → Book
+  pub history : History.Reached table books
   pub request : ℕ → Request
   pub during : State
   pub reached : Reached (byLibrary table request) (rowBytes table) during

@@ -7,7 +7,7 @@ use lib.Dec.{eqb}
 use lib.ListN.{length, drop}
 use Rattle.sets.specs.Upto.{Within}
 use Rattle.bytes.specs.Bytes.{bytesOf, part, zeros}
-use Rattle.fields.specs.Layout.{store, link, bodyLength, usedOf, firstOf, fileLengthOf, linkOf, rowsEnd, rowBytes}
+use Rattle.fields.specs.Layout.{store, link, bodyLength, usedOf, firstOf, fileLengthOf, filesOf, linkOf, rowsEnd, rowBytes}
 use Rattle.linking.specs.Linking.{behind}
 use Rattle.joining.specs.Joining.{rowBefore}
 
@@ -21,5 +21,5 @@ pub record OneMore (t u : List ℕ) (x : ℕ) : Type 0 where
   pub high : part 4 12 u ≡ part 4 12 t
   pub rows : (i : ℕ) → Within (usedOf t) i → rowBytes u i ≡ cond (eqb (rowBefore t x) i) (store link (suc (usedOf t)) (rowBytes t i)) (rowBytes t i)
   -- the new row: its name, its link, and zeros
-  pub new : rowBytes u (suc (usedOf t)) ≡ bytesOf 2 x ++ (bytesOf 1 (behind (firstOf t) (linkOf t) (rowBefore t x)) ++ (zeros 29 ++ zeros (bodyLength (fileLengthOf t))))
+  pub new : rowBytes u (suc (usedOf t)) ≡ bytesOf 2 x ++ (bytesOf 1 (behind (firstOf t) (linkOf t) (rowBefore t x)) ++ (zeros 29 ++ zeros (bodyLength (filesOf t) (fileLengthOf t))))
   pub rest : drop (rowsEnd t (suc (usedOf t))) u ≡ drop (rowsEnd t (suc (usedOf t))) t

@@ -4,19 +4,19 @@ use mathlib.Core.List.{List, [], _∷_, _++_}
 use Prim.Native.Nat.{ℕ, suc, _+_, _-_, _*_, _%_, _^_}
 use lib.Dec.{eqb, leb, ltb}
 use lib.ListN.{length}
-use Rattle.sets.specs.Upto.{some, count, lowest}
+use Rattle.sets.specs.Upto.{every, some, count, lowest}
 use Rattle.sets.specs.Sets.{has}
 use Rattle.quorums.specs.declared.Kind.{Kind}
 use Rattle.quorums.specs.declared.Kind.the-variants.{Read, Write}
 use Rattle.bytes.specs.Bytes.{bytesOf, part, zeros}
 use Rattle.fields.specs.declared.Laid.{Laid}
-use Rattle.fields.specs.Layout.{isTall, formValue, bodyLength, stride, capacityOf, usedOf, fileLengthOf, formOf, nameOf, staleOf, versionOf, desiredOf, contentsOf, rowBytes, withRow, withRows}
+use Rattle.fields.specs.Layout.{isTall, formValue, bodyLength, stride, inCopy, formOf, capacityOf, usedOf, fileLengthOf, filesOf, nameOf, copyBytes, staleOf, versionOf, desiredOf, contentsOf, withRow, withRows}
 use Rattle.table.specs.Chain.{orderOf}
 use Rattle.table.specs.WellFormed.{between, limit, onlyRows, ownForm, wellFormed}
 use Rattle.asking.specs.Asking.{Question, firstNo, before, result}
 use Rattle.protocol.specs.Lists.{laidNow, listChoice}
 use Rattle.protocol.specs.Polls.{Poll, polled, highestEpoch, inForce, goodVersion, good, current, quorumHeld, stays, workedOn}
-use Rattle.protocol.specs.Rows.{refreshedRow, wroteRow, checkedRow}
+use Rattle.protocol.specs.Rows.{refreshedCopy, wroteCopy, checkedRow}
 use Rattle.carrying.specs.Moves.{goesOver, allPlain, carried, carriedLength}
 use Rattle.joining.specs.Joining.{joined}
 
@@ -28,6 +28,8 @@ pub record Founding : Type 0 where
   pub names : List ℕ
   -- "Founding takes a choice, 0 for wide or 1 for tall"
   pub choice : ℕ
+  -- "A tournament has up to eight files on the same machines"
+  pub files : ℕ
 
 pub record Reading : Type 0 where
   pub c : ℕ
@@ -38,6 +40,8 @@ pub record Reading : Type 0 where
   pub buffer : List ℕ
   -- lent for the size of the set called
   pub called : List ℕ
+  -- "name a file, counted from 1"
+  pub file : ℕ
 
 pub record Writing : Type 0 where
   pub c : ℕ
@@ -45,12 +49,14 @@ pub record Writing : Type 0 where
   pub offset : ℕ
   pub patch : List ℕ
   pub called : List ℕ
+  pub file : ℕ
 
 pub record Sending : Type 0 where
   -- from row f to row t
   pub f : ℕ
   pub t : ℕ
   pub r : ℕ
+  pub file : ℕ
 
 pub record Checking : Type 0 where
   pub c : ℕ
@@ -104,12 +110,16 @@ isUsed t i = between 1 i (usedOf t)
 unfoldable pub inFile : List ℕ → ℕ → ℕ → Bool
 inFile t offset count = leb 1 count && leb (offset + count) (fileLengthOf t)
 
--- ---- the set S that a read or a write works on, and the poll
-unfoldable pub answers : List ℕ → ℕ → Poll
-answers t r = polled t (has r)
+-- q is a file of the group
+unfoldable pub inGroup : List ℕ → ℕ → Bool
+inGroup t q = between 1 q (filesOf t)
 
-unfoldable pub workSet : Kind → List ℕ → ℕ → ℕ → ℕ → Bool
-workSet kind t c r = workedOn kind (orderOf t) (answers t r) c (nameOf t c) (has r)
+-- ---- the set S that a read or a write of file q works on, and the poll; epochs and lists are the same whatever the file
+unfoldable pub answers : List ℕ → ℕ → ℕ → Poll
+answers t q r = polled t q (has r)
+
+unfoldable pub workSet : Kind → List ℕ → ℕ → ℕ → ℕ → ℕ → Bool
+workSet kind t q c r = workedOn kind (orderOf t) (answers t q r) c (nameOf t c) (has r)
 
 -- ---- founding
 -- names, two bytes each, low byte first
@@ -123,9 +133,9 @@ unfoldable pub namesRising : ℕ → List ℕ → Bool
 namesRising a [] = true
 namesRising a (x ∷ l) = ltb a x && leb x 65_535 && namesRising x l
 
--- "16 bytes: form, capacity, rows used, first row, file length; the rest 0"
-unfoldable pub foundedHeader : ℕ → ℕ → ℕ → List ℕ
-foundedHeader capacity n fileLength = formValue ∷ capacity ∷ n ∷ 1 ∷ (bytesOf 2 fileLength ++ zeros 10)
+-- "16 bytes: form, capacity, rows used, first row, file length", the number of files; "the rest 0"
+unfoldable pub foundedHeader : ℕ → ℕ → ℕ → ℕ → List ℕ
+foundedHeader capacity n files fileLength = formValue ∷ capacity ∷ n ∷ 1 ∷ (bytesOf 2 fileLength ++ (bytesOf 1 files ++ zeros 9))
 
 -- row i of n: its name, the next row (0 after the last), the list of all used rows; "contents, versions, epochs, marks .. become 0", with a body of so many bytes
 unfoldable pub foundedRow : ℕ → Laid → ℕ → ℕ → ℕ → List ℕ
@@ -141,10 +151,11 @@ unfoldable pub foundedList : ℕ → ℕ → Laid
 foundedList choice n = laidNow (eqb choice 1) (2 ^ n - 1)
 
 -- the table after a founding: "every unused row" becomes 0 too
-unfoldable pub founded : ℕ → ℕ → ℕ → List ℕ → List ℕ
-founded choice capacity fileLength names =
+unfoldable pub founded : ℕ → ℕ → ℕ → ℕ → List ℕ → List ℕ
+founded choice capacity files fileLength names =
     let n = length names in
-    foundedHeader capacity n fileLength ++ (foundedRows n (foundedList choice n) (bodyLength fileLength) 1 names ++ zeros ((capacity - n) * stride fileLength))
+    foundedHeader capacity n files fileLength
+    ++ (foundedRows n (foundedList choice n) (bodyLength files fileLength) 1 names ++ zeros ((capacity - n) * stride files fileLength))
 
 -- ---- "Questions put to each call": in this order, each to the calls it names
 -- 1 to 3 of a call by coordinator c, then those after
@@ -159,7 +170,12 @@ unfoldable pub questions : List ℕ → Call → List Question
 questions t (founding a) =
     let n = length (namesIn (a .names)) in
     record { ask = 11; yes = eqb (length (a .names) % 2) 0 && between 1 n 64 && namesRising 0 (namesIn (a .names)) && leb (a .choice) 1 }
-    ∷ record { ask = 12; yes = between 1 (a .capacity) 64 && leb n (a .capacity) && between 1 (a .fileLength) 4_096 && eqb (length t) (16 + a .capacity * stride (a .fileLength)) }
+    -- "byte 6 is the number of files, 1 to 8, else founding is refused by 12"
+    ∷ record {
+      ask = 12;
+      yes = between 1 (a .capacity) 64 && leb n (a .capacity) && between 1 (a .fileLength) 4_096 && between 1 (a .files) 8
+          && eqb (length t) (16 + a .capacity * stride (a .files) (a .fileLength));
+    }
     ∷ []
 -- "Questions 2 and 3 are not put to it. .. after question 1, joining gives 13 for name 0 or a name in use, then 14 when no unused row is left."
 questions t (join a) =
@@ -167,20 +183,23 @@ questions t (join a) =
     ∷ record { ask = 13; yes = between 1 (a .name) 65_535 && not (some (usedOf t) (λ i. eqb (nameOf t i) (a .name))) }
     ∷ record { ask = 14; yes = ltb (usedOf t) (capacityOf t) }
     ∷ []
+-- "after question 3, a file number not in the group gives 16"
 questions t (read a) =
-    let p = answers t (a .r) in
-    let s = workSet Read t (a .c) (a .r) in
+    let p = answers t (a .file) (a .r) in
+    let s = workSet Read t (a .file) (a .c) (a .r) in
     byCoordinator t (a .c) (a .r) (
-    record { ask = 4; yes = inFile t (a .offset) (a .count) }
+    record { ask = 16; yes = inGroup t (a .file) }
+    ∷ record { ask = 4; yes = inFile t (a .offset) (a .count) }
     ∷ record { ask = 5; yes = eqb (length (a .buffer)) (a .count) && eqb (length (a .called)) 1 }
     ∷ record { ask = 6; yes = quorumHeld Read (orderOf t) p s }
     ∷ record { ask = 7; yes = current p s }
     ∷ [])
 questions t (write a) =
-    let p = answers t (a .r) in
-    let s = workSet Write t (a .c) (a .r) in
+    let p = answers t (a .file) (a .r) in
+    let s = workSet Write t (a .file) (a .c) (a .r) in
     byCoordinator t (a .c) (a .r) (
-    record { ask = 4; yes = inFile t (a .offset) (length (a .patch)) }
+    record { ask = 16; yes = inGroup t (a .file) }
+    ∷ record { ask = 4; yes = inFile t (a .offset) (length (a .patch)) }
     ∷ record { ask = 5; yes = eqb (length (a .called)) 1 }
     ∷ record { ask = 6; yes = quorumHeld Write (orderOf t) p s }
     ∷ record { ask = 7; yes = current p s }
@@ -190,15 +209,17 @@ questions t (send a) =
     record { ask = 1; yes = wellFormed t }
     ∷ record { ask = 2; yes = isUsed t (a .f) && isUsed t (a .t) && onlyRows (usedOf t) (a .r) && not (eqb (a .f) (a .t)) }
     ∷ record { ask = 3; yes = has (a .r) (a .f) && has (a .r) (a .t) }
-    ∷ record { ask = 9; yes = not (staleOf t (a .f)) }
-    ∷ record { ask = 10; yes = staleOf t (a .t) && leb (desiredOf t (a .t)) (versionOf t (a .f)) }
+    ∷ record { ask = 16; yes = inGroup t (a .file) }
+    ∷ record { ask = 9; yes = not (staleOf t (a .file) (a .f)) }
+    ∷ record { ask = 10; yes = staleOf t (a .file) (a .t) && leb (desiredOf t (a .file) (a .t)) (versionOf t (a .file) (a .f)) }
     ∷ []
+-- epochs and lists, which every file shares, are read off file 1's poll; "A check is current only if S is current for every file."
 questions t (check a) =
-    let p = answers t (a .r) in
+    let p = answers t 1 (a .r) in
     let same = eqb (a .r) (inForce p (has (a .r)) .members) in
     byCoordinator t (a .c) (a .r) (
     record { ask = 6; yes = quorumHeld Write (orderOf t) p (has (a .r)) }
-    ∷ record { ask = 7; yes = same || current p (has (a .r)) }
+    ∷ record { ask = 7; yes = same || every (filesOf t) (λ q. current (answers t q (a .r)) (has (a .r))) }
     ∷ record { ask = 8; yes = same || ltb (highestEpoch p (has (a .r))) limit }
     ∷ [])
 -- "question 1 judges a table by its own form .. after question 1, moving to form 1 gives 15 when ..; then a buffer of another length, or a pair of
@@ -211,8 +232,8 @@ questions t (carry a) =
 
 -- ---- "the size of the set called": it goes into a lent byte, "by refused calls too"
 -- "the coordinator's own choice, or all used rows if it went on to R"
-unfoldable pub calledBy : Kind → List ℕ → ℕ → ℕ → ℕ
-calledBy kind t c r = let p = answers t r in
+unfoldable pub calledBy : Kind → List ℕ → ℕ → ℕ → ℕ → ℕ
+calledBy kind t q c r = let p = answers t q r in
     cond (stays kind (orderOf t) p c (nameOf t c) (has r)) (count 64 (listChoice kind (orderOf t) (p .list c) (nameOf t c))) (usedOf t)
 
 -- "In C it is a list of one byte; one of another length is left alone"
@@ -227,8 +248,8 @@ fromSix qs n = cond (eqb (firstNo (before 6 qs)) 0) n 0
 unfoldable pub calledAfter : List ℕ → Call → List ℕ
 calledAfter t (founding a) = []
 calledAfter t (join a) = []
-calledAfter t (read a) = noted (a .called) (fromSix (questions t (read a)) (calledBy Read t (a .c) (a .r)))
-calledAfter t (write a) = noted (a .called) (fromSix (questions t (write a)) (calledBy Write t (a .c) (a .r)))
+calledAfter t (read a) = noted (a .called) (fromSix (questions t (read a)) (calledBy Read t (a .file) (a .c) (a .r)))
+calledAfter t (write a) = noted (a .called) (fromSix (questions t (write a)) (calledBy Write t (a .file) (a .c) (a .r)))
 calledAfter t (send a) = []
 calledAfter t (check a) = []
 calledAfter t (carry a) = []
@@ -243,29 +264,34 @@ abbrev pub buffered : List ℕ → Outcome → Outcome
 buffered bytes o = record { refusal = o .refusal; value = o .value; table = o .table; buffer = bytes; called = o .called }
 
 unfoldable pub done : List ℕ → Call → Outcome
-done t (founding a) = leaves t (founding a) 0 (length (namesIn (a .names))) (founded (a .choice) (a .capacity) (a .fileLength) (namesIn (a .names)))
+done t (founding a) = leaves t (founding a) 0 (length (namesIn (a .names))) (founded (a .choice) (a .capacity) (a .files) (a .fileLength) (namesIn (a .names)))
 -- "its value is the new index"
 done t (join a) = leaves t (join a) 0 (suc (usedOf t)) (joined t (a .name))
 -- "copies the range from the good row of lowest index. Value: its version."
 done t (read a) =
-    let p = answers t (a .r) in
-    let s = workSet Read t (a .c) (a .r) in
-    buffered (part (a .offset) (a .count) (contentsOf t (lowest 64 (good p s)))) (leaves t (read a) 0 (goodVersion p s) t)
+    let p = answers t (a .file) (a .r) in
+    let s = workSet Read t (a .file) (a .c) (a .r) in
+    buffered (part (a .offset) (a .count) (contentsOf t (a .file) (lowest 64 (good p s)))) (leaves t (read a) 0 (goodVersion p s) t)
 -- "Value: the new version."
 done t (write a) =
-    let p = answers t (a .r) in
-    let s = workSet Write t (a .c) (a .r) in
+    let p = answers t (a .file) (a .r) in
+    let s = workSet Write t (a .file) (a .c) (a .r) in
     let v = goodVersion p s + 1 in
-    leaves t (write a) 0 v (withRows t s (wroteRow (good p s) v (a .offset) (a .patch)) (usedOf t))
+    leaves t (write a) 0 v (withRows t s (λ i. inCopy (fileLengthOf t) (a .file) (wroteCopy (good p s) v (a .offset) (a .patch) i)) (usedOf t))
 -- "Value: that version."
-done t (send a) = leaves t (send a) 0 (versionOf t (a .f)) (withRow t (a .t) (refreshedRow (rowBytes t (a .f))))
+done t (send a) =
+    leaves t (send a) 0 (versionOf t (a .file) (a .f))
+    (withRow t (a .t) (inCopy (fileLengthOf t) (a .file) (refreshedCopy (copyBytes t (a .file) (a .f)))))
 -- "if R equals V, nothing changes. .. Value: the epoch number in force."
 done t (check a) =
-    let p = answers t (a .r) in
+    let p = answers t 1 (a .r) in
     let e = highestEpoch p (has (a .r)) in
     let same = eqb (a .r) (inForce p (has (a .r)) .members) in
+    let goods = λ q. good (answers t q (a .r)) (has (a .r)) in
+    let versions = λ q. goodVersion (answers t q (a .r)) (has (a .r)) in
     leaves t (check a) 0 (cond same e (e + 1))
-    (cond same t (withRows t (has (a .r)) (checkedRow (good p (has (a .r))) (goodVersion p (has (a .r))) (e + 1) (laidNow (isTall (inForce p (has (a .r)))) (a .r))) (usedOf t)))
+    (cond same t
+    (withRows t (has (a .r)) (checkedRow (filesOf t) (fileLengthOf t) goods versions (e + 1) (laidNow (isTall (inForce p (has (a .r)))) (a .r))) (usedOf t)))
 -- "the value is the rows used"
 done t (carry a) = buffered (carried (a .form) t) (leaves t (carry a) 0 (usedOf t) t)
 

@@ -10,7 +10,7 @@ use Rattle.sets.specs.Sets.{has, losing}
 use Rattle.quorums.specs.declared.Kind.{Kind}
 use Rattle.quorums.specs.declared.Kind.the-variants.{Read, Write}
 use Rattle.fields.specs.declared.Laid.{Laid}
-use Rattle.fields.specs.Layout.{get, version, isEmpty, usedOf, nameOf, linkOf, rowsEnd, rowBytes}
+use Rattle.fields.specs.Layout.{get, version, isEmpty, usedOf, nameOf, linkOf, rowsEnd, rowBytes, copyBytes}
 use Rattle.window.specs.Windows.{patches, windowOf}
 use Rattle.table.specs.Chain.{orderOf}
 use Rattle.table.specs.WellFormed.{wellFormed}
@@ -21,16 +21,16 @@ use Rattle.joining.specs.Claims.{OneMore}
 use Rattle.asking.specs.Asking.{Question, firstNo, before}
 use Rattle.protocol.specs.Lists.{seats, listQuorum, listChoice}
 use Rattle.protocol.specs.Polls.{Poll, highestEpoch, inForce, quorumHeld, workedOn}
-use Rattle.protocol.specs.Rows.{refreshedRow}
+use Rattle.protocol.specs.Rows.{refreshedCopy}
 use Rattle.protocol.specs.Calls.{Founding, Reading, Writing, Sending, Checking, Joining, Call, founding, join, read, write, send, check, Carrying, carry, Outcome, resultOf, questions, calledBy, lent, outcome}
 
 -- "In this order, each to the calls it names (2 and 3 to all but founding)", joining and a move: the numbers of the questions put to a call
 unfoldable pub numbersPut : Call → List ℕ
 numbersPut (founding a) = 11 ∷ 12 ∷ []
 numbersPut (join a) = 1 ∷ 13 ∷ 14 ∷ []
-numbersPut (read a) = 1 ∷ 2 ∷ 3 ∷ 4 ∷ 5 ∷ 6 ∷ 7 ∷ []
-numbersPut (write a) = 1 ∷ 2 ∷ 3 ∷ 4 ∷ 5 ∷ 6 ∷ 7 ∷ 8 ∷ []
-numbersPut (send a) = 1 ∷ 2 ∷ 3 ∷ 9 ∷ 10 ∷ []
+numbersPut (read a) = 1 ∷ 2 ∷ 3 ∷ 16 ∷ 4 ∷ 5 ∷ 6 ∷ 7 ∷ []
+numbersPut (write a) = 1 ∷ 2 ∷ 3 ∷ 16 ∷ 4 ∷ 5 ∷ 6 ∷ 7 ∷ 8 ∷ []
+numbersPut (send a) = 1 ∷ 2 ∷ 3 ∷ 16 ∷ 9 ∷ 10 ∷ []
 numbersPut (check a) = 1 ∷ 2 ∷ 3 ∷ 6 ∷ 7 ∷ 8 ∷ []
 numbersPut (carry a) = 1 ∷ 15 ∷ 12 ∷ []
 
@@ -60,24 +60,25 @@ unfoldable pub BufferStays : Type 0
 BufferStays = (t : List ℕ) (a : Reading) → (outcome t (read a) .refusal ≡ 0 → ⊥) → outcome t (read a) .buffer ≡ a .buffer
 
 -- ---- "the size of the set called"
--- a read or a write by c, with the answering set R and the bytes lent for the size of the set called
-pub data Counting : Call → Kind → ℕ → ℕ → List ℕ → Type 0 where
-  ofRead : {a : Reading} → Counting (read a) Read (a .c) (a .r) (a .called)
-  ofWrite : {a : Writing} → Counting (write a) Write (a .c) (a .r) (a .called)
+-- a read or a write of file q by c, with the answering set R and the bytes lent for the size of the set called
+pub data Counting : Call → Kind → ℕ → ℕ → ℕ → List ℕ → Type 0 where
+  ofRead : {a : Reading} → Counting (read a) Read (a .file) (a .c) (a .r) (a .called)
+  ofWrite : {a : Writing} → Counting (write a) Write (a .file) (a .c) (a .r) (a .called)
 
--- "It goes into a lent byte of its own, by refused calls too, as 0 before question 6": 0 by 1 to 5; by 6 and 7, having gone on to R, all used rows; by 8 what was called
-pub record NotedRefused (t : List ℕ) (kind : Kind) (c r : ℕ) (o : Outcome) : Type 0 where
+-- "It goes into a lent byte of its own, by refused calls too, as 0 before question 6": 0 by 1 to 5 and by 16; by 6 and 7, having gone on to R, all used rows; by 8 what was called
+pub record NotedRefused (t : List ℕ) (kind : Kind) (q c r : ℕ) (o : Outcome) : Type 0 where
   pub early : Within 5 (o .refusal) → o .called ≡ 0 ∷ []
+  pub no-file : o .refusal ≡ 16 → o .called ≡ 0 ∷ []
   pub six : o .refusal ≡ 6 → o .called ≡ usedOf t ∷ []
   pub seven : o .refusal ≡ 7 → o .called ≡ usedOf t ∷ []
-  pub eight : o .refusal ≡ 8 → o .called ≡ calledBy kind t c r ∷ []
+  pub eight : o .refusal ≡ 8 → o .called ≡ calledBy kind t q c r ∷ []
 
 unfoldable pub RefusedNote : Type 0
-RefusedNote = (t : List ℕ) (k : Call) (kind : Kind) (c r : ℕ) (bytes : List ℕ) → Counting k kind c r bytes → length bytes ≡ 1 → NotedRefused t kind c r (outcome t k)
+RefusedNote = (t : List ℕ) (k : Call) (kind : Kind) (q c r : ℕ) (bytes : List ℕ) → Counting k kind q c r bytes → length bytes ≡ 1 → NotedRefused t kind q c r (outcome t k)
 
 -- "In C it is a list of one byte; one of another length is left alone and refused by 5, a write's too": by 5 where nothing is refused before
 unfoldable pub OtherLengthsStay : Type 0
-OtherLengthsStay = (t : List ℕ) (k : Call) (kind : Kind) (c r : ℕ) (bytes : List ℕ) → Counting k kind c r bytes → (length bytes ≡ 1 → ⊥)
+OtherLengthsStay = (t : List ℕ) (k : Call) (kind : Kind) (q c r : ℕ) (bytes : List ℕ) → Counting k kind q c r bytes → (length bytes ≡ 1 → ⊥)
     → (outcome t k .called ≡ bytes) × (firstNo (before 5 (questions t k)) ≡ 0 → outcome t k .refusal ≡ 5)
 
 -- "with each single read and write": every other call is lent no byte for it, and leaves none
@@ -192,10 +193,44 @@ unfoldable pub FoundsOnAnything : Type 0
 FoundsOnAnything = (t u : List ℕ) (a : Founding) → length t ≡ length u → outcome t (founding a) .refusal ≡ 0 → outcome t (founding a) ≡ outcome u (founding a)
 
 -- ---- sends
--- "lays only the missing patches where the sender's window reaches back": then the sender's contents have no part in the row that the target comes to have
+-- "lays only the missing patches where the sender's window reaches back": then the sender's contents have no part in the copy that the target comes to have
 unfoldable pub SendsByWindow : Type 0
-SendsByWindow = (source other row : List ℕ) → get version source ≡ get version other → windowOf source ≡ windowOf other
-    → leb (get version source - get version row) (length (patches (windowOf source))) ≡ true → refreshedRow source row ≡ refreshedRow other row
+SendsByWindow = (source other copy : List ℕ) → get version source ≡ get version other → windowOf source ≡ windowOf other
+    → leb (get version source - get version copy) (length (patches (windowOf source))) ≡ true → refreshedCopy source copy ≡ refreshedCopy other copy
+
+-- ---- several files
+-- k names file q
+pub data OfFile : Call → ℕ → Type 0 where
+  readsFile : {a : Reading} → OfFile (read a) (a .file)
+  writesFile : {a : Writing} → OfFile (write a) (a .file)
+  sendsFile : {a : Sending} → OfFile (send a) (a .file)
+
+-- "A write leaves other files' parts byte for byte", and so does a send: no head changes, and no copy of another file
+pub record OtherFiles (q : ℕ) (t u : List ℕ) : Type 0 where
+  pub heads : (i : ℕ) → Within (usedOf t) i → take 32 (rowBytes u i) ≡ take 32 (rowBytes t i)
+  pub copies : (i p : ℕ) → Within (usedOf t) i → (p ≡ q → ⊥) → copyBytes u p i ≡ copyBytes t p i
+
+unfoldable pub OtherFilesStay : Type 0
+OtherFilesStay = (t : List ℕ) (k : Call) (q : ℕ) → OfFile k q → OtherFiles q t (outcome t k .table)
+
+-- "two well-formed groups that differ only within other files"
+pub record EqualInFile (q : ℕ) (t u : List ℕ) : Type 0 where
+  pub formed : wellFormed t ≡ true
+  pub formed-too : wellFormed u ≡ true
+  pub header : take 16 t ≡ take 16 u
+  pub heads : (i : ℕ) → Within (usedOf t) i → take 32 (rowBytes t i) ≡ take 32 (rowBytes u i)
+  pub copies : (i : ℕ) → Within (usedOf t) i → copyBytes t q i ≡ copyBytes u q i
+
+-- "a read, write or send answers the same", and leaves the same copies of its file
+pub record SameInFile (q : ℕ) (t : List ℕ) (o p : Outcome) : Type 0 where
+  pub refusal : o .refusal ≡ p .refusal
+  pub value : o .value ≡ p .value
+  pub buffer : o .buffer ≡ p .buffer
+  pub called : o .called ≡ p .called
+  pub copies : (i : ℕ) → Within (usedOf t) i → copyBytes (o .table) q i ≡ copyBytes (p .table) q i
+
+unfoldable pub OtherFilesHaveNoPart : Type 0
+OtherFilesHaveNoPart = (t u : List ℕ) (k : Call) (q : ℕ) → OfFile k q → EqualInFile q t u → SameInFile q t (outcome t k) (outcome u k)
 
 -- ---- moves
 -- a done move leaves the table as it is, and in the second buffer the table carried over, right by the form asked for

@@ -18,12 +18,12 @@ pub record Poll : Type 0 where
   pub epoch : ℕ → ℕ
   pub list : ℕ → Laid
 
--- what the rows of s say; every other row reads as 0, its list as none
-unfoldable pub polled : List ℕ → (ℕ → Bool) → Poll
-polled t s = record {
-  stale = λ i. s i && staleOf t i;
-  version = λ i. cond (s i) (versionOf t i) 0;
-  desired = λ i. cond (s i) (desiredOf t i) 0;
+-- what the rows of s say of file q; every other row reads as 0, its list as none
+unfoldable pub polled : List ℕ → ℕ → (ℕ → Bool) → Poll
+polled t q s = record {
+  stale = λ i. s i && staleOf t q i;
+  version = λ i. cond (s i) (versionOf t q i) 0;
+  desired = λ i. cond (s i) (desiredOf t q i) 0;
   epoch = λ i. cond (s i) (epochOf t i) 0;
   list = λ i. cond (s i) (listOf t i) noList;
 }

@@ -6,7 +6,7 @@ use Prim.Native.Nat.{ℕ}
 use Rattle.sets.specs.Upto.{Within}
 use Rattle.sets.specs.Sets.{has}
 use Rattle.bytes.specs.Bytes.{bytesOf, zeros}
-use Rattle.fields.specs.Layout.{get, name, link, bodyLength, fileLengthOf, usedOf, nameOf, linkOf, rowBytes, withRows}
+use Rattle.fields.specs.Layout.{get, name, link, bodyLength, fileLengthOf, filesOf, usedOf, nameOf, linkOf, rowBytes, withRows}
 use Rattle.table.specs.WellFormed.{wellFormed}
 use Rattle.protocol.specs.Calls.{Call, outcome}
 use Rattle.protocol.specs.Claims.{Answering, EqualIn, SameFor}
@@ -17,7 +17,7 @@ blankRow body row = bytesOf 2 (get name row) ++ (bytesOf 1 (get link row) ++ (ze
 
 -- the table in which each used row outside R is such a row
 unfoldable pub blanked : ℕ → List ℕ → List ℕ
-blanked r t = withRows t (λ i. not (has r i)) (λ i. blankRow (bodyLength (fileLengthOf t))) (usedOf t)
+blanked r t = withRows t (λ i. not (has r i)) (λ i. blankRow (bodyLength (filesOf t) (fileLengthOf t))) (usedOf t)
 
 -- of a well-formed table it is well formed, with the same header, names, links and rows of R
 unfoldable pub BlankedEqual : Type 0
@@ -26,7 +26,7 @@ BlankedEqual = (t : List ℕ) (r : ℕ) → wellFormed t ≡ true → EqualIn r 
 -- and nothing of any other used row but its name and link
 unfoldable pub OthersBlank : Type 0
 OthersBlank = (t : List ℕ) (r i : ℕ) → wellFormed t ≡ true → Within (usedOf t) i → has r i ≡ false
-    → rowBytes (blanked r t) i ≡ bytesOf 2 (nameOf t i) ++ (bytesOf 1 (linkOf t i) ++ (zeros 29 ++ zeros (bodyLength (fileLengthOf t))))
+    → rowBytes (blanked r t) i ≡ bytesOf 2 (nameOf t i) ++ (bytesOf 1 (linkOf t i) ++ (zeros 29 ++ zeros (bodyLength (filesOf t) (fileLengthOf t))))
 
 -- so it is put together from header, names, links and the rows of R: two tables that are equal in these give the same bytes
 unfoldable pub BlankedAlike : Type 0

@@ -35,4 +35,4 @@ relayedAfter t (k ∷ ks) = relayedAfter (relayed t k .table) ks
 
 -- "sees exactly the answers of the one table": in a founded history, after any list of calls, the next call leaves the same result, buffer, byte and rows
 unfoldable pub RelaySees : Type 0
-RelaySees = (t : List ℕ) (b : Book) → Reached t b → (ks : List Call) (k : Call) → relayed (relayedAfter t ks) k ≡ outcome (tableAfter t ks) k
+RelaySees = (t : List ℕ) (b : ℕ → Book) → Reached t b → (ks : List Call) (k : Call) → relayed (relayedAfter t ks) k ≡ outcome (tableAfter t ks) k

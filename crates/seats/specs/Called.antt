@@ -19,16 +19,16 @@ unfoldable pub ownGrid : List ℕ → ℕ → Grid
 ownGrid t c = gridBy (listOf t c .mark) (count 64 (has (listOf t c .members)))
 
 -- the call "stayed with P"
-unfoldable pub stayed : Kind → List ℕ → ℕ → ℕ → Bool
-stayed kind t c r = stays kind (orderOf t) (answers t r) c (nameOf t c) (has r)
+unfoldable pub stayed : Kind → List ℕ → ℕ → ℕ → ℕ → Bool
+stayed kind t q c r = stays kind (orderOf t) (answers t q r) c (nameOf t c) (has r)
 
 -- "A done write that stayed with P called at most m + n − 1, a done read n"; "or all used rows if it went on to R"
 pub record CalledBy (t : List ℕ) : Type 0 where
-  pub read-few : (a : Reading) → outcome t (read a) .refusal ≡ 0 → stayed Read t (a .c) (a .r) ≡ true → outcome t (read a) .called ≡ ownGrid t (a .c) .cols ∷ []
-  pub write-few : (a : Writing) → outcome t (write a) .refusal ≡ 0 → stayed Write t (a .c) (a .r) ≡ true
+  pub read-few : (a : Reading) → outcome t (read a) .refusal ≡ 0 → stayed Read t (a .file) (a .c) (a .r) ≡ true → outcome t (read a) .called ≡ ownGrid t (a .c) .cols ∷ []
+  pub write-few : (a : Writing) → outcome t (write a) .refusal ≡ 0 → stayed Write t (a .file) (a .c) (a .r) ≡ true
       → (n : ℕ) × (outcome t (write a) .called ≡ n ∷ []) × (n ≤ ownGrid t (a .c) .rows + ownGrid t (a .c) .cols - 1)
-  pub read-all : (a : Reading) → outcome t (read a) .refusal ≡ 0 → stayed Read t (a .c) (a .r) ≡ false → outcome t (read a) .called ≡ usedOf t ∷ []
-  pub write-all : (a : Writing) → outcome t (write a) .refusal ≡ 0 → stayed Write t (a .c) (a .r) ≡ false → outcome t (write a) .called ≡ usedOf t ∷ []
+  pub read-all : (a : Reading) → outcome t (read a) .refusal ≡ 0 → stayed Read t (a .file) (a .c) (a .r) ≡ false → outcome t (read a) .called ≡ usedOf t ∷ []
+  pub write-all : (a : Writing) → outcome t (write a) .refusal ≡ 0 → stayed Write t (a .file) (a .c) (a .r) ≡ false → outcome t (write a) .called ≡ usedOf t ∷ []
 
 unfoldable pub CalledFew : Type 0
 CalledFew = (t : List ℕ) → CalledBy t

@@ -7,7 +7,7 @@ use lib.ListN.{length, drop}
 use Rattle.sets.specs.Upto.{every, lowest, among}
 use Rattle.bytes.specs.Bytes.{bytesOf, part, put, zeros, allZero}
 use Rattle.blocks.specs.Blocks.{block, withBlock}
-use Rattle.fields.specs.Layout.{Field, get, store, oldest, records, storeRecords, contents}
+use Rattle.fields.specs.Layout.{Field, get, store, oldest, oldestIn, records, storeRecords}
 use Rattle.linking.specs.Linking.{chain, lastOf}
 
 -- "16 records of 36 bytes"
@@ -98,19 +98,23 @@ added p w = cond (leb (length (p .bytes)) 32)
     })
     emptied
 
--- ---- the window of a row
+-- ---- the window of a copy
 unfoldable pub windowOf : List ℕ → Window
-windowOf row = record { oldest = get oldest row; records = records row }
+windowOf copy = record { oldest = get oldest copy; records = records copy }
 
 unfoldable pub storeWindow : Window → List ℕ → List ℕ
-storeWindow w row = storeRecords (w .records) (store oldest (w .oldest) row)
+storeWindow w copy = storeRecords (w .records) (store oldest (w .oldest) copy)
 
--- what a row keeps of its file: the contents, and the window on their latest patches
+-- in a table of this form
+unfoldable pub windowIn : ℕ → List ℕ → Window
+windowIn f copy = record { oldest = get (oldestIn f) copy; records = records copy }
+
+-- what a copy keeps of its file: the contents, and the window on their latest patches
 pub record Kept : Type 0 where
   pub contents : List ℕ
   pub window : Window
 
--- "A write adds its patch to every good row's window": what the row keeps after a patch
+-- "A write adds its patch to every good row's window": what the copy keeps after a patch
 unfoldable pub patched : Patch → Kept → Kept
 patched p k = record { contents = put (p .offset) (p .bytes) (k .contents); window = added p (k .window) }
 
