@@ -1,10 +1,10 @@
-// A row of a table: the offsets of its fields.
+// A row of a table, its head and its copies: the offsets of their fields.
 ghost use mathlib.Core.Path.{_≡_};
 ghost use mathlib.Core.Bool.{true};
 ghost use Prim.Native.Nat.{_+_, _≤_};
 ghost use lib.Dec.{eqb};
 ghost use lib.ListN.{length};
-ghost use Rattle.fields.specs.Layout.{get, store, name, link, mark, version, desired, epoch, members, gridMark, oldest, list, storeList, isEmpty, isTall, contents, storeContents};
+ghost use Rattle.fields.specs.Layout.{get, store, name, link, mark, version, desired, epoch, members, gridMark, oldest, markIn, oldestIn, list, storeList, isEmpty, isTall, contents, storeContents};
 ghost use Rattle.bytes.specs.Bytes.{part};
 
 // A list of rows as it was laid: bit i − 1 of `members` for row i; the mark of its grid.
@@ -45,20 +45,28 @@ impl Laid {
     }
 }
 
-// A row's head; the contents stand behind it.
+// A row's head; the copies stand behind it.
 pub const HEAD: usize = 32;
 
-// The records of its window, the last bytes of the row.
+// What stands before the contents of a copy.
+pub const LEAD: usize = 12;
+
+// The records of its window, the last bytes of a copy.
 pub const RECORDS: usize = 576;
 
 // the first form whose rows have them
 pub const WITH_RECORDS: u8 = 3;
 
+// the first form whose rows have a copy for each file
+pub const WITH_FILES: u8 = 4;
+
 const NAME_AT: usize = 0;
 
 const LINK_AT: usize = 2;
 
-const MARK_AT: usize = 3;
+const MARK_AT: usize = 0;
+
+const OLDEST_AT: usize = 1;
 
 const VERSION_AT: usize = 4;
 
@@ -68,10 +76,12 @@ const EPOCH_AT: usize = 12;
 
 const MEMBERS_AT: usize = 16;
 
-// behind it and the byte behind it the head is 0
 pub const GRID_MARK_AT: usize = 24;
 
-const OLDEST_AT: usize = 25;
+// before files came
+const FORMER_MARK_AT: usize = 3;
+
+const FORMER_OLDEST_AT: usize = 25;
 
 pub fn name(row: &[u8]) -> u16
     requires { ⌜ 32 ≤ length (now row) ⌝ }
@@ -87,32 +97,32 @@ pub fn link(row: &[u8]) -> u8
     bytes::u8_at(row, LINK_AT)
 }
 
-pub fn mark(row: &[u8]) -> u8
-    requires { ⌜ 32 ≤ length (now row) ⌝ }
-    ensures { λ r. ⌜ r ≡ get mark (now (row .entry)) ⌝ }
+pub fn mark(copy: &[u8]) -> u8
+    requires { ⌜ 12 ≤ length (now copy) ⌝ }
+    ensures { λ r. ⌜ r ≡ get mark (now (copy .entry)) ⌝ }
 {
-    bytes::u8_at(row, MARK_AT)
+    bytes::u8_at(copy, MARK_AT)
 }
 
-pub fn is_stale(row: &[u8]) -> bool
-    requires { ⌜ 32 ≤ length (now row) ⌝ }
-    ensures { λ r. ⌜ r ≡ eqb (get mark (now (row .entry))) 1 ⌝ }
+pub fn is_stale(copy: &[u8]) -> bool
+    requires { ⌜ 12 ≤ length (now copy) ⌝ }
+    ensures { λ r. ⌜ r ≡ eqb (get mark (now (copy .entry))) 1 ⌝ }
 {
-    mark(row) == 1
+    mark(copy) == 1
 }
 
-pub fn version(row: &[u8]) -> u32
-    requires { ⌜ 32 ≤ length (now row) ⌝ }
-    ensures { λ r. ⌜ r ≡ get version (now (row .entry)) ⌝ }
+pub fn version(copy: &[u8]) -> u32
+    requires { ⌜ 12 ≤ length (now copy) ⌝ }
+    ensures { λ r. ⌜ r ≡ get version (now (copy .entry)) ⌝ }
 {
-    bytes::u32_at(row, VERSION_AT)
+    bytes::u32_at(copy, VERSION_AT)
 }
 
-pub fn desired(row: &[u8]) -> u32
-    requires { ⌜ 32 ≤ length (now row) ⌝ }
-    ensures { λ r. ⌜ r ≡ get desired (now (row .entry)) ⌝ }
+pub fn desired(copy: &[u8]) -> u32
+    requires { ⌜ 12 ≤ length (now copy) ⌝ }
+    ensures { λ r. ⌜ r ≡ get desired (now (copy .entry)) ⌝ }
 {
-    bytes::u32_at(row, DESIRED_AT)
+    bytes::u32_at(copy, DESIRED_AT)
 }
 
 pub fn epoch(row: &[u8]) -> u32
@@ -137,12 +147,33 @@ pub fn grid_mark(row: &[u8]) -> u8
     bytes::u8_at(row, GRID_MARK_AT)
 }
 
-// The oldest record of the row's window.
-pub fn oldest(row: &[u8]) -> u8
-    requires { ⌜ 32 ≤ length (now row) ⌝ }
-    ensures { λ r. ⌜ r ≡ get oldest (now (row .entry)) ⌝ }
+// The oldest record of the copy's window.
+pub fn oldest(copy: &[u8]) -> u8
+    requires { ⌜ 12 ≤ length (now copy) ⌝ }
+    ensures { λ r. ⌜ r ≡ get oldest (now (copy .entry)) ⌝ }
 {
-    bytes::u8_at(row, OLDEST_AT)
+    bytes::u8_at(copy, OLDEST_AT)
+}
+
+// The mark and the oldest record where a table of this form has them: before files came a row was its own copy.
+pub fn mark_in(form: u8, copy: &[u8]) -> u8
+    requires { ⌜ 32 ≤ length (now copy) ⌝ }
+    ensures { λ r. ⌜ r ≡ get (markIn form) (now (copy .entry)) ⌝ }
+{
+    if form < WITH_FILES {
+        return bytes::u8_at(copy, FORMER_MARK_AT);
+    }
+    mark(copy)
+}
+
+pub fn oldest_in(form: u8, copy: &[u8]) -> u8
+    requires { ⌜ 32 ≤ length (now copy) ⌝ }
+    ensures { λ r. ⌜ r ≡ get (oldestIn form) (now (copy .entry)) ⌝ }
+{
+    if form < WITH_FILES {
+        return bytes::u8_at(copy, FORMER_OLDEST_AT);
+    }
+    oldest(copy)
 }
 
 // A row's list.
@@ -170,25 +201,25 @@ pub fn set_link(row: &mut [u8], v: u8)
     bytes::store_at(row, LINK_AT, 1, v as u64);
 }
 
-pub fn set_mark(row: &mut [u8], v: u8)
-    requires { ⌜ 32 ≤ length (now row) ⌝ }
-    ensures { λ r. ⌜ now (row .exit) ≡ store mark v (now (row .entry)) ⌝ }
+pub fn set_mark(copy: &mut [u8], v: u8)
+    requires { ⌜ 12 ≤ length (now copy) ⌝ }
+    ensures { λ r. ⌜ now (copy .exit) ≡ store mark v (now (copy .entry)) ⌝ }
 {
-    bytes::store_at(row, MARK_AT, 1, v as u64);
+    bytes::store_at(copy, MARK_AT, 1, v as u64);
 }
 
-pub fn set_version(row: &mut [u8], v: u32)
-    requires { ⌜ 32 ≤ length (now row) ⌝ }
-    ensures { λ r. ⌜ now (row .exit) ≡ store version v (now (row .entry)) ⌝ }
+pub fn set_version(copy: &mut [u8], v: u32)
+    requires { ⌜ 12 ≤ length (now copy) ⌝ }
+    ensures { λ r. ⌜ now (copy .exit) ≡ store version v (now (copy .entry)) ⌝ }
 {
-    bytes::store_at(row, VERSION_AT, 4, v as u64);
+    bytes::store_at(copy, VERSION_AT, 4, v as u64);
 }
 
-pub fn set_desired(row: &mut [u8], v: u32)
-    requires { ⌜ 32 ≤ length (now row) ⌝ }
-    ensures { λ r. ⌜ now (row .exit) ≡ store desired v (now (row .entry)) ⌝ }
+pub fn set_desired(copy: &mut [u8], v: u32)
+    requires { ⌜ 12 ≤ length (now copy) ⌝ }
+    ensures { λ r. ⌜ now (copy .exit) ≡ store desired v (now (copy .entry)) ⌝ }
 {
-    bytes::store_at(row, DESIRED_AT, 4, v as u64);
+    bytes::store_at(copy, DESIRED_AT, 4, v as u64);
 }
 
 pub fn set_epoch(row: &mut [u8], v: u32)
@@ -212,11 +243,11 @@ fn set_grid_mark(row: &mut [u8], v: u8)
     bytes::store_at(row, GRID_MARK_AT, 1, v as u64);
 }
 
-pub fn set_oldest(row: &mut [u8], v: u8)
-    requires { ⌜ 32 ≤ length (now row) ⌝ }
-    ensures { λ r. ⌜ now (row .exit) ≡ store oldest v (now (row .entry)) ⌝ }
+pub fn set_oldest(copy: &mut [u8], v: u8)
+    requires { ⌜ 12 ≤ length (now copy) ⌝ }
+    ensures { λ r. ⌜ now (copy .exit) ≡ store oldest v (now (copy .entry)) ⌝ }
 {
-    bytes::store_at(row, OLDEST_AT, 1, v as u64);
+    bytes::store_at(copy, OLDEST_AT, 1, v as u64);
 }
 
 pub fn set_list(row: &mut [u8], l: Laid)
@@ -228,21 +259,21 @@ pub fn set_list(row: &mut [u8], l: Laid)
 }
 
 // Bytes laid over the contents, from an offset on.
-pub fn patch(row: &mut [u8], offset: usize, bytes: &[u8])
-    requires { ⌜ 32 + offset + length (now bytes) ≤ length (now row) ⌝ }
-    ensures { λ r. ⌜ now (row .exit) ≡ storeContents offset (now (bytes .entry)) (now (row .entry)) ⌝ }
+pub fn patch(copy: &mut [u8], offset: usize, bytes: &[u8])
+    requires { ⌜ 12 + offset + length (now bytes) ≤ length (now copy) ⌝ }
+    ensures { λ r. ⌜ now (copy .exit) ≡ storeContents offset (now (bytes .entry)) (now (copy .entry)) ⌝ }
 {
-    let at = HEAD + offset;
+    let at = LEAD + offset;
     let end = at + bytes.len();
-    copying::copy(&mut row[at..end], bytes);
+    copying::copy(&mut copy[at..end], bytes);
 }
 
 // Bytes of the contents copied out, from an offset on.
-pub fn copy_out(row: &[u8], offset: usize, to: &mut [u8])
-    requires { ⌜ 608 + offset + length (now to) ≤ length (now row) ⌝ }
-    ensures { λ r. ⌜ now (to .exit) ≡ part offset (length (now (to .entry))) (contents (now (row .entry))) ⌝ }
+pub fn copy_out(copy: &[u8], offset: usize, to: &mut [u8])
+    requires { ⌜ 588 + offset + length (now to) ≤ length (now copy) ⌝ }
+    ensures { λ r. ⌜ now (to .exit) ≡ part offset (length (now (to .entry))) (contents (now (copy .entry))) ⌝ }
 {
-    let from = HEAD + offset;
+    let from = LEAD + offset;
     let end = from + to.len();
-    copying::copy(to, &row[from..end]);
+    copying::copy(to, &copy[from..end]);
 }

@@ -34,8 +34,8 @@ returns : tie.Need-returns
 unfolding contents
 returns c =
     let a = c .before .before .before .before .before .before .before .args in
-    c .before .before .copy .ensures ∙ part-is (a .row .now) (32 + a .offset) (length (a .to .now)) (32 + a .offset) (length (a .to .now)) refl refl
-    ∙ sym (part-part 32 (length (a .row .now) - 608) (a .offset) (length (a .to .now)) (a .row .now) (omega (arith, c .before .before .before .before .before .before .before .pre)))
+    c .before .before .copy .ensures ∙ part-is (a .copy .now) (12 + a .offset) (length (a .to .now)) (12 + a .offset) (length (a .to .now)) refl refl
+    ∙ sym (part-part 12 (length (a .copy .now) - 588) (a .offset) (length (a .to .now)) (a .copy .now) (omega (arith, c .before .before .before .before .before .before .before .pre)))
 
 pub copy-out-spec : {M : Type 1} → statement M
 copy-out-spec =

@@ -32,7 +32,7 @@ returns : tie.Need-returns
 unfolding storeContents
 returns c =
     let a = c .before .before .before .before .before .before .args in
-    part-back (32 + a .offset) (length (a .bytes .now)) (a .row .now) _ (a .bytes .now) (c .before .before .copy .ensures) refl
+    part-back (12 + a .offset) (length (a .bytes .now)) (a .copy .now) _ (a .bytes .now) (c .before .before .copy .ensures) refl
 
 pub patch-spec : {M : Type 1} → statement M
 patch-spec =
