@@ -15,7 +15,7 @@ use Rattle.bytes.specs.Bytes.{number, bytesOf, part, put, zeros, allZero}
 use Rattle.fields.specs.declared.Laid.{Laid}
 use Rattle.blocks.specs.Blocks.{block}
 use Rattle.blocks.proofs.BlockLaws.{length-block}
-use Rattle.fields.specs.Layout.{Field, get, store, mark, oldest, spare, version, desired, members, gridMark, list, noList, rowBytes, listOf, reserved, contents, storeContents, records, storeRecords, formValue, copyLength, copyIn, copyOf, bodyIn, strideIn, bodyLength, stride, formOf, fileLengthOf, filesOf, fileCount, rowLength, copyBytes}
+use Rattle.fields.specs.Layout.{Field, get, store, mark, oldest, spare, version, desired, members, gridMark, list, noList, rowBytes, listOf, reserved, contents, storeContents, records, storeRecords, formValue, copyLength, copyIn, copyOf, bodyIn, strideIn, bodyLength, stride, formOf, fileLengthOf, filesOf, fileCount, rowLength}
 use Rattle.bytes.proofs.ByteLaws.{length-bytes, number-bytes, length-part, length-put, part-put, part-apart, drop-put-after, part-put-in, length-zeros, first-zeros, split-zeros}
 
 -- the bytes of f end by place n

@@ -2,12 +2,12 @@
 ghost use mathlib.Core.Path.{_≡_};
 ghost use Prim.Native.Nat.{_≤_};
 ghost use lib.ListN.{length};
-ghost use Rattle.fields.specs.Layout.{store, form, formValue, capacity, used, first, fileLength, formOf, capacityOf, usedOf, firstOf, fileLengthOf};
+ghost use Rattle.fields.specs.Layout.{store, form, formValue, capacity, used, first, fileLength, fileCount, formOf, capacityOf, usedOf, firstOf, fileLengthOf, filesOf};
 
 pub const HEADER: usize = 16;
 
 // the newest form
-pub const FORM: u8 = 3;
+pub const FORM: u8 = 4;
 
 const FORM_AT: usize = 0;
 
@@ -19,8 +19,8 @@ const FIRST_AT: usize = 3;
 
 const FILE_AT: usize = 4;
 
-// the rest of the header is 0
-pub const HEADER_REST: usize = 6;
+// the rest of the header is 0, before files came from here on
+pub const FILES_AT: usize = 6;
 
 pub fn form(t: &[u8]) -> u8
     requires { ⌜ 16 ≤ length (now t) ⌝ }
@@ -57,6 +57,17 @@ pub fn file_length(t: &[u8]) -> usize
     bytes::u16_at(t, FILE_AT) as usize
 }
 
+// Before files came a table was of one.
+pub fn files(t: &[u8]) -> usize
+    requires { ⌜ 16 ≤ length (now t) ⌝ }
+    ensures { λ r. ⌜ r ≡ filesOf (now (t .entry)) ⌝ }
+{
+    if form(t) < fields::WITH_FILES {
+        return 1;
+    }
+    bytes::u8_at(t, FILES_AT) as usize
+}
+
 pub fn set_used(t: &mut [u8], n: u8)
     requires { ⌜ 16 ≤ length (now t) ⌝ }
     ensures { λ r. ⌜ now (t .exit) ≡ store used n (now (t .entry)) ⌝ }
@@ -72,13 +83,14 @@ pub fn set_first(t: &mut [u8], i: u8)
 }
 
 // The header of a table whose chain starts at row 1.
-pub fn set_header(t: &mut [u8], rows: u8, n: u8, file: u16)
+pub fn set_header(t: &mut [u8], rows: u8, n: u8, file: u16, files: u8)
     requires { ⌜ 16 ≤ length (now t) ⌝ }
-    ensures { λ r. ⌜ now (t .exit) ≡ store fileLength file (store first 1 (store used n (store capacity rows (store form formValue (now (t .entry)))))) ⌝ }
+    ensures { λ r. ⌜ now (t .exit) ≡ store fileCount files (store fileLength file (store first 1 (store used n (store capacity rows (store form formValue (now (t .entry))))))) ⌝ }
 {
     bytes::store_at(t, FORM_AT, 1, FORM as u64);
     bytes::store_at(t, CAPACITY_AT, 1, rows as u64);
     set_used(t, n);
     set_first(t, 1);
     bytes::store_at(t, FILE_AT, 2, file as u64);
+    bytes::store_at(t, FILES_AT, 1, files as u64);
 }

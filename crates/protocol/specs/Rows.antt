@@ -4,7 +4,7 @@ use mathlib.Core.List.{List}
 use Prim.Native.Nat.{ℕ, _-_}
 use Rattle.fields.specs.declared.Laid.{Laid}
 use Rattle.fields.specs.Layout.{get, store, mark, version, desired, epoch, storeList, contents, storeContents, inCopies}
-use Rattle.window.specs.Windows.{Patch, windowOf, storeWindow, added, sent}
+use Rattle.window.specs.Windows.{windowOf, storeWindow, added, sent}
 
 -- "is marked and desires the new version"
 unfoldable pub markedCopy : ℕ → List ℕ → List ℕ

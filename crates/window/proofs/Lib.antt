@@ -5,4 +5,4 @@ pub mod RightLaws
 pub mod AddLaws
 pub mod ReachLaws
 pub mod SentLaws
-pub mod RowLaws
+pub mod CopyLaws

@@ -1,5 +1,5 @@
 use borrow.Author.Needs.{needs}
-use Rattle.fields.specs.Layout.{store, form, formValue, capacity, fileLength}
+use Rattle.fields.specs.Layout.{store, form, formValue, capacity, fileLength, fileCount}
 use Rattle.header.proofs.set_header.Statement.{statement}
 use Rattle.header.proofs.set_header.Tie as tie
 
@@ -21,17 +21,21 @@ set-first-requires c κs = search needs
 store-at-requires-3 : tie.Need-store-at-requires-3
 store-at-requires-3 c κs = search needs
 
+store-at-requires-4 : tie.Need-store-at-requires-4
+store-at-requires-4 c κs = search needs
+
 same-length : tie.Need-same-length
 same-length c = search needs
 
 returns : tie.Need-returns
-unfolding store form formValue capacity fileLength
+unfolding store form formValue capacity fileLength fileCount
 returns c =
-    let four = c .before .before .before .before .before .before in
+    let five = c .before .before .before .before .before .before in
+    let four = five .before .before .before .before in
     let three = four .before .before .before .before in
     let two = three .before .before .before .before in
     let one = two .before .before .before .before in
-    rw (c .before .before .store-at3 .ensures, four .set-first .ensures, three .set-used .ensures, two .store-at2 .ensures, one .store-at .ensures)
+    rw (c .before .before .store-at4 .ensures, five .store-at3 .ensures, four .set-first .ensures, three .set-used .ensures, two .store-at2 .ensures, one .store-at .ensures)
 
 pub set-header-spec : {M : Type 1} → statement M
 set-header-spec =
@@ -43,5 +47,6 @@ set-header-spec =
     set-used-requires
     set-first-requires
     store-at-requires-3
+    store-at-requires-4
     same-length
     returns)
