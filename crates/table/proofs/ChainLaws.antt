@@ -17,7 +17,7 @@ use Rattle.sets.specs.Sets.{has, gaining}
 use Rattle.bools.proofs.BoolLaws.{and-l, and-r}
 use Rattle.sets.proofs.UptoLaws.{every-at}
 use Rattle.sets.proofs.SetLaws.{empty-at, gain-where}
-use Rattle.fields.specs.Layout.{formOf, usedOf, firstOf, linkOf, nameOf, rowBytes}
+use Rattle.fields.specs.Layout.{usedOf, firstOf, linkOf, nameOf}
 use Rattle.bytes.specs.Bytes.{put}
 use Rattle.linking.specs.Linking.{chain}
 use Rattle.linking.proofs.PathLaws.{chain-zero, chain-suc}
@@ -245,7 +245,7 @@ module _ (t rows : List ℕ) where
   unfolding orderLeft
   left-unsized e = rw e
 
-  pub left-wrong : every (usedOf t) (λ i. rowRight (formOf t) (usedOf t) i (rowBytes t i)) ≡ false → rows ≡ orderLeft t rows
+  pub left-wrong : every (usedOf t) (rowRight t) ≡ false → rows ≡ orderLeft t rows
   unfolding orderLeft
   left-wrong e = rw (e, and-false (headerValues t && lengthRight t))
 

@@ -1,5 +1,5 @@
 -- A table some of whose rows are changed: the header, every other row and what stands behind the rows stay.
-use mathlib.Core.Path.{_≡_, refl, _∙_, ap, ap₂}
+use mathlib.Core.Path.{_≡_, refl, _∙_, ap}
 use mathlib.Core.Bool.{Bool, true, cond}
 use mathlib.Core.List.{List}
 use Prim.Native.Nat.{ℕ, zero, suc, _+_, _*_, _≤_, _<_}
@@ -9,7 +9,7 @@ use lib.Dec.{eqb}
 use lib.ListN.{length, take, drop}
 use Rattle.sets.specs.Upto.{Within}
 use Rattle.bytes.specs.Bytes.{number, part}
-use Rattle.fields.specs.Layout.{Field, get, form, fileLength, strideIn, formOf, fileLengthOf, rowLength, rowsEnd, rowBytes, withRow, withRows}
+use Rattle.fields.specs.Layout.{Field, get, form, fileLength, fileCount, formOf, fileLengthOf, filesOf, rowLength, rowsEnd, rowBytes, withRow, withRows}
 use Rattle.blocks.specs.Blocks.{block}
 use Rattle.blocks.proofs.BlockLaws.{length-block, Altered, blocks-changed, one-changed}
 
@@ -24,8 +24,8 @@ module _ {t u : List ℕ} (l : Like t u) where
   like-get f h = ap number (l .header (f .place) (f .width) h)
 
   pub like-length : rowLength u ≡ rowLength t
-  unfolding rowLength formOf form fileLengthOf fileLength
-  like-length = ap₂ strideIn (like-get form (omega arith)) (like-get fileLength (omega arith))
+  unfolding rowLength filesOf fileCount formOf form fileLengthOf fileLength
+  like-length = rw (like-get form (omega arith), like-get fileCount (omega arith), like-get fileLength (omega arith))
 
   pub like-end : (k : ℕ) → rowsEnd u k ≡ rowsEnd t k
   unfolding rowsEnd
