@@ -1,5 +1,5 @@
 -- What a joining alters, byte for byte.
-use mathlib.Core.Path.{_≡_, refl, _∙_, ap, ap₂}
+use mathlib.Core.Path.{_≡_, refl, _∙_, ap}
 use mathlib.Core.Bool.{true, cond}
 use mathlib.Core.Logic.{⊎-elim, inl, inr}
 use mathlib.Core.List.{List, _++_}
@@ -12,8 +12,8 @@ use Rattle.sets.proofs.RisingLaws.{among-e}
 use Rattle.bytes.specs.Bytes.{bytesOf, part, put, zeros}
 use Rattle.bytes.proofs.ByteLaws.{length-bytes, drop-put-after, first-zeros, split-zeros, zeros-are}
 use Rattle.blocks.specs.Blocks.{block, withBlock}
-use Rattle.fields.specs.Layout.{Field, store, form, used, first, fileLength, name, link, bodyLength, strideIn, formOf, capacityOf, usedOf, firstOf, fileLengthOf, rowLength, rowsEnd, rowBytes, nameOf, linkOf, withRow}
-use Rattle.fields.proofs.FieldLaws.{length-store, stored-bytes, get-other, part-store, contents-room, row-newest, stride-is}
+use Rattle.fields.specs.Layout.{Field, store, form, used, first, fileLength, fileCount, name, link, bodyLength, stride, formOf, capacityOf, usedOf, firstOf, filesOf, fileLengthOf, rowLength, rowsEnd, rowBytes, nameOf, linkOf, withRow}
+use Rattle.fields.proofs.FieldLaws.{length-store, stored-bytes, get-other, part-store, head-room, row-newest}
 use Rattle.table.specs.Chain.{orderOf}
 use Rattle.table.specs.WellFormed.{wellFormed, unusedZero}
 use Rattle.table.proofs.FormLaws.{formed}
@@ -31,8 +31,8 @@ module _ (f : Field) (v : ℕ) (t : List ℕ) (behind-form : 1 ≤ f .place) (lo
   fits = omega arith
 
   wide-same : rowLength (store f v t) ≡ rowLength t
-  unfolding rowLength formOf form fileLengthOf fileLength
-  wide-same = ap₂ strideIn (get-other f v t fits form (inl (omega arith))) (get-other f v t fits fileLength (inr (omega arith)))
+  unfolding rowLength formOf form filesOf fileCount fileLengthOf fileLength
+  wide-same = rw (get-other f v t fits form (inl (omega arith)), get-other f v t fits fileCount (inr (omega arith)), get-other f v t fits fileLength (inr (omega arith)))
 
   rows-same : (i : ℕ) → rowBytes (store f v t) i ≡ rowBytes t i
   unfolding rowBytes block
@@ -57,7 +57,7 @@ relinked t n zero v r h = record {
 }
 relinked t n (suc k) v r h =
     let l = row-long t n r (suc k) (omega arith) in
-    one-row t n k r h (store link v) (length-store link v (rowBytes t (suc k)) (omega (arith, contents-room t)) ∙ l)
+    one-row t n k r h (store link v) (length-store link v (rowBytes t (suc k)) (omega (arith, head-room t)) ∙ l)
 
 module _ (t : List ℕ) (e : wellFormed t ≡ true) (x : ℕ) (room : usedOf t < capacityOf t) where
   w : ℕ
@@ -84,16 +84,16 @@ module _ (t : List ℕ) (e : wellFormed t ≡ true) (x : ℕ) (room : usedOf t <
   roomy = rows-in (sized e) (suc (usedOf t)) room
 
   -- the first unused row is zero
-  zero-row : rowBytes t (suc (usedOf t)) ≡ zeros 32 ++ zeros (bodyLength (fileLengthOf t))
-  unfolding rowBytes block part rowsEnd unusedZero
+  zero-row : rowBytes t (suc (usedOf t)) ≡ zeros 32 ++ zeros (bodyLength (filesOf t) (fileLengthOf t))
+  unfolding rowBytes block part rowsEnd unusedZero stride
   zero-row =
       let z = zeros-are (drop (16 + usedOf t * rowLength t) t) (formed t e .zero) in
       let l : rowLength t ≤ length (drop (16 + usedOf t * rowLength t) t) = rw (length-drop (16 + usedOf t * rowLength t) t) (omega (arith, roomy)) in
-      ap (take (rowLength t)) z ∙ first-zeros (rowLength t) _ l ∙ ap zeros (row-newest t (formed t e .newest) ∙ stride-is (fileLengthOf t)) ∙ split-zeros 32 (bodyLength (fileLengthOf t))
+      ap (take (rowLength t)) z ∙ first-zeros (rowLength t) _ l ∙ ap zeros (row-newest t (formed t e .newest)) ∙ split-zeros 32 (bodyLength (filesOf t) (fileLengthOf t))
 
   -- and gets the name and the link
-  new-row : namedRow x (behind (firstOf t) (linkOf t) (rowBefore t x)) (zeros 32 ++ zeros (bodyLength (fileLengthOf t)))
-      ≡ bytesOf 2 x ++ (bytesOf 1 (behind (firstOf t) (linkOf t) (rowBefore t x)) ++ (zeros 29 ++ zeros (bodyLength (fileLengthOf t))))
+  new-row : namedRow x (behind (firstOf t) (linkOf t) (rowBefore t x)) (zeros 32 ++ zeros (bodyLength (filesOf t) (fileLengthOf t)))
+      ≡ bytesOf 2 x ++ (bytesOf 1 (behind (firstOf t) (linkOf t) (rowBefore t x)) ++ (zeros 29 ++ zeros (bodyLength (filesOf t) (fileLengthOf t))))
   unfolding namedRow store put bytesOf zeros name link
   new-row = refl
 
@@ -105,9 +105,9 @@ module _ (t : List ℕ) (e : wellFormed t ≡ true) (x : ℕ) (room : usedOf t <
   unfolding t1 namedRow name link
   named =
       let l : length (rowBytes t (suc (usedOf t))) ≡ rowLength t = row-long t (suc (usedOf t)) roomy (suc (usedOf t)) (omega arith) in
-      let n = length-store name x (rowBytes t (suc (usedOf t))) (omega (arith, contents-room t)) in
+      let n = length-store name x (rowBytes t (suc (usedOf t))) (omega (arith, head-room t)) in
       one-row t (suc (usedOf t)) (usedOf t) roomy (omega arith) (namedRow x (behind (firstOf t) (linkOf t) (rowBefore t x)))
-      (length-store link (behind (firstOf t) (linkOf t) (rowBefore t x)) (store name x (rowBytes t (suc (usedOf t)))) (omega (arith, contents-room t)) ∙ n ∙ l)
+      (length-store link (behind (firstOf t) (linkOf t) (rowBefore t x)) (store name x (rowBytes t (suc (usedOf t)))) (omega (arith, head-room t)) ∙ n ∙ l)
 
   roomy1 : Roomy t1 (suc (usedOf t))
   roomy1 = omega (arith, roomy, like-end (named .like) (suc (usedOf t)), named .like .long)

@@ -6,7 +6,7 @@ use mathlib.Core.List.{List, _++_}
 use Prim.Native.Nat.{ℕ, zero, suc, _+_, _*_, _≤_, _<_}
 use native.Mathlib.Nat.{lt-of-lt-of-le}
 use native.Mathlib.Omega.{arith}
-use lib.Dec.{eqb}
+use lib.Dec.{eqb, leb}
 use lib.Pow.{pow-mono, pow-pos}
 use lib.ListN.{length, drop}
 use lib.Seq.{drop-drop}
@@ -15,16 +15,15 @@ use Rattle.bools.proofs.BoolLaws.{and-l, and-r, clash}
 use Rattle.sets.specs.Upto.{Within}
 use Rattle.sets.proofs.UptoLaws.{last}
 use Rattle.bytes.specs.Bytes.{number, bytesOf, part, zeros, allZero}
-use Rattle.bytes.proofs.ByteLaws.{number-bytes, part-part, length-zeros, first-zeros, zeros-zero, zero-drop}
+use Rattle.bytes.proofs.ByteLaws.{number-bytes, part-part, zero-drop}
 use Rattle.grid.specs.Sizes.{markFits}
-use Rattle.window.specs.Windows.{windowOf, emptied}
+use Rattle.fields.specs.Layout.{Field, get, store, form, formValue, capacity, used, first, fileLength, fileCount, restIn, name, link, version, epoch, members, gridMark, list, noList, isEmpty, isTall, reserved, bodyLength, copyIn, copyBytes, formOf, capacityOf, usedOf, firstOf, filesOf, fileLengthOf, rowLength, rowsEnd, rowBytes, nameOf, linkOf, listOf}
+use Rattle.fields.proofs.FieldLaws.{Apart, get-store, get-other, drop-store, reserved-store, copy-behind, BlankCopy, zero-copies, blank-copy, list-is}
 use Rattle.window.proofs.AddLaws.{emptied-right}
-use Rattle.window.proofs.RowLaws.{window-blank, window-store}
-use Rattle.fields.specs.Layout.{Field, get, store, form, formValue, capacity, used, first, fileLength, name, link, mark, version, desired, epoch, members, gridMark, list, noList, isEmpty, isTall, reserved, contents, bodyLength, strideIn, formOf, capacityOf, usedOf, firstOf, fileLengthOf, rowLength, rowsEnd, rowBytes, nameOf, linkOf, listOf}
-use Rattle.fields.proofs.FieldLaws.{Apart, get-store, get-other, reserved-store, contents-store, body-room, records-room, stride-is, row-room, contents-part, list-is}
+use Rattle.window.proofs.CopyLaws.{window-blank}
 use Rattle.table.specs.WellFormed.{between, limit, wellFormed, headerValues, lengthRight, unusedZero}
-use Rattle.table.proofs.FormLaws.{is-between, RowFacts, OneList, OneShape, Formed, formed}
-use Rattle.table.proofs.WellFormedLaws.{sized, header, linked, length-is, length-row, row-long}
+use Rattle.table.proofs.FormLaws.{is-between, HeadFacts, CopyFacts, OneList, OneShape, Formed, formed}
+use Rattle.table.proofs.WellFormedLaws.{sized, header, linked, length-is, row-long}
 use Rattle.table.proofs.RisingLaws.{order-within}
 use Rattle.linking.specs.Linking.{behind}
 use Rattle.joining.specs.Joining.{rowBefore}
@@ -32,12 +31,20 @@ use Rattle.joining.specs.Claims.{OneMore}
 use Rattle.joining.proofs.FrameLaws.{before-used, behind-used}
 use Rattle.joining.proofs.OrderLaws.{Joined, joined-visits, joined-rise}
 
--- ---- the new row
--- its window is empty
-new-window : (x next body : ℕ) → 576 ≤ body → windowOf (bytesOf 2 x ++ (bytesOf 1 next ++ (zeros 29 ++ zeros body))) ≡ emptied
-unfolding zeros bytesOf allZero
-new-window x next body r = window-blank (bytesOf 2 x ++ (bytesOf 1 next ++ (zeros 29 ++ zeros body))) (simp length-zeros (omega arith)) (zeros-zero body)
+-- a copy that says nothing yet is right
+pub blank-facts : {file : ℕ} {copy : List ℕ} → BlankCopy file copy → CopyFacts file copy
+unfolding limit
+blank-facts {file} {copy} b = record {
+  flag = rw (b .mark) (omega arith);
+  spare = b .spare;
+  small-version = rw (b .version) (omega arith);
+  small-desired = rw (b .desired) (omega arith);
+  behind = λ e. absurd (clash (rw (b .mark) at e));
+  level = λ e. b .desired;
+  kept = rw (window-blank file copy b) (emptied-right file (get version copy));
+}
 
+-- ---- the new row
 module _ (x next body : ℕ) (h : Within 65_535 x) (l : next < 256) where
   abbrev new : List ℕ
   new = bytesOf 2 x ++ (bytesOf 1 next ++ (zeros 29 ++ zeros body))
@@ -54,52 +61,30 @@ module _ (x next body : ℕ) (h : Within 65_535 x) (l : next < 256) where
   unfolding isEmpty list get members part number zeros bytesOf
   new-list = refl
 
-  pub new-facts : 576 ≤ body → (n i : ℕ) → next ≤ n → RowFacts n i new
-  unfolding isEmpty list reserved get mark version desired epoch members gridMark markFits part number zeros bytesOf limit allZero
-  new-facts r n i b = record {
+  pub new-facts : (n i : ℕ) → next ≤ n → HeadFacts n i new
+  unfolding isEmpty list reserved get epoch members gridMark markFits part number zeros bytesOf limit allZero
+  new-facts n i b = record {
     named = rw new-name h;
     linked = rw new-link b;
-    flag = omega arith;
     spare = refl;
-    small-version = omega arith;
-    small-desired = omega arith;
     small-epoch = omega arith;
-    behind = λ e. absurd (clash e);
-    level = λ e. refl;
     only = omega (arith, pow-pos n);
     own = λ e. absurd (clash (sym e));
     grid = refl;
-    kept = rw (new-window x next body r) (emptied-right (length (contents new)) (get version new));
   }
 
-new-contents : (x next file : ℕ) → contents (bytesOf 2 x ++ (bytesOf 1 next ++ (zeros 29 ++ zeros (bodyLength file)))) ≡ zeros file
-unfolding part zeros bytesOf
-new-contents x next file =
-    contents-part (bytesOf 2 x ++ (bytesOf 1 next ++ (zeros 29 ++ zeros (bodyLength file)))) file (new-length ∙ sym (stride-is file)) ∙ first-zeros file (bodyLength file) (body-room file)
-  where
-    new-length : length (bytesOf 2 x ++ (bytesOf 1 next ++ (zeros 29 ++ zeros (bodyLength file)))) ≡ 32 + bodyLength file
-    new-length = simp length-zeros (omega arith)
-
 -- what the new row says but for name and link: nothing yet
-pub record Blank (file : ℕ) (row : List ℕ) : Type 0 where
-  pub mark : get mark row ≡ 0
-  pub version : get version row ≡ 0
-  pub desired : get desired row ≡ 0
+pub record Blank (files file : ℕ) (row : List ℕ) : Type 0 where
   pub epoch : get epoch row ≡ 0
   pub list : list row ≡ noList
-  pub contents : contents row ≡ zeros file
-  pub window : windowOf row ≡ emptied
+  pub copies : (q : ℕ) → Within files q → BlankCopy file (copyIn file q row)
 
-new-blank : (x next file : ℕ) → Blank file (bytesOf 2 x ++ (bytesOf 1 next ++ (zeros 29 ++ zeros (bodyLength file))))
-unfolding list noList get mark version desired epoch members gridMark part number zeros bytesOf
-new-blank x next file = record {
-  mark = refl;
-  version = refl;
-  desired = refl;
+new-blank : (x next files file : ℕ) → Blank files file (bytesOf 2 x ++ (bytesOf 1 next ++ (zeros 29 ++ zeros (bodyLength files file))))
+unfolding list noList get epoch members gridMark part number zeros bytesOf
+new-blank x next files file = record {
   epoch = refl;
   list = refl;
-  contents = new-contents x next file;
-  window = new-window x next (bodyLength file) (records-room file);
+  copies = λ q v. rw (zero-copies files file (bytesOf 2 x ++ (bytesOf 1 next ++ (zeros 29 ++ zeros (bodyLength files file)))) refl q v) (blank-copy file);
 }
 
 module _ (t u : List ℕ) (x : ℕ) (e : wellFormed t ≡ true) (room : usedOf t < capacityOf t) (o : OneMore t u x) where
@@ -115,16 +100,24 @@ module _ (t u : List ℕ) (x : ℕ) (e : wellFormed t ≡ true) (room : usedOf t
   unfolding get capacityOf capacity
   same-capacity = ap number (sym (part-part 0 2 1 1 u (omega arith)) ∙ ap (part 1 1) (o .low) ∙ part-part 0 2 1 1 t (omega arith))
 
+  high-kept : (a n : ℕ) → a + n ≤ 12 → part (4 + a) n u ≡ part (4 + a) n t
+  high-kept a n h = sym (part-part 4 12 a n u h) ∙ ap (part a n) (o .high) ∙ part-part 4 12 a n t h
+
   pub file-kept : fileLengthOf u ≡ fileLengthOf t
   unfolding get fileLengthOf fileLength
-  file-kept = ap number (sym (part-part 4 12 0 2 u (omega arith)) ∙ ap (part 0 2) (o .high) ∙ part-part 4 12 0 2 t (omega arith))
+  file-kept = ap number (high-kept 0 2 (omega arith))
 
-  same-zero : part 6 10 u ≡ part 6 10 t
-  same-zero = sym (part-part 4 12 2 10 u (omega arith)) ∙ ap (part 2 10) (o .high) ∙ part-part 4 12 2 10 t (omega arith)
+  pub files-kept : filesOf u ≡ filesOf t
+  unfolding get filesOf fileCount
+  files-kept = ap₂ (λ (f : ℕ) (b : List ℕ). cond (leb 4 f) (number b) 1) same-form (high-kept 2 1 (omega arith))
+
+  same-rest : restIn (formOf t) u ≡ restIn (formOf t) t
+  unfolding restIn
+  same-rest = ap₂ (cond (leb 4 (formOf t))) (high-kept 3 9 (omega arith)) (high-kept 2 10 (omega arith))
 
   same-end : (k : ℕ) → rowsEnd u k ≡ rowsEnd t k
   unfolding rowsEnd rowLength
-  same-end k = ap₂ (λ (g f : ℕ). 16 + k * strideIn g f) same-form file-kept
+  same-end k = rw (same-form, files-kept, file-kept)
 
   pub more-used : usedOf u ≡ suc (usedOf t)
   unfolding usedOf get used
@@ -148,19 +141,21 @@ module _ (t u : List ℕ) (x : ℕ) (e : wellFormed t ≡ true) (room : usedOf t
     same-capacity,
     more-used,
     file-kept,
-    same-zero,
+    files-kept,
+    same-rest,
     is-between 1 (suc (usedOf t)) (capacityOf t) (omega arith) room,
     is-between 1 (firstOf u) (suc (usedOf t)) (front-used .0) (front-used .1),
   )
       (go (formed t e .header))
     where
-      go : headerValues t ≡ true → (between 1 (formOf t) formValue && between 1 (capacityOf t) 64 && true && true && between 1 (fileLengthOf t) 4_096 && allZero (part 6 10 t)) ≡ true
+      go : headerValues t ≡ true → (between 1 (formOf t) formValue && between 1 (capacityOf t) 64 && true && true && between 1 (fileLengthOf t) 4_096 && between 1 (filesOf t) 8 && allZero (restIn (formOf t) t)) ≡ true
       go h =
           let f : between 1 (formOf t) formValue ≡ true = search (and-l, and-r) in
           let c : between 1 (capacityOf t) 64 ≡ true = search (and-l, and-r) in
           let l : between 1 (fileLengthOf t) 4_096 ≡ true = search (and-l, and-r) in
-          let z : allZero (part 6 10 t) ≡ true = search (and-l, and-r) in
-          rw (f, c, l) z
+          let m : between 1 (filesOf t) 8 ≡ true = search (and-l, and-r) in
+          let z : allZero (restIn (formOf t) t) ≡ true = search (and-l, and-r) in
+          rw (f, c, l, m) z
 
   -- ---- the rows that were there
   long-row : (i : ℕ) → Within (usedOf t) i → 32 ≤ length (rowBytes t i)
@@ -197,52 +192,41 @@ module _ (t u : List ℕ) (x : ℕ) (e : wellFormed t ≡ true) (room : usedOf t
     where
       go : (b : Bool) → cond b (suc (usedOf t)) (linkOf t i) ≤ suc (usedOf t)
       go true = omega arith
-      go false = omega (arith, formed t e .rows i v .linked)
+      go false = omega (arith, formed t e .heads i v .linked)
 
-  -- and the contents
-  pub contents-kept : (i : ℕ) → Within (usedOf t) i → contents (rowBytes u i) ≡ contents (rowBytes t i)
-  unfolding link
-  contents-kept i v = ap contents (o .rows i v) ∙ go (eqb (rowBefore t x) i)
+  -- and every copy
+  pub copies-kept : (i q : ℕ) → Within (usedOf t) i → copyBytes u q i ≡ copyBytes t q i
+  unfolding link copyBytes
+  copies-kept i q v = ap (λ (f : ℕ). copyIn f q (rowBytes u i)) file-kept ∙ ap (copyIn (fileLengthOf t) q) (o .rows i v) ∙ go (eqb (rowBefore t x) i)
     where
-      go : (b : Bool) → contents (cond b (store link (suc (usedOf t)) (rowBytes t i)) (rowBytes t i)) ≡ contents (rowBytes t i)
-      go true = contents-store link (suc (usedOf t)) (rowBytes t i) (omega (arith, long-row i v)) (omega arith)
+      go : (b : Bool) → copyIn (fileLengthOf t) q (cond b (store link (suc (usedOf t)) (rowBytes t i)) (rowBytes t i)) ≡ copyIn (fileLengthOf t) q (rowBytes t i)
+      go true = copy-behind (fileLengthOf t) q (rowBytes t i) _ 3 (omega arith) (drop-store link (suc (usedOf t)) (rowBytes t i) (omega (arith, long-row i v)) 3 (omega arith))
       go false = refl
 
-  pub new-says : Blank (fileLengthOf t) (rowBytes u (suc (usedOf t)))
-  new-says = rw (o .new) (new-blank x (behind (firstOf t) (linkOf t) (rowBefore t x)) (fileLengthOf t))
+  pub new-says : Blank (filesOf t) (fileLengthOf t) (rowBytes u (suc (usedOf t)))
+  new-says = rw (o .new) (new-blank x (behind (firstOf t) (linkOf t) (rowBefore t x)) (filesOf t) (fileLengthOf t))
 
-  -- and the window
-  pub window-kept : (i : ℕ) → Within (usedOf t) i → windowOf (rowBytes u i) ≡ windowOf (rowBytes t i)
-  unfolding link
-  window-kept i v = ap windowOf (o .rows i v) ∙ go (eqb (rowBefore t x) i)
-    where
-      go : (b : Bool) → windowOf (cond b (store link (suc (usedOf t)) (rowBytes t i)) (rowBytes t i)) ≡ windowOf (rowBytes t i)
-      go true = window-store link (suc (usedOf t)) (rowBytes t i) (omega arith) (omega (arith, length-row (sized e) i v, row-room t (formed t e .newest)))
-      go false = refl
+  pub new-copies : (q : ℕ) → Within (filesOf t) q → BlankCopy (fileLengthOf t) (copyBytes u q (suc (usedOf t)))
+  unfolding copyBytes
+  new-copies q v = rw file-kept (new-says .copies q v)
 
   -- a row's list stays
   pub list-kept : (i : ℕ) → Within (usedOf t) i → list (rowBytes u i) ≡ list (rowBytes t i)
   unfolding list members gridMark
   list-kept i v = list-is (rowBytes u i) (list (rowBytes t i)) (kept members (inr (omega arith)) i v) (kept gridMark (inr (omega arith)) i v)
 
-  old-facts : (i : ℕ) → Within (usedOf t) i → RowFacts (suc (usedOf t)) i (rowBytes u i)
-  unfolding linkOf name mark version desired epoch members gridMark
+  old-facts : (i : ℕ) → Within (usedOf t) i → HeadFacts (suc (usedOf t)) i (rowBytes u i)
+  unfolding linkOf name epoch members gridMark
   old-facts i v =
-      let f = formed t e .rows i v in
+      let f = formed t e .heads i v in
       record {
         named = rw (kept name (inl (omega arith)) i v) (f .named);
         linked = link-small i v;
-        flag = rw (kept mark (inr (omega arith)) i v) (f .flag);
         spare = rw (spare-kept i v) (f .spare);
-        small-version = rw (kept version (inr (omega arith)) i v) (f .small-version);
-        small-desired = rw (kept desired (inr (omega arith)) i v) (f .small-desired);
         small-epoch = rw (kept epoch (inr (omega arith)) i v) (f .small-epoch);
-        behind = rw (kept mark (inr (omega arith)) i v, kept version (inr (omega arith)) i v, kept desired (inr (omega arith)) i v) (f .behind);
-        level = rw (kept mark (inr (omega arith)) i v, kept desired (inr (omega arith)) i v) (f .level);
         only = rw (kept members (inr (omega arith)) i v) (lt-of-lt-of-le (f .only) (pow-mono (omega arith)));
         own = rw (list-kept i v, kept members (inr (omega arith)) i v) (f .own);
         grid = rw (kept gridMark (inr (omega arith)) i v, kept members (inr (omega arith)) i v) (f .grid);
-        kept = rw (contents-kept i v, kept version (inr (omega arith)) i v, window-kept i v) (f .kept);
       }
 
   module _ (h : Within 65_535 x) (free : (i : ℕ) → Within (usedOf t) i → nameOf t i ≡ x → ⊥) where
@@ -253,7 +237,7 @@ module _ (t u : List ℕ) (x : ℕ) (e : wellFormed t ≡ true) (room : usedOf t
     small = behind-used t e x room
 
     abbrev body : ℕ
-    body = bodyLength (fileLengthOf t)
+    body = bodyLength (filesOf t) (fileLengthOf t)
 
     -- the chain
     pub more-chain : Joined t u x
@@ -270,11 +254,17 @@ module _ (t u : List ℕ) (x : ℕ) (e : wellFormed t ≡ true) (room : usedOf t
       };
     }
 
-    row-facts : (i : ℕ) → Within (suc (usedOf t)) i → RowFacts (suc (usedOf t)) i (rowBytes u i)
+    row-facts : (i : ℕ) → Within (suc (usedOf t)) i → HeadFacts (suc (usedOf t)) i (rowBytes u i)
     row-facts i v = ⊎-elim
-        (λ q. subst (λ (k : ℕ). RowFacts (suc (usedOf t)) k (rowBytes u k)) (sym q)
-        (rw (o .new) (new-facts x next body h (omega (arith, few, small)) (records-room (fileLengthOf t)) (suc (usedOf t)) (suc (usedOf t)) (omega (arith, small)))))
+        (λ q. subst (λ (k : ℕ). HeadFacts (suc (usedOf t)) k (rowBytes u k)) (sym q)
+        (rw (o .new) (new-facts x next body h (omega (arith, few, small)) (suc (usedOf t)) (suc (usedOf t)) (omega (arith, small)))))
         (old-facts i)
+        (last (usedOf t) i v)
+
+    copy-facts : (i q : ℕ) → Within (suc (usedOf t)) i → Within (filesOf t) q → CopyFacts (fileLengthOf t) (copyBytes u q i)
+    copy-facts i q v m = ⊎-elim
+        (λ z. subst (λ (k : ℕ). CopyFacts (fileLengthOf t) (copyBytes u q k)) (sym z) (blank-facts (new-copies q m)))
+        (λ w. rw (copies-kept i q w) (formed t e .copies i q w m))
         (last (usedOf t) i v)
 
     -- the new row has no list
@@ -315,7 +305,8 @@ module _ (t u : List ℕ) (x : ℕ) (e : wellFormed t ≡ true) (room : usedOf t
       newest = same-form ∙ formed t e .newest;
       header = more-header;
       long = eq-eqb _ _ (o .bytes ∙ length-is (sized e) ∙ sym (same-end (capacityOf t)) ∙ ap (rowsEnd u) (sym same-capacity));
-      rows = rw more-used row-facts;
+      heads = rw more-used row-facts;
+      copies = rw (more-used, files-kept, file-kept) copy-facts;
       visits = joined-visits t e u x more-chain;
       rise = joined-rise t e u x more-chain (h .0) free;
       zero = rest-zero;
