@@ -15,18 +15,15 @@ use Rattle.bytes.specs.Bytes.{number, bytesOf, part, zeros, allZero}
 use Rattle.bytes.proofs.ByteLaws.{length-part, length-zeros, zeros-are, zeros-zero, first-zeros, zero-drop}
 use Rattle.bytes.proofs.CodeLaws.{zero-number}
 use Rattle.blocks.specs.Blocks.{block}
-use Rattle.fields.specs.Layout.{get, form, formValue, gridMark, oldest, reservedIn, strideIn, formOf, capacityOf, usedOf, fileLengthOf, rowLength, rowsEnd, rowBytes, withRows}
-use Rattle.fields.proofs.FieldLaws.{row-late}
-use Rattle.window.specs.Windows.{emptied, storeWindow}
-use Rattle.window.proofs.AddLaws.{emptied-whole}
-use Rattle.window.proofs.RowLaws.{length-window}
+use Rattle.fields.specs.Layout.{get, form, formValue, gridMark, formerOldest, reservedIn, strideIn, formOf, capacityOf, usedOf, fileLengthOf, rowLength, rowsEnd, rowBytes, withRows}
+use Rattle.fields.proofs.FieldLaws.{head-room, stride-third}
 use Rattle.table.specs.Contracts.{Sized}
 use Rattle.table.specs.WellFormed.{ownForm, unusedZero}
-use Rattle.table.proofs.TableLaws.{Changed, many-rows, like-end}
-use Rattle.table.proofs.FormLaws.{reserved-split, row-reserved}
+use Rattle.table.proofs.TableLaws.{row-long, Changed, many-rows, like-end}
+use Rattle.table.proofs.FormLaws.{reserved-split, row-head, row-reserved}
 use Rattle.table.proofs.WellFormedLaws.{own-sized, own-linked, row-right, header, long, length-is, rows-in}
-use Rattle.carrying.specs.Claims.{UpDown, DownUp}
-use Rattle.carrying.proofs.RowLaws.{early-row, late-row}
+use Rattle.carrying.specs.Claims.{UpDown, emptiedRow, DownUp}
+use Rattle.carrying.proofs.RowLaws.{early-row, emptied-long, late-row}
 use Rattle.carrying.proofs.CarryLaws.{room, wide, twice, carried-to}
 
 -- ---- an unused row is zero
@@ -45,10 +42,10 @@ unused-row {t} s z (suc k) w h =
 
 -- ---- before form 3 no row has an oldest record
 none-early : (f : ℕ) (row : List ℕ) → Within 2 f → 32 ≤ length row → allZero (reservedIn f row) ≡ true → part 25 1 row ≡ zeros 1
-unfolding get oldest
+unfolding get formerOldest
 none-early f row w h z =
     let all = sym (reserved-split f row (omega arith)) ∙ z in
-    let old : (leb 3 f || eqb (get oldest row) 0) ≡ true = and-l _ _ (and-r (leb 2 f || eqb (get gridMark row) 0) _ all) in
+    let old : (leb 3 f || eqb (get formerOldest row) 0) ≡ true = and-l _ _ (and-r (leb 2 f || eqb (get gridMark row) 0) _ all) in
     let none : eqb (number (part 25 1 row)) 0 ≡ true = rw (lt-leb 3 f (omega arith)) at old in
     zeros-are (part 25 1 row) (sym (zero-number (part 25 1 row)) ∙ none) ∙ ap zeros (length-part 25 1 row (omega arith))
 
@@ -76,8 +73,8 @@ module _ (t : List ℕ) (e : ownForm t ≡ true) where
   row-none w i v = go (decLe i (usedOf t))
     where
       go : Dec (i ≤ usedOf t) → part 25 1 (rowBytes t i) ≡ zeros 1
-      go (yes h) = none-early (formOf t) (rowBytes t i) w (omega (arith, wide s i v)) (row-reserved (formOf t) (usedOf t) i (rowBytes t i) (row-right (own-linked e) i (omega arith)))
-      go (no h) = zero-byte (rowBytes t i) (rowLength t) (unused-row s own-zero i v (omega arith)) (omega (arith, room s i v, wide s i v))
+      go (yes h) = none-early (formOf t) (rowBytes t i) w (omega (arith, wide s (omega arith) i v)) (row-reserved (formOf t) (usedOf t) i (rowBytes t i) (row-head t i (row-right (own-linked e) i (omega arith))))
+      go (no h) = zero-byte (rowBytes t i) (rowLength t) (unused-row s own-zero i v (omega arith)) (head-room t)
 
 -- a byte that is small is the bytes of its number
 byte-back : (xs : List ℕ) (v : ℕ) → length xs ≡ 1 → number xs ≡ v → v < 256 → xs ≡ bytesOf 1 v
@@ -94,31 +91,26 @@ form-byte : {t : List ℕ} → Sized t → part 0 1 t ≡ bytesOf 1 (formOf t)
 unfolding formOf get form
 form-byte {t} s = byte-back (part 0 1 t) (number (part 0 1 t)) (length-part 0 1 t (omega (arith, long s))) refl (small-form t s)
 
-row-size : (t : List ℕ) (s : Sized t) (i : ℕ) → Within (capacityOf t) i → length (rowBytes t i) ≡ strideIn (formOf t) (fileLengthOf t)
-unfolding rowLength
-row-size t s i v = room s i v
-
 row-size-late : (t : List ℕ) (s : Sized t) → formOf t ≡ 3 → (i : ℕ) → Within (capacityOf t) i → length (rowBytes t i) ≡ 608 + fileLengthOf t
-row-size-late t s f i v = room s i v ∙ row-late t (omega arith)
+row-size-late t s f i v = room s (omega arith) i v ∙ ap (λ (g : ℕ). strideIn g 1 (fileLengthOf t)) f ∙ stride-third 1 (fileLengthOf t)
 
-emptied-rows : (t : List ℕ) (s : Sized t) → formOf t ≡ 3 → Changed t (withRows t (λ i. true) (λ i. storeWindow emptied) (capacityOf t)) (capacityOf t) (λ i. true) (λ i. storeWindow emptied)
-unfolding emptied
-emptied-rows t s f = many-rows t (λ i. true) (λ i. storeWindow emptied) (capacityOf t) (rows-in s (capacityOf t) (omega arith))
-    (λ i v m. length-window emptied (rowBytes t i) emptied-whole (omega arith) (omega (arith, row-size-late t s f i v)) ∙ room s i v)
+emptied-rows : (t : List ℕ) (s : Sized t) → formOf t ≡ 3 → Changed t (withRows t (λ i. true) (λ i. emptiedRow) (capacityOf t)) (capacityOf t) (λ i. true) (λ i. emptiedRow)
+emptied-rows t s f = many-rows t (λ i. true) (λ i. emptiedRow) (capacityOf t) (rows-in s (capacityOf t) (omega arith))
+    (λ i v m. emptied-long (rowBytes t i) (omega (arith, row-size-late t s f i v)) ∙ row-long t (capacityOf t) (rows-in s (capacityOf t) (omega arith)) i v)
 
 pub up-down : UpDown
 unfolding UpDown
 up-down t e w =
     let s = own-sized e in
-    twice s 3 (omega arith) (formOf t)
+    twice s (omega arith) 3 (omega arith) (formOf t)
     ∙ carried-to s t (formOf t) (form-byte s) refl (length-is s)
-    (λ i v. early-row (formOf t) (fileLengthOf t) (rowBytes t i) (omega arith) (row-size t s i v) (row-none t e w i v))
+    (λ i v. early-row (formOf t) (fileLengthOf t) (rowBytes t i) (omega arith) (room s (omega arith) i v) (row-none t e w i v))
 
 pub down-up : DownUp
 unfolding DownUp
 down-up t to e f w =
     let s = own-sized e in
     let c = emptied-rows t s f in
-    twice s to (omega arith) 3
+    twice s (omega arith) to (omega arith) 3
     ∙ carried-to s _ 3 (c .like .header 0 1 (omega arith) ∙ form-byte s ∙ ap (bytesOf 1) f) (c .like .header 1 15 (omega arith)) (c .like .long ∙ length-is s ∙ sym (like-end (c .like) (capacityOf t)))
     (λ i v. late-row (fileLengthOf t) (rowBytes t i) (row-size-late t s f i v) ∙ sym (c .rows i v))

@@ -10,8 +10,8 @@ use Rattle.bytes.specs.Bytes.{number, bytesOf, part}
 use Rattle.bytes.proofs.ByteLaws.{length-bytes, number-bytes, length-part, part-front, part-back, part-part}
 use Rattle.blocks.specs.Blocks.{block, inTurn}
 use Rattle.blocks.proofs.BlockLaws.{in-turn-ext, length-in-turn, block-in-turn, rebuilt-to}
-use Rattle.fields.specs.Layout.{get, form, capacity, used, first, fileLength, strideIn, formOf, capacityOf, usedOf, firstOf, fileLengthOf, rowLength, rowsEnd, rowBytes}
-use Rattle.fields.proofs.FieldLaws.{contents-room}
+use Rattle.fields.specs.Layout.{get, form, capacity, used, first, fileLength, strideIn, formOf, capacityOf, usedOf, firstOf, fileLengthOf, filesOf, rowLength, rowsEnd, rowBytes}
+use Rattle.fields.proofs.FieldLaws.{body-in, files-former}
 use Rattle.table.specs.Contracts.{Sized}
 use Rattle.table.proofs.TableLaws.{row-long}
 use Rattle.table.proofs.WellFormedLaws.{long, rows-in}
@@ -22,16 +22,19 @@ use Rattle.carrying.proofs.RowLaws.{carried-row-long, row-twice}
 abbrev pub rowTo : ℕ → List ℕ → ℕ → List ℕ
 rowTo to t i = carriedRow to (fileLengthOf t) (rowBytes t i)
 
-module _ {t : List ℕ} (s : Sized t) where
-  pub room : (i : ℕ) → Within (capacityOf t) i → length (rowBytes t i) ≡ rowLength t
-  room i w = row-long t (capacityOf t) (rows-in s (capacityOf t) (omega arith)) i w
+-- a table from before form 4
+module _ {t : List ℕ} (s : Sized t) (former : formOf t < 4) where
+  pub room : (i : ℕ) → Within (capacityOf t) i → length (rowBytes t i) ≡ strideIn (formOf t) 1 (fileLengthOf t)
+  unfolding rowLength
+  room i w = row-long t (capacityOf t) (rows-in s (capacityOf t) (omega arith)) i w ∙ rw (files-former t former)
 
   pub wide : (i : ℕ) → Within (capacityOf t) i → 32 + fileLengthOf t ≤ length (rowBytes t i)
-  wide i w = omega (arith, room i w, contents-room t)
+  unfolding strideIn
+  wide i w = omega (arith, room i w, body-in (formOf t) 1 (fileLengthOf t) former)
 
-module _ {t : List ℕ} (s : Sized t) (to : ℕ) where
-  pub row-to-long : (i : ℕ) → Within (capacityOf t) i → length (rowTo to t i) ≡ strideIn to (fileLengthOf t)
-  row-to-long i w = carried-row-long to (fileLengthOf t) (rowBytes t i) (wide s i w)
+module _ {t : List ℕ} (s : Sized t) (former : formOf t < 4) (to : ℕ) (low : to < 4) where
+  pub row-to-long : (i : ℕ) → Within (capacityOf t) i → length (rowTo to t i) ≡ strideIn to 1 (fileLengthOf t)
+  row-to-long i w = carried-row-long to (fileLengthOf t) (rowBytes t i) low (wide s former i w)
 
   -- ---- the header
   unfoldable pub head : List ℕ
@@ -49,7 +52,7 @@ module _ {t : List ℕ} (s : Sized t) (to : ℕ) where
   unfolding carriedLength
   carried-size =
       ap length carried-is ∙ length-append head (inTurn (capacityOf t) (rowTo to t))
-      ∙ omega (arith, head-long, length-in-turn (strideIn to (fileLengthOf t)) (capacityOf t) (rowTo to t) row-to-long)
+      ∙ omega (arith, head-long, length-in-turn (strideIn to 1 (fileLengthOf t)) (capacityOf t) (rowTo to t) row-to-long)
 
   -- but for byte 0 it stays
   pub carried-header : (k n : ℕ) → k + n ≤ 15 → part (1 + k) n (carried to t) ≡ part (1 + k) n t
@@ -58,9 +61,12 @@ module _ {t : List ℕ} (s : Sized t) (to : ℕ) where
       ap (part (1 + k) n) carried-is ∙ part-front (1 + k) n head (inTurn (capacityOf t) (rowTo to t)) (omega (arith, head-long))
       ∙ part-back 1 k n (bytesOf 1 to) (part 1 15 t) (length-bytes 1 to) ∙ part-part 1 15 k n t h
 
-  pub carried-form : to < 256 → formOf (carried to t) ≡ to
+  pub carried-form : formOf (carried to t) ≡ to
   unfolding formOf get form carried part
-  carried-form h = ap number (take-at (bytesOf 1 to) (part 1 15 t ++ inTurn (capacityOf t) (rowTo to t)) 1 (length-bytes 1 to)) ∙ number-bytes 1 to h
+  carried-form = ap number (take-at (bytesOf 1 to) (part 1 15 t ++ inTurn (capacityOf t) (rowTo to t)) 1 (length-bytes 1 to)) ∙ number-bytes 1 to (omega arith)
+
+  pub carried-files : filesOf (carried to t) ≡ 1
+  carried-files = files-former (carried to t) (rw carried-form low)
 
   pub carried-capacity : capacityOf (carried to t) ≡ capacityOf t
   unfolding capacityOf get capacity
@@ -79,25 +85,24 @@ module _ {t : List ℕ} (s : Sized t) (to : ℕ) where
   carried-file = ap number (carried-header 3 2 (omega arith))
 
   -- ---- the rows
-  module _ (small : to < 256) where
-    pub carried-length : rowLength (carried to t) ≡ strideIn to (fileLengthOf t)
-    unfolding rowLength
-    carried-length = ap₂ strideIn (carried-form small) carried-file
+  pub carried-length : rowLength (carried to t) ≡ strideIn to 1 (fileLengthOf t)
+  unfolding rowLength
+  carried-length = rw (carried-form, carried-files, carried-file)
 
-    pub carried-row : (i : ℕ) → Within (capacityOf t) i → rowBytes (carried to t) i ≡ rowTo to t i
-    unfolding rowBytes
-    carried-row i w =
-        ap₂ (λ (n : ℕ) (xs : List ℕ). block 16 n i xs) carried-length carried-is
-        ∙ block-in-turn 16 (strideIn to (fileLengthOf t)) head head-long (rowTo to t) (capacityOf t) row-to-long i w
+  pub carried-row : (i : ℕ) → Within (capacityOf t) i → rowBytes (carried to t) i ≡ rowTo to t i
+  unfolding rowBytes
+  carried-row i w =
+      ap₂ (λ (n : ℕ) (xs : List ℕ). block 16 n i xs) carried-length carried-is
+      ∙ block-in-turn 16 (strideIn to 1 (fileLengthOf t)) head head-long (rowTo to t) (capacityOf t) row-to-long i w
 
-    -- carried twice is carried once
-    pub twice : (f : ℕ) → carried f (carried to t) ≡ carried f t
-    unfolding carried
-    twice f =
-        ap₂ (λ (x y : List ℕ). bytesOf 1 f ++ (x ++ y)) (carried-header 0 15 (omega arith))
-        (ap (λ (n : ℕ). inTurn n (rowTo f (carried to t))) carried-capacity
-        ∙ in-turn-ext (capacityOf t) (rowTo f (carried to t)) (rowTo f t)
-        (λ i w. ap₂ (carriedRow f) carried-file (carried-row i w) ∙ row-twice to (fileLengthOf t) (rowBytes t i) (wide s i w) f))
+  -- carried twice is carried once
+  pub twice : (f : ℕ) → carried f (carried to t) ≡ carried f t
+  unfolding carried
+  twice f =
+      ap₂ (λ (x y : List ℕ). bytesOf 1 f ++ (x ++ y)) (carried-header 0 15 (omega arith))
+      (ap (λ (n : ℕ). inTurn n (rowTo f (carried to t))) carried-capacity
+      ∙ in-turn-ext (capacityOf t) (rowTo f (carried to t)) (rowTo f t)
+      (λ i w. ap₂ (carriedRow f) carried-file (carried-row i w) ∙ row-twice to (fileLengthOf t) (rowBytes t i) low (wide s former i w) f))
 
 -- a table with the header of t but for the form, and row i carried from row i of t, for every i, is t carried over
 pub carried-to : {t : List ℕ} (s : Sized t) (u : List ℕ) (f : ℕ) → part 0 1 u ≡ bytesOf 1 f → part 1 15 u ≡ part 1 15 t → length u ≡ rowsEnd u (capacityOf t)
