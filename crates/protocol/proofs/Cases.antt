@@ -22,23 +22,23 @@ allHold (On t k refusal value buffer ∷ cs) = stepsHold t (Made k refusal value
 allHold (Notes t k refusal called ∷ cs) = stepsHold t (Called k refusal called ∷ []) && allHold cs
 
 -- ---- tables
--- two used rows of three; row 1 alone is the list in force
+-- two used rows of three, one file; row 1 alone is the list in force
 unfoldable pub pair : List ℕ
 pair =
-    (3 ∷ 3 ∷ 2 ∷ 1 ∷ 1 ∷ 0 ∷ zeros 10)
-    ++ ((10 ∷ 0 ∷ 2 ∷ 0 ∷ 0 ∷ 0 ∷ 0 ∷ 0 ∷ 0 ∷ 0 ∷ 0 ∷ 0 ∷ 1 ∷ 0 ∷ 0 ∷ 0 ∷ 1 ∷ 0 ∷ 0 ∷ 0 ∷ 0 ∷ 0 ∷ 0 ∷ 0 ∷ 0 ∷ 0 ∷ 0 ∷ 0 ∷ 0 ∷ 0 ∷ 0 ∷ 0 ∷ 5 ∷ zeros 576)
-    ++ ((20 ∷ 0 ∷ 0 ∷ 0 ∷ 0 ∷ 0 ∷ 0 ∷ 0 ∷ 0 ∷ 0 ∷ 0 ∷ 0 ∷ 0 ∷ 0 ∷ 0 ∷ 0 ∷ 3 ∷ 0 ∷ 0 ∷ 0 ∷ 0 ∷ 0 ∷ 0 ∷ 0 ∷ 0 ∷ 0 ∷ 0 ∷ 0 ∷ 0 ∷ 0 ∷ 0 ∷ 0 ∷ 5 ∷ zeros 576)
-    ++ zeros (stride 1)))
+    (4 ∷ 3 ∷ 2 ∷ 1 ∷ 1 ∷ 0 ∷ 1 ∷ zeros 9)
+    ++ ((10 ∷ 0 ∷ 2 ∷ zeros 9) ++ ((1 ∷ 0 ∷ 0 ∷ 0 ∷ 1 ∷ zeros 27) ++ ((5 ∷ zeros 576)
+    ++ ((20 ∷ 0 ∷ zeros 14) ++ ((3 ∷ zeros 27) ++ ((5 ∷ zeros 576)
+    ++ zeros (stride 1 1)))))))
 
 -- where its rows start
 unfoldable pub row1 : ℕ
 row1 = 16
 
 unfoldable pub row2 : ℕ
-row2 = row1 + stride 1
+row2 = row1 + stride 1 1
 
 unfoldable pub row3 : ℕ
-row3 = row2 + stride 1
+row3 = row2 + stride 1 1
 
 -- a table with the bytes from a place on put to a number, so many bytes wide
 unfoldable pub set : (place width value : ℕ) → List ℕ → List ℕ
@@ -47,8 +47,8 @@ set place width value t = put place (bytesOf width value) t
 -- one used row, of a capacity and a file length
 unfoldable pub single : (capacity fileLength : ℕ) → List ℕ
 single capacity fileLength =
-    (3 ∷ capacity ∷ 1 ∷ 1 ∷ bytesOf 2 fileLength) ++ (zeros 10
-    ++ ((10 ∷ 0 ∷ zeros 14) ++ ((1 ∷ zeros 15) ++ (replicate fileLength 5 ++ zeros (576 + (capacity - 1) * stride fileLength)))))
+    (4 ∷ capacity ∷ 1 ∷ 1 ∷ bytesOf 2 fileLength) ++ ((1 ∷ zeros 9)
+    ++ ((10 ∷ 0 ∷ zeros 14) ++ ((1 ∷ zeros 27) ++ (replicate fileLength 5 ++ zeros (576 + (capacity - 1) * stride 1 fileLength)))))
 
 -- pair with a third row, at an epoch; its list is itself
 unfoldable pub third : ℕ → List ℕ
@@ -73,16 +73,16 @@ twoBytes (x ∷ xs) = x ∷ 0 ∷ twoBytes xs
 
 -- n rows founded, named 10, 11, ..; and with the grid mark of each put to a number
 unfoldable pub full : ℕ → List ℕ
-full n = outcome (zeros (16 + n * stride 1)) (fo n 1 (twoBytes (upward n 10)) 0) .table
+full n = outcome (zeros (16 + n * stride 1 1)) (fo n 1 (twoBytes (upward n 10)) 0 1) .table
 
 unfoldable pub remarked : (n mark : ℕ) → List ℕ → List ℕ
 remarked zero mark t = t
-remarked (suc n) mark t = remarked n mark (set (16 + n * stride 1 + 24) 1 mark t)
+remarked (suc n) mark t = remarked n mark (set (16 + n * stride 1 1 + 24) 1 mark t)
 
 unfoldable pub cases : List Case
 cases =
     -- a read copies from the good row of lowest index
-    On (set (row2 + 32) 1 6 pair) (rd 2 3 0 1 (9 ∷ [])) 0 0 (5 ∷ [])
+    On (set (row2 + 44) 1 6 pair) (rd 2 3 0 1 (9 ∷ [])) 0 0 (5 ∷ [])
     -- how many machines were called: the own choice where the call stayed with P, also a P that lacks a row of it; all used rows by a call refused by 6
     ∷ Notes (full 5) (wr 1 31 0 (7 ∷ [])) 0 (4 ∷ [])
     ∷ Notes trio (wr 2 3 0 (7 ∷ [])) 0 (3 ∷ [])

@@ -27,7 +27,8 @@ use Rattle.joining.proofs.FrameLaws.{joined-alters}
 use Rattle.joining.proofs.RowLaws.{more-formed}
 use Rattle.protocol.proofs.PollLaws.{worked-in}
 use Rattle.protocol.proofs.QuestionLaws.{refusal-is, when-done, when-refused, join-yes, read-yes, write-yes, send-yes, CheckYes, check-yes, carry-yes}
-use Rattle.protocol.proofs.DoneLaws.{version-small, epoch-small, Leaves, writeTable, write-leaves, sendTable, send-leaves, checkTable, check-leaves}
+use Rattle.protocol.proofs.CopyLaws.{Leaves}
+use Rattle.protocol.proofs.DoneLaws.{version-small, epoch-small, writing, writeTable, write-leaves, sendTable, send-leaves, checkList, checking, checkTable, check-leaves}
 use Rattle.protocol.proofs.KeepLaws.{write-formed, send-formed}
 use Rattle.protocol.proofs.FoundedLaws.{founds-of, founded-used, founded-formed}
 
@@ -48,17 +49,17 @@ unfolding done limit workSet versionOf
 small-done t (founding a) h = let f = founds-of t a h in omega (arith, f .room, f .most)
 small-done t (join a) h = let y = join-yes t a h in omega (arith, y .room, header-facts t (formed t (y .formed) .header) .capacity)
 small-done t (read a) h =
-    version-small t (a .c) (a .r) (read-yes t a h .first) (workSet Read t (a .c) (a .r)) (worked-in Read (orderOf t) (answers t (a .r)) (a .c) (nameOf t (a .c)) (has (a .r)))
+    version-small t (a .file) (a .c) (a .r) (read-yes t a h .group) (read-yes t a h .first) (workSet Read t (a .file) (a .c) (a .r)) (worked-in Read (orderOf t) (answers t (a .file) (a .r)) (a .c) (nameOf t (a .c)) (has (a .r)))
 small-done t (write a) h = omega (arith, write-yes t a h .room)
-small-done t (send a) h = let y = send-yes t a h in formed t (y .formed) .rows (a .f) (y .from-used) .small-version
-small-done t (check a) h = go (eqb (a .r) (inForce (answers t (a .r)) (has (a .r)) .members)) refl
+small-done t (send a) h = let y = send-yes t a h in formed t (y .formed) .copies (a .f) (a .file) (y .from-used) (y .group) .small-version
+small-done t (check a) h = go (eqb (a .r) (inForce (answers t 1 (a .r)) (has (a .r)) .members)) refl
   where
     y : CheckYes t a
     y = check-yes t a h
 
-    go : (b : Bool) → eqb (a .r) (inForce (answers t (a .r)) (has (a .r)) .members) ≡ b → cond b (highestEpoch (answers t (a .r)) (has (a .r))) (highestEpoch (answers t (a .r)) (has (a .r)) + 1) ≤ limit
-    go true q = epoch-small t (a .c) (a .r) (y .first) (has (a .r)) (λ i m. m)
-    go false q = let room : ltb (highestEpoch (answers t (a .r)) (has (a .r))) limit ≡ true = rw q at (y .room) in omega (arith, ltb-true)
+    go : (b : Bool) → eqb (a .r) (inForce (answers t 1 (a .r)) (has (a .r)) .members) ≡ b → cond b (highestEpoch (answers t 1 (a .r)) (has (a .r))) (highestEpoch (answers t 1 (a .r)) (has (a .r)) + 1) ≤ limit
+    go true q = epoch-small t 1 (a .c) (a .r) (y .first) (has (a .r)) (λ i m. m)
+    go false q = let room : ltb (highestEpoch (answers t 1 (a .r)) (has (a .r))) limit ≡ true = rw q at (y .room) in omega (arith, ltb-true)
 small-done t (carry a) h = let y = header (own-sized (carry-yes t a h .own) .header) in omega (arith, y .used, y .capacity)
 
 pub result-tells : Claims.ResultTells
@@ -101,18 +102,18 @@ only-leaves {t} {u} {s} r sub l = record {
     outside i m false e = e
 
 only-done : (t : List ℕ) (k : Call) (r : ℕ) → Claims.Answering k r → firstNo (questions t k) ≡ 0 → Claims.OnlyRowsOf r t (done t k .table)
-unfolding done workSet writeTable sendTable checkTable
+unfolding done workSet writeTable writing sendTable checkTable checking checkList
 only-done t (read a) r Claims.byRead h = only-none (a .r) t
 only-done t (write a) r Claims.byWrite h =
-    let y = write-yes t a h in only-leaves (a .r) (λ i m. worked-in Write (orderOf t) (answers t (a .r)) (a .c) (nameOf t (a .c)) (has (a .r)) i m) (write-leaves t a y)
+    let y = write-yes t a h in only-leaves (a .r) (λ i m. worked-in Write (orderOf t) (answers t (a .file) (a .r)) (a .c) (nameOf t (a .c)) (has (a .r)) i m) (write-leaves t a y)
 only-done t (send a) r Claims.bySend h =
     let y = send-yes t a h in only-leaves (a .r) (λ i m. subst (λ (x : ℕ). has (a .r) x ≡ true) (eqb-true (a .t) i m) (y .to-answered)) (send-leaves t a y)
-only-done t (check a) r Claims.byCheck h = go (eqb (a .r) (inForce (answers t (a .r)) (has (a .r)) .members)) refl
+only-done t (check a) r Claims.byCheck h = go (eqb (a .r) (inForce (answers t 1 (a .r)) (has (a .r)) .members)) refl
   where
     y : CheckYes t a
     y = check-yes t a h
 
-    go : (b : Bool) → eqb (a .r) (inForce (answers t (a .r)) (has (a .r)) .members) ≡ b → Claims.OnlyRowsOf (a .r) t (done t (check a) .table)
+    go : (b : Bool) → eqb (a .r) (inForce (answers t 1 (a .r)) (has (a .r)) .members) ≡ b → Claims.OnlyRowsOf (a .r) t (done t (check a) .table)
     go true q = rw q (only-none (a .r) t)
     go false q = rw q (only-leaves (a .r) (λ i m. m) (check-leaves t a y (ltb-true _ _ (rw q at (y .room)))))
 
@@ -122,7 +123,7 @@ alters-only-answered t k r a h = rw (when-done t k h) (only-done t k r a (sym (r
 
 -- ---- every call but a check keeps a well-formed table well formed
 formed-done : (t : List ℕ) (k : Call) → Claims.NoCheck k → wellFormed t ≡ true → firstNo (questions t k) ≡ 0 → wellFormed (done t k .table) ≡ true
-unfolding done writeTable sendTable
+unfolding done writeTable writing sendTable
 formed-done t (founding a) Claims.aFounding w h =
     well-formed-of _ (founded-formed a (founds-of t a h))
 formed-done t (join a) Claims.aJoin w h = let y = join-yes t a h in well-formed-of _ (more-formed t _ (a .name) w (y .room) (joined-alters t w (a .name) (y .room)) (y .named) (y .free))
@@ -149,14 +150,14 @@ founds-on-anything t u a e h =
 
 -- met with: one machine, founded on a table of ones and on a table of zeros
 abbrev oneMachine : Founding
-oneMachine = record { capacity = 1; fileLength = 1; names = 10 ∷ 0 ∷ []; choice = 0 }
+oneMachine = record { capacity = 1; fileLength = 1; names = 10 ∷ 0 ∷ []; choice = 0; files = 1 }
 
 abbrev ones : List ℕ
-ones = replicate (16 + stride 1) 1
+ones = replicate (16 + stride 1 1) 1
 
-pub ones-leave-no-trace : outcome ones (founding oneMachine) ≡ outcome (zeros (16 + stride 1)) (founding oneMachine)
+pub ones-leave-no-trace : outcome ones (founding oneMachine) ≡ outcome (zeros (16 + stride 1 1)) (founding oneMachine)
 unfolding Claims.FoundsOnAnything questions firstNo Calls.namesIn Calls.namesRising between
 ones-leave-no-trace =
-    let long : length ones ≡ 16 + stride 1 = length-replicate {A = ℕ} (16 + stride 1) 1 in
-    founds-on-anything ones (zeros (16 + stride 1)) oneMachine (long ∙ sym (length-zeros (16 + stride 1)))
-    (refusal-is ones (founding oneMachine) ∙ rw (eq-eqb (length ones) (16 + 1 * stride 1) (long ∙ omega arith)))
+    let long : length ones ≡ 16 + stride 1 1 = length-replicate {A = ℕ} (16 + stride 1 1) 1 in
+    founds-on-anything ones (zeros (16 + stride 1 1)) oneMachine (long ∙ sym (length-zeros (16 + stride 1 1)))
+    (refusal-is ones (founding oneMachine) ∙ rw (eq-eqb (length ones) (16 + 1 * stride 1 1) (long ∙ omega arith)))

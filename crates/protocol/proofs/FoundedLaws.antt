@@ -16,7 +16,7 @@ use Rattle.sets.specs.Upto.{Within, count, upward, risesFrom}
 use Rattle.sets.specs.Sets.{has}
 use Rattle.grid.specs.Sizes.{newMark}
 use Rattle.grid.proofs.SizeLaws.{new-mark-fits, new-mark-small}
-use Rattle.bools.proofs.BoolLaws.{and-l, and-r, and-i, clash}
+use Rattle.bools.proofs.BoolLaws.{and-l, and-r, and-i}
 use Rattle.sets.proofs.UptoLaws.{every-of}
 use Rattle.sets.proofs.SetLaws.{has-all}
 use Rattle.sets.proofs.CountLaws.{count-one}
@@ -24,15 +24,13 @@ use Rattle.sets.proofs.RisingLaws.{upward-length, upward-among}
 use Rattle.bytes.specs.Bytes.{number, bytesOf, part, zeros, allZero}
 use Rattle.blocks.specs.Blocks.{block}
 use Rattle.fields.specs.declared.Laid.{Laid}
-use Rattle.fields.specs.Layout.{isTall, get, form, formValue, capacity, used, first, fileLength, name, link, mark, version, desired, epoch, members, gridMark, list, reserved, contents, bodyLength, stride, formOf, rowLength, rowsEnd, rowBytes, capacityOf, usedOf, firstOf, fileLengthOf, nameOf, linkOf, listOf}
+use Rattle.fields.specs.Layout.{isTall, get, form, formValue, capacity, used, first, fileLength, fileCount, restIn, name, link, epoch, members, gridMark, list, reserved, bodyLength, stride, copyIn, copyBytes, formOf, rowLength, rowsEnd, rowBytes, capacityOf, usedOf, firstOf, fileLengthOf, filesOf, nameOf, linkOf, listOf}
 use Rattle.linking.specs.Linking.{chain}
 use Rattle.table.specs.WellFormed.{between, limit, headerValues, lengthRight, visitsEach, namesRise, unusedZero}
-use Rattle.bytes.proofs.ByteLaws.{length-bytes, number-bytes, length-zeros, zeros-zero, first-zeros}
-use Rattle.fields.proofs.FieldLaws.{row-newest, body-room, records-room, contents-part, list-is}
-use Rattle.window.specs.Windows.{windowOf, emptied}
-use Rattle.window.proofs.AddLaws.{emptied-right}
-use Rattle.window.proofs.RowLaws.{window-blank}
-use Rattle.table.proofs.FormLaws.{between-is, is-between, RowFacts, Formed}
+use Rattle.bytes.proofs.ByteLaws.{length-bytes, number-bytes, length-zeros, zeros-zero}
+use Rattle.fields.proofs.FieldLaws.{row-newest, files-newest, BlankCopy, zero-copies, blank-copy, list-is}
+use Rattle.table.proofs.FormLaws.{between-is, is-between, HeadFacts, Formed}
+use Rattle.joining.proofs.RowLaws.{blank-facts}
 use Rattle.protocol.specs.Lists.{laidNow}
 use Rattle.protocol.specs.Calls
 use Rattle.asking.specs.Asking.{firstNo}
@@ -44,29 +42,32 @@ pub record Founds (a : Calls.Founding) : Type 0 where
   pub room : length (Calls.namesIn (a .names)) ≤ a .capacity
   pub most : a .capacity ≤ 64
   pub bytes : Within 4_096 (a .fileLength)
+  pub group : Within 8 (a .files)
   pub rising : Calls.namesRising 0 (Calls.namesIn (a .names)) ≡ true
 
 pub founds-of : (t : List ℕ) (a : Calls.Founding) → firstNo (Calls.questions t (Calls.founding a)) ≡ 0 → Founds a
 unfolding Calls.questions
 founds-of t a h =
     let x = yes-first 10 (eqb (length (a .names) % 2) 0 && between 1 (length (Calls.namesIn (a .names))) 64 && Calls.namesRising 0 (Calls.namesIn (a .names)) && leb (a .choice) 1) _ h in
-    let b = yes-first 11 (between 1 (a .capacity) 64 && leb (length (Calls.namesIn (a .names))) (a .capacity) && between 1 (a .fileLength) 4_096 && eqb (length t) (16 + a .capacity * stride (a .fileLength))) _ (x .1) in
+    let b = yes-first 11 (between 1 (a .capacity) 64 && leb (length (Calls.namesIn (a .names))) (a .capacity) && between 1 (a .fileLength) 4_096 && between 1 (a .files) 8 && eqb (length t) (16 + a .capacity * stride (a .files) (a .fileLength))) _ (x .1) in
     let a0 = and-l (eqb (length (a .names) % 2) 0 && between 1 (length (Calls.namesIn (a .names))) 64 && Calls.namesRising 0 (Calls.namesIn (a .names))) _ (x .0) in
     let a1 = and-l (eqb (length (a .names) % 2) 0 && between 1 (length (Calls.namesIn (a .names))) 64) _ a0 in
-    let b1 = and-l (between 1 (a .capacity) 64 && leb (length (Calls.namesIn (a .names))) (a .capacity) && between 1 (a .fileLength) 4_096) _ (b .0) in
+    let b0 = and-l (between 1 (a .capacity) 64 && leb (length (Calls.namesIn (a .names))) (a .capacity) && between 1 (a .fileLength) 4_096 && between 1 (a .files) 8) _ (b .0) in
+    let b1 = and-l (between 1 (a .capacity) 64 && leb (length (Calls.namesIn (a .names))) (a .capacity) && between 1 (a .fileLength) 4_096) _ b0 in
     let b2 = and-l (between 1 (a .capacity) 64 && leb (length (Calls.namesIn (a .names))) (a .capacity)) _ b1 in
     record {
       some = between-is 1 (length (Calls.namesIn (a .names))) 64 (and-r (eqb (length (a .names) % 2) 0) _ a1) .0;
       room = leb-true _ _ (and-r (between 1 (a .capacity) 64) _ b2);
       most = between-is 1 (a .capacity) 64 (and-l _ _ b2) .1;
       bytes = between-is 1 (a .fileLength) 4_096 (and-r (between 1 (a .capacity) 64 && leb (length (Calls.namesIn (a .names))) (a .capacity)) _ b1);
+      group = between-is 1 (a .files) 8 (and-r (between 1 (a .capacity) 64 && leb (length (Calls.namesIn (a .names))) (a .capacity) && between 1 (a .fileLength) 4_096) _ b0);
       rising = and-r (eqb (length (a .names) % 2) 0 && between 1 (length (Calls.namesIn (a .names))) 64) _ a0;
     }
 
 -- ---- the pieces
-pub length-header : (c n file : ℕ) → length (Calls.foundedHeader c n file) ≡ 16
+pub length-header : (c n files file : ℕ) → length (Calls.foundedHeader c n files file) ≡ 16
 unfolding Calls.foundedHeader zeros bytesOf
-length-header c n file = refl
+length-header c n files file = refl
 
 length-row : (n : ℕ) (all : Laid) (body i x : ℕ) → length (Calls.foundedRow n all body i x) ≡ 32 + body
 unfolding Calls.foundedRow
@@ -105,8 +106,11 @@ module _ (a : Calls.Founding) (f : Founds a) where
   abbrev file : ℕ
   file = a .fileLength
 
+  abbrev files : ℕ
+  files = a .files
+
   abbrev body : ℕ
-  body = bodyLength (a .fileLength)
+  body = bodyLength (a .files) (a .fileLength)
 
   abbrev names : List ℕ
   names = Calls.namesIn (a .names)
@@ -121,64 +125,68 @@ module _ (a : Calls.Founding) (f : Founds a) where
   n = length names
 
   t : List ℕ
-  t = Calls.founded choice c file names
+  t = Calls.founded choice c files file names
 
   tail : List ℕ
-  tail = zeros ((c - length names) * stride file)
+  tail = zeros ((c - length names) * stride files file)
 
   rows : List ℕ
   rows = Calls.foundedRows (length names) all body 1 names
 
   after-header : drop 16 t ≡ rows ++ tail
   unfolding t rows tail Calls.founded n
-  after-header = drop-at (Calls.foundedHeader c (length names) file) _ 16 (length-header c (length names) file)
+  after-header = drop-at (Calls.foundedHeader c (length names) files file) _ 16 (length-header c (length names) files file)
 
   -- ---- the header
-  pub founded-capacity : capacityOf (Calls.founded choice c file names) ≡ c
+  pub founded-capacity : capacityOf (Calls.founded choice c files file names) ≡ c
   unfolding Calls.founded Calls.foundedHeader capacityOf get capacity part number bytesOf zeros
   founded-capacity = omega arith
 
-  pub founded-used : usedOf (Calls.founded choice c file names) ≡ length names
+  pub founded-used : usedOf (Calls.founded choice c files file names) ≡ length names
   unfolding Calls.founded Calls.foundedHeader usedOf get used part number bytesOf zeros
   founded-used = omega arith
 
-  pub founded-first : firstOf (Calls.founded choice c file names) ≡ 1
+  pub founded-first : firstOf (Calls.founded choice c files file names) ≡ 1
   unfolding Calls.founded Calls.foundedHeader firstOf get first part number bytesOf zeros
   founded-first = refl
 
-  pub founded-file : fileLengthOf (Calls.founded choice c file names) ≡ file
+  pub founded-file : fileLengthOf (Calls.founded choice c files file names) ≡ file
   unfolding Calls.founded Calls.foundedHeader fileLengthOf get fileLength part zeros bytesOf
   founded-file = number-bytes 2 file (omega (arith, f .bytes))
 
-  header-form : formOf (Calls.founded choice c file names) ≡ formValue
+  header-form : formOf (Calls.founded choice c files file names) ≡ formValue
   unfolding Calls.founded Calls.foundedHeader formOf get form formValue part number bytesOf zeros
   header-form = refl
 
-  header-rest : allZero (part 6 10 (Calls.founded choice c file names)) ≡ true
-  unfolding Calls.founded Calls.foundedHeader part allZero bytesOf zeros
+  pub founded-files : filesOf (Calls.founded choice c files file names) ≡ files
+  unfolding Calls.founded Calls.foundedHeader get fileCount part zeros bytesOf
+  founded-files = files-newest (Calls.founded choice c files file names) header-form ∙ number-bytes 1 files (omega (arith, f .group))
+
+  header-rest : allZero (restIn formValue (Calls.founded choice c files file names)) ≡ true
+  unfolding Calls.founded Calls.foundedHeader restIn formValue part allZero bytesOf zeros
   header-rest = refl
 
-  founded-bytes : length (Calls.founded choice c file names) ≡ 16 + c * stride file
+  founded-bytes : length (Calls.founded choice c files file names) ≡ 16 + c * stride files file
   unfolding Calls.founded stride
   founded-bytes = simp (length-append, length-header, length-rows, length-zeros) (omega (arith, f .room, split))
     where
-      split : length names * stride file + (c - length names) * stride file ≡ c * stride file
-      split = sym (add-mul (length names) (c - length names) (stride file)) ∙ ap (λ (x : ℕ). x * stride file) (omega (arith, f .room))
+      split : length names * stride files file + (c - length names) * stride files file ≡ c * stride files file
+      split = sym (add-mul (length names) (c - length names) (stride files file)) ∙ ap (λ (x : ℕ). x * stride files file) (omega (arith, f .room))
 
-  founded-length : rowLength (Calls.founded choice c file names) ≡ stride file
-  founded-length = row-newest (Calls.founded choice c file names) header-form ∙ ap stride founded-file
+  founded-length : rowLength (Calls.founded choice c files file names) ≡ stride files file
+  founded-length = row-newest (Calls.founded choice c files file names) header-form ∙ ap₂ stride founded-files founded-file
 
-  founded-end : (k : ℕ) → rowsEnd (Calls.founded choice c file names) k ≡ 16 + k * stride file
+  founded-end : (k : ℕ) → rowsEnd (Calls.founded choice c files file names) k ≡ 16 + k * stride files file
   unfolding rowsEnd
   founded-end k = ap (λ (w : ℕ). 16 + k * w) founded-length
 
   -- ---- the rows
-  pub founded-row : (k : ℕ) → k < length names → rowBytes (Calls.founded choice c file names) (suc k) ≡ Calls.foundedRow (length names) all body (suc k) (getD names k 0)
+  pub founded-row : (k : ℕ) → k < length names → rowBytes (Calls.founded choice c files file names) (suc k) ≡ Calls.foundedRow (length names) all body (suc k) (getD names k 0)
   unfolding rowBytes block part t rows tail stride
   founded-row k h =
-      ap (λ (m : ℕ). take m (drop (16 + k * m) (Calls.founded choice c file names))) founded-length
-      ∙ ap (take (stride file)) (sym (drop-drop (k * stride file) 16 (Calls.founded choice c file names)) ∙ ap (drop (k * stride file)) after-header)
-      ∙ rows-at (length names) all body names 1 k (zeros ((c - length names) * stride file)) h
+      ap (λ (m : ℕ). take m (drop (16 + k * m) (Calls.founded choice c files file names))) founded-length
+      ∙ ap (take (stride files file)) (sym (drop-drop (k * stride files file) 16 (Calls.founded choice c files file names)) ∙ ap (drop (k * stride files file)) after-header)
+      ∙ rows-at (length names) all body names 1 k (zeros ((c - length names) * stride files file)) h
       ∙ ap (λ (j : ℕ). Calls.foundedRow (length names) all body j (getD names k 0)) (one-add k)
 
   -- each name is one of 1 to 65,535
@@ -222,18 +230,6 @@ module _ (a : Calls.Founding) (f : Founds a) where
     unfolding laidNow Calls.foundedList
     row-list = list-is _ _ row-members row-grid
 
-    pub zero-mark : get mark (Calls.foundedRow (length names) all body i x) ≡ 0
-    unfolding Calls.foundedRow get mark part number zeros bytesOf
-    zero-mark = refl
-
-    pub zero-version : get version (Calls.foundedRow (length names) all body i x) ≡ 0
-    unfolding Calls.foundedRow get version part number zeros bytesOf
-    zero-version = refl
-
-    pub zero-desired : get desired (Calls.foundedRow (length names) all body i x) ≡ 0
-    unfolding Calls.foundedRow get desired part number zeros bytesOf
-    zero-desired = refl
-
     pub zero-epoch : get epoch (Calls.foundedRow (length names) all body i x) ≡ 0
     unfolding Calls.foundedRow get epoch part number zeros bytesOf
     zero-epoch = refl
@@ -242,30 +238,20 @@ module _ (a : Calls.Founding) (f : Founds a) where
     unfolding Calls.foundedRow reserved part allZero zeros bytesOf
     spare-zero = refl
 
-    pub row-contents : contents (Calls.foundedRow (length names) all body i x) ≡ zeros file
-    unfolding Calls.foundedRow part zeros bytesOf stride
-    row-contents = contents-part (Calls.foundedRow (length names) all body i x) file (length-row (length names) all body i x) ∙ first-zeros file body (body-room file)
+    row-copies : (q : ℕ) → Within files q → BlankCopy file (copyIn file q (Calls.foundedRow (length names) all body i x))
+    unfolding Calls.foundedRow zeros bytesOf
+    row-copies q v = rw (zero-copies files file (Calls.foundedRow (length names) all body i x) refl q v) (blank-copy file)
 
-    pub row-window : windowOf (Calls.foundedRow (length names) all body i x) ≡ emptied
-    unfolding Calls.foundedRow zeros bytesOf allZero
-    row-window = window-blank (Calls.foundedRow (length names) all body i x) (omega (arith, length-row (length names) all body i x, records-room file)) (zeros-zero body)
-
-    row-facts : RowFacts (length names) i (Calls.foundedRow (length names) all body i x)
+    row-facts : HeadFacts (length names) i (Calls.foundedRow (length names) all body i x)
     unfolding limit
     row-facts = record {
       named = rw row-name h;
       linked = rw row-link (go (ℕ-discrete i (length names)));
-      flag = rw (zero-mark) (omega arith);
       spare = spare-zero;
-      small-version = rw zero-version (omega arith);
-      small-desired = rw zero-desired (omega arith);
       small-epoch = rw zero-epoch (omega arith);
-      behind = λ e. absurd (clash (rw zero-mark at e));
-      level = λ e. zero-desired;
       only = rw row-members (ones-lt (length names));
       own = λ e. rw row-members (has-all (length names) i w);
       grid = rw (row-grid, row-members) (new-mark-fits (eqb choice 1) (count 64 (has (2 ^ length names - 1))) (count-one 64 (has (2 ^ length names - 1)) i (omega (arith, w, f .room, f .most)) (has-all (length names) i w)));
-      kept = rw row-window (emptied-right _ _);
     }
       where
         go : Dec (i ≡ length names) → cond (eqb i (length names)) 0 (i + 1) ≤ length names
@@ -274,74 +260,74 @@ module _ (a : Calls.Founding) (f : Founds a) where
 
   -- ---- what row i says
   pub at-row : (P : ℕ → List ℕ → Type 0) → ((i x : ℕ) → Within (length names) i → Within 65_535 x → P i (Calls.foundedRow (length names) all body i x))
-      → (i : ℕ) → Within (length names) i → P i (rowBytes (Calls.founded choice c file names) i)
+      → (i : ℕ) → Within (length names) i → P i (rowBytes (Calls.founded choice c files file names) i)
   at-row P g zero w = absurd (omega arith)
   at-row P g (suc k) w = subst (P (suc k)) (sym (founded-row k (omega arith))) (g (suc k) (getD names k 0) w (named 0 names (f .rising) k (omega arith)))
 
-  pub founded-name : (i : ℕ) → Within (length names) i → nameOf (Calls.founded choice c file names) i ≡ getD names (i - 1) 0
+  pub founded-name : (i : ℕ) → Within (length names) i → nameOf (Calls.founded choice c files file names) i ≡ getD names (i - 1) 0
   unfolding nameOf
   founded-name zero w = absurd (omega arith)
   founded-name (suc k) w =
       let z : suc k - 1 ≡ k = omega arith in
       rw z (ap (get name) (founded-row k (omega arith)) ∙ row-name (suc k) (getD names k 0) w (named 0 names (f .rising) k (omega arith)))
 
-  founded-link : (i : ℕ) → Within (length names) i → linkOf (Calls.founded choice c file names) i ≡ cond (eqb i (length names)) 0 (i + 1)
+  founded-link : (i : ℕ) → Within (length names) i → linkOf (Calls.founded choice c files file names) i ≡ cond (eqb i (length names)) 0 (i + 1)
   unfolding linkOf
   founded-link zero w = absurd (omega arith)
   founded-link (suc k) w = ap (get link) (founded-row k (omega arith)) ∙ row-link (suc k) (getD names k 0) w (named 0 names (f .rising) k (omega arith))
 
   -- ---- the chain: rows 1, 2, .. to the last
-  chain-up : (k j m : ℕ) → j + suc k ≡ length names → suc k ≤ m → chain (linkOf (Calls.founded choice c file names)) m (suc j) ≡ upward (suc k) (suc j)
+  chain-up : (k j m : ℕ) → j + suc k ≡ length names → suc k ≤ m → chain (linkOf (Calls.founded choice c files file names)) m (suc j) ≡ upward (suc k) (suc j)
   unfolding chain upward
   chain-up zero j zero e l = absurd (omega arith)
   chain-up zero j (suc m) e l =
-      let here : linkOf (Calls.founded choice c file names) (suc j) ≡ 0 = founded-link (suc j) (omega arith) ∙ rw (eq-eqb (suc j) (length names) (omega arith)) in
-      ap (λ (l : List ℕ). suc j ∷ l) (ap (chain (linkOf (Calls.founded choice c file names)) m) here ∙ stops m)
+      let here : linkOf (Calls.founded choice c files file names) (suc j) ≡ 0 = founded-link (suc j) (omega arith) ∙ rw (eq-eqb (suc j) (length names) (omega arith)) in
+      ap (λ (l : List ℕ). suc j ∷ l) (ap (chain (linkOf (Calls.founded choice c files file names)) m) here ∙ stops m)
     where
-      stops : (m : ℕ) → chain (linkOf (Calls.founded choice c file names)) m 0 ≡ []
+      stops : (m : ℕ) → chain (linkOf (Calls.founded choice c files file names)) m 0 ≡ []
       stops zero = refl
       stops (suc m) = refl
   chain-up (suc k) j zero e l = absurd (omega arith)
   chain-up (suc k) j (suc m) e l =
-      let here : linkOf (Calls.founded choice c file names) (suc j) ≡ suc (suc j) =
+      let here : linkOf (Calls.founded choice c files file names) (suc j) ≡ suc (suc j) =
       founded-link (suc j) (omega arith) ∙ rw (ne-eqb (suc j) (length names) (λ q. omega arith)) (omega arith) in
-      ap (λ (l : List ℕ). suc j ∷ l) (ap (chain (linkOf (Calls.founded choice c file names)) m) here ∙ chain-up k (suc j) m (omega arith) (omega arith))
+      ap (λ (l : List ℕ). suc j ∷ l) (ap (chain (linkOf (Calls.founded choice c files file names)) m) here ∙ chain-up k (suc j) m (omega arith) (omega arith))
 
-  path-is : (m : ℕ) → length names ≤ m → chain (linkOf (Calls.founded choice c file names)) m 1 ≡ upward (length names) 1
+  path-is : (m : ℕ) → length names ≤ m → chain (linkOf (Calls.founded choice c files file names)) m 1 ≡ upward (length names) 1
   path-is m l =
       let e : suc (length names - 1) ≡ length names = omega (arith, f .some) in
       chain-up (length names - 1) 0 m (omega (arith, f .some)) (omega (arith, f .some)) ∙ ap (λ (x : ℕ). upward x 1) e
 
-  founded-path : chain (linkOf (Calls.founded choice c file names)) (suc (usedOf (Calls.founded choice c file names))) (firstOf (Calls.founded choice c file names)) ≡ upward (length names) 1
-  founded-path = ap₂ (λ (m i : ℕ). chain (linkOf (Calls.founded choice c file names)) (suc m) i) founded-used founded-first ∙ path-is (suc (length names)) (omega arith)
+  founded-path : chain (linkOf (Calls.founded choice c files file names)) (suc (usedOf (Calls.founded choice c files file names))) (firstOf (Calls.founded choice c files file names)) ≡ upward (length names) 1
+  founded-path = ap₂ (λ (m i : ℕ). chain (linkOf (Calls.founded choice c files file names)) (suc m) i) founded-used founded-first ∙ path-is (suc (length names)) (omega arith)
 
-  founded-visits : visitsEach (Calls.founded choice c file names) ≡ true
+  founded-visits : visitsEach (Calls.founded choice c files file names) ≡ true
   unfolding visitsEach
   founded-visits =
       rw (founded-path, founded-used) (and-i (eqb (length (upward (length names) 1)) (length names)) _ (eq-eqb _ _ (upward-length (length names) 1))
       (every-of (length names) _ (λ i w. upward-among (length names) 1 i ∙ rw (le-leb 1 i (w .0), lt-ltb i (1 + length names) (omega arith)))))
 
   -- names rise along the rows from row j + 1 on as they do in the list
-  rise-from : (l : List ℕ) (a j : ℕ) → Calls.namesRising a l ≡ true → ((k : ℕ) → k < length l → nameOf (Calls.founded choice c file names) (suc j + k) ≡ getD l k 0)
-      → risesFrom a (nameOf (Calls.founded choice c file names)) (upward (length l) (suc j)) ≡ true
+  rise-from : (l : List ℕ) (a j : ℕ) → Calls.namesRising a l ≡ true → ((k : ℕ) → k < length l → nameOf (Calls.founded choice c files file names) (suc j + k) ≡ getD l k 0)
+      → risesFrom a (nameOf (Calls.founded choice c files file names)) (upward (length l) (suc j)) ≡ true
   unfolding upward risesFrom Calls.namesRising
   rise-from [] a j h g = refl
   rise-from (x ∷ l) a j h g =
       let z : suc j + 0 ≡ suc j = omega arith in
-      let here : nameOf (Calls.founded choice c file names) (suc j) ≡ x = ap (nameOf (Calls.founded choice c file names)) (sym z) ∙ g 0 (omega arith) in
+      let here : nameOf (Calls.founded choice c files file names) (suc j) ≡ x = ap (nameOf (Calls.founded choice c files file names)) (sym z) ∙ g 0 (omega arith) in
       rw here (and-i (ltb a x) _ (and-l _ _ (and-l (ltb a x && leb x 65_535) _ h))
       (rise-from l x (suc j) (and-r (ltb a x && leb x 65_535) _ h) (λ k q.
-      let s : suc (suc j) + k ≡ suc j + suc k = omega arith in ap (nameOf (Calls.founded choice c file names)) s ∙ g (suc k) (omega arith))))
+      let s : suc (suc j) + k ≡ suc j + suc k = omega arith in ap (nameOf (Calls.founded choice c files file names)) s ∙ g (suc k) (omega arith))))
 
-  founded-rise : namesRise (Calls.founded choice c file names) ≡ true
+  founded-rise : namesRise (Calls.founded choice c files file names) ≡ true
   unfolding namesRise
   founded-rise = rw founded-path (rise-from names 0 0 (f .rising) (λ k q.
       let s : 1 + k ≡ suc k = omega arith in
       let z : suc k - 1 ≡ k = omega arith in
-      ap (nameOf (Calls.founded choice c file names)) s ∙ founded-name (suc k) (omega arith) ∙ ap (λ (m : ℕ). getD names m 0) z))
+      ap (nameOf (Calls.founded choice c files file names)) s ∙ founded-name (suc k) (omega arith) ∙ ap (λ (m : ℕ). getD names m 0) z))
 
   -- ---- the rest of question 1
-  founded-header : headerValues (Calls.founded choice c file names) ≡ true
+  founded-header : headerValues (Calls.founded choice c files file names) ≡ true
   unfolding headerValues formValue
   founded-header = rw (
     founded-capacity,
@@ -349,45 +335,53 @@ module _ (a : Calls.Founding) (f : Founds a) where
     founded-first,
     founded-file,
     founded-form,
+    founded-files,
     founded-rest,
     is-between 1 formValue formValue (omega arith) (omega arith),
     is-between 1 c 64 (omega (arith, f .some, f .room)) (f .most),
     is-between 1 (length names) c (f .some) (f .room),
     is-between 1 1 (length names) (omega arith) (f .some),
+    is-between 1 file 4_096 (f .bytes .0) (f .bytes .1),
+    is-between 1 files 8 (f .group .0) (f .group .1),
   )
-      (and-i _ true (is-between 1 file 4_096 (f .bytes .0) (f .bytes .1)) refl)
     where
-      founded-form : formOf (Calls.founded choice c file names) ≡ formValue
+      founded-form : formOf (Calls.founded choice c files file names) ≡ formValue
       founded-form = header-form
 
-      founded-rest : allZero (part 6 10 (Calls.founded choice c file names)) ≡ true
+      founded-rest : allZero (restIn formValue (Calls.founded choice c files file names)) ≡ true
       founded-rest = header-rest
 
-  founded-tail : drop (rowsEnd (Calls.founded choice c file names) (length names)) (Calls.founded choice c file names) ≡ zeros ((c - length names) * stride file)
+  founded-tail : drop (rowsEnd (Calls.founded choice c files file names) (length names)) (Calls.founded choice c files file names) ≡ zeros ((c - length names) * stride files file)
   unfolding t rows tail stride
   founded-tail =
-      ap (λ (a : ℕ). drop a (Calls.founded choice c file names)) (founded-end (length names))
-      ∙ sym (drop-drop (length names * stride file) 16 (Calls.founded choice c file names)) ∙ ap (drop (length names * stride file)) after-header
-      ∙ drop-at rows tail (length names * stride file) (length-rows (length names) all body 1 names)
+      ap (λ (a : ℕ). drop a (Calls.founded choice c files file names)) (founded-end (length names))
+      ∙ sym (drop-drop (length names * stride files file) 16 (Calls.founded choice c files file names)) ∙ ap (drop (length names * stride files file)) after-header
+      ∙ drop-at rows tail (length names * stride files file) (length-rows (length names) all body 1 names)
 
-  founded-zero : unusedZero (Calls.founded choice c file names) ≡ true
+  founded-zero : unusedZero (Calls.founded choice c files file names) ≡ true
   unfolding unusedZero
-  founded-zero = ap allZero (ap (λ (k : ℕ). drop (rowsEnd (Calls.founded choice c file names) k) (Calls.founded choice c file names)) founded-used ∙ founded-tail) ∙ zeros-zero ((c - length names) * stride file)
+  founded-zero = ap allZero (ap (λ (k : ℕ). drop (rowsEnd (Calls.founded choice c files file names) k) (Calls.founded choice c files file names)) founded-used ∙ founded-tail) ∙ zeros-zero ((c - length names) * stride files file)
 
-  founded-long : lengthRight (Calls.founded choice c file names) ≡ true
+  founded-long : lengthRight (Calls.founded choice c files file names) ≡ true
   unfolding lengthRight
-  founded-long = eq-eqb _ _ (founded-bytes ∙ sym (ap (rowsEnd (Calls.founded choice c file names)) founded-capacity ∙ founded-end c))
+  founded-long = eq-eqb _ _ (founded-bytes ∙ sym (ap (rowsEnd (Calls.founded choice c files file names)) founded-capacity ∙ founded-end c))
 
-  listed : (i : ℕ) → Within (length names) i → list (rowBytes (Calls.founded choice c file names) i) ≡ Calls.foundedList (a .choice) (length names)
+  listed : (i : ℕ) → Within (length names) i → list (rowBytes (Calls.founded choice c files file names) i) ≡ Calls.foundedList (a .choice) (length names)
   listed = at-row (λ i r. list r ≡ Calls.foundedList (a .choice) (length names)) row-list
 
-  pub founded-formed : Formed (Calls.founded choice c file names)
+  -- every copy says nothing yet
+  pub founded-copies : (i q : ℕ) → Within (length names) i → Within files q → BlankCopy file (copyBytes (Calls.founded choice c files file names) q i)
+  unfolding copyBytes
+  founded-copies i q u v = rw founded-file (at-row (λ i r. BlankCopy file (copyIn file q r)) (λ i x w h. row-copies i x w h q v) i u)
+
+  pub founded-formed : Formed (Calls.founded choice c files file names)
   unfolding listOf
   founded-formed = record {
     newest = header-form;
     header = founded-header;
     long = founded-long;
-    rows = rw founded-used (at-row (RowFacts (length names)) row-facts);
+    heads = rw founded-used (at-row (HeadFacts (length names)) row-facts);
+    copies = rw (founded-used, founded-files, founded-file) (λ i q u v. blank-facts (founded-copies i q u v));
     visits = founded-visits;
     rise = founded-rise;
     zero = founded-zero;

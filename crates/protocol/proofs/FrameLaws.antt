@@ -8,7 +8,7 @@ use native.Mathlib.Omega.{arith}
 use lib.ListN.{drop}
 use Rattle.sets.specs.Upto.{Within}
 use Rattle.bytes.specs.Bytes.{allZero}
-use Rattle.fields.specs.Layout.{get, form, capacity, used, first, fileLength, name, link, formOf, capacityOf, usedOf, firstOf, fileLengthOf, nameOf, linkOf, rowsEnd, rowBytes}
+use Rattle.fields.specs.Layout.{get, form, capacity, used, first, fileLength, fileCount, restIn, name, link, formOf, capacityOf, usedOf, firstOf, fileLengthOf, filesOf, nameOf, linkOf, rowsEnd, rowBytes}
 use Rattle.table.specs.WellFormed.{headerValues, lengthRight, visitsEach, namesRise, unusedZero}
 use Rattle.blocks.specs.Blocks.{block}
 use Rattle.table.proofs.TableLaws.{Like, like-get, like-end, Changed, behind}
@@ -39,9 +39,17 @@ module _ {t u : List ℕ} (f : Frame t u) where
   unfolding formOf form
   same-form = like-get (f .like) form (omega arith)
 
+  pub same-files : filesOf u ≡ filesOf t
+  unfolding filesOf fileCount
+  same-files = rw (same-form, like-get (f .like) fileCount (omega arith))
+
+  same-rest : restIn (formOf t) u ≡ restIn (formOf t) t
+  unfolding restIn
+  same-rest = rw (f .like .header 7 9 (omega arith), f .like .header 6 10 (omega arith))
+
   pub same-header : headerValues u ≡ headerValues t
   unfolding headerValues
-  same-header = rw (same-form, same-capacity, same-used, same-first, same-file, f .like .header 6 10 (omega arith))
+  same-header = rw (same-form, same-capacity, same-used, same-first, same-file, same-files, same-rest)
 
   pub same-long : lengthRight u ≡ lengthRight t
   unfolding lengthRight

@@ -40,7 +40,7 @@ use Rattle.asking.specs.Asking.{firstNo}
 use Rattle.protocol.proofs.ListLaws.{seats-more, quorum-more, choice-more}
 use Rattle.protocol.proofs.PollLaws.{listed-at}
 use Rattle.protocol.proofs.QuestionLaws.{refusal-is, when-done, when-refused, JoinYes, join-yes}
-use Rattle.protocol.proofs.Unanswered.{used-same, file-same, first-same, order-same, header, get-same}
+use Rattle.protocol.proofs.Unanswered.{used-same, file-same, files-same, first-same, order-same, header, get-same}
 
 -- ---- a row with an empty list
 -- S without it has the same rows that have a list
@@ -208,7 +208,7 @@ module _ {t u : List ℕ} (E : Claims.EqualIn 0 t u) (a : Joining) where
           (λ q. rw q (ct .links .onto ∙ sym behind-same ∙ sym (cu .links .onto) ∙ ap (linkOf (done u (join a) .table)) (ap suc (used-same E))))
           (λ w. link-after t _ (a .name) (E .formed) (yt .room) ot i w ∙ linked i w ∙ sym (link-after u _ (a .name) (E .formed-too) (y u a g .room) ou i (rw (used-same E) w)))
           (last (usedOf t) i v));
-      new = λ z. ot .new ∙ rw (← behind-same, ← file-same E) (sym (ou .new)) ∙ ap (rowBytes (done u (join a) .table)) (ap suc (used-same E));
+      new = λ z. ot .new ∙ rw (← behind-same, ← file-same E, ← files-same E) (sym (ou .new)) ∙ ap (rowBytes (done u (join a) .table)) (ap suc (used-same E));
     }
       where
         linked : (i : ℕ) → Within (usedOf t) i → cond (eqb (rowBefore t (a .name)) i) (suc (usedOf t)) (linkOf t i) ≡ cond (eqb (rowBefore u (a .name)) i) (suc (usedOf u)) (linkOf u i)

@@ -3,6 +3,7 @@ pub mod PollLaws
 pub mod RowLaws
 pub mod QuestionLaws
 pub mod FrameLaws
+pub mod CopyLaws
 pub mod DoneLaws
 pub mod KeepLaws
 pub mod FoundedLaws
@@ -10,6 +11,7 @@ pub mod Claimed
 pub mod NotedClaimed
 pub mod JoinClaimed
 pub mod Unanswered
+pub mod OtherFiles
 pub mod Histories
 pub mod Cases
 pub mod Computed

@@ -3,14 +3,13 @@ use mathlib.Core.Path.{_≡_, refl, sym, _∙_, ap}
 use mathlib.Core.Bool.{Bool, true, false, cond, _&&_, _||_, and-false}
 use mathlib.Core.Logic.{_⊎_, inl, inr, ⊎-elim}
 use mathlib.Core.List.{List, [], _∷_, map}
-use Prim.Native.Nat.{ℕ, zero, suc, _≤_, _<_}
-use native.Mathlib.Decide.{ℕ-discrete}
+use Prim.Native.Nat.{ℕ, _≤_}
 use native.Mathlib.Omega.{arith}
-use lib.Dec.{eqb, ltb, eqb·suc-zero}
+use lib.Dec.{eqb, ltb}
 use lib.ListN.{length}
-use borrow.Author.Tests.{eqb-true, eq-eqb, ne-eqb, lt-ltb, le-ltb, ltb-true}
-use Rattle.bools.proofs.BoolLaws.{and-l, and-r, or-e, clash}
-use Rattle.sets.specs.Upto.{Within, among, risesFrom}
+use borrow.Author.Tests.{eqb-true, eq-eqb, ne-eqb, ltb-true}
+use Rattle.bools.proofs.BoolLaws.{and-l, and-r, or-l, or-r, or-e, clash}
+use Rattle.sets.specs.Upto.{Within, among}
 use Rattle.sets.specs.Sets.{has}
 use Rattle.quorums.specs.declared.Kind.{Kind}
 use Rattle.quorums.specs.declared.Kind.the-variants.{Read, Write}
@@ -20,172 +19,199 @@ use Rattle.table.specs.WellFormed.{limit}
 use Rattle.asking.specs.Asking.{Question, firstNo, before}
 use Rattle.asking.proofs.AskingLaws.{yes-first}
 use Rattle.protocol.specs.Polls.{goodVersion, current, quorumHeld, ownTry, stays, workedOn}
-use Rattle.protocol.specs.Calls.{Reading, Writing, Call, founding, join, read, write, send, check, carry, inFile, questions, answers, workSet, calledBy, noted, fromSix, calledAfter, outcome}
+use Rattle.protocol.specs.Calls.{Reading, Writing, Call, founding, join, read, write, send, check, carry, inFile, inGroup, questions, answers, workSet, calledBy, noted, fromSix, calledAfter, outcome}
 use Rattle.protocol.specs.Claims.{numbersPut, PutInOrder, Counting, ofRead, ofWrite, RefusedNote, OtherLengthsStay, OthersNoteNone}
 use Rattle.protocol.proofs.QuestionLaws.{refusal-is, called-is, early-passed}
 use Rattle.protocol.proofs.Claimed.{put-in-order}
 
--- ---- questions whose numbers rise
+-- ---- questions by their numbers
 abbrev numbers : List Question → List ℕ
 numbers qs = map (λ (q : Question). q .ask) qs
 
--- the first no is above a, or there is none
-first-above : (a : ℕ) (qs : List Question) → risesFrom a (λ x. x) (numbers qs) ≡ true → (firstNo qs ≡ 0) ⊎ (a < firstNo qs)
-unfolding firstNo risesFrom
-first-above a [] h = inl refl
-first-above a (q ∷ qs) h = go (q .yes) (first-above (q .ask) qs (and-r (ltb a (q .ask)) _ h))
-  where
-    up : a < q .ask
-    up = ltb-true a (q .ask) (and-l _ _ h)
+-- the numbers before n, and those from n on
+until : ℕ → List ℕ → List ℕ
+until n [] = []
+until n (m ∷ ms) = cond (eqb m n) [] (m ∷ until n ms)
 
-    go : (b : Bool) → (firstNo qs ≡ 0) ⊎ (q .ask < firstNo qs) → (cond b (firstNo qs) (q .ask) ≡ 0) ⊎ (a < cond b (firstNo qs) (q .ask))
+onward : ℕ → List ℕ → List ℕ
+onward n [] = []
+onward n (m ∷ ms) = cond (eqb m n) (m ∷ ms) (onward n ms)
+
+-- the first no is one of those asked, or there is none
+no-among : (qs : List Question) → (firstNo qs ≡ 0) ⊎ (among (numbers qs) (firstNo qs) ≡ true)
+unfolding firstNo among
+no-among [] = inl refl
+no-among (q ∷ qs) = go (q .yes) (no-among qs)
+  where
+    go : (b : Bool) → (firstNo qs ≡ 0) ⊎ (among (numbers qs) (firstNo qs) ≡ true) → (cond b (firstNo qs) (q .ask) ≡ 0) ⊎ ((among (numbers qs) (cond b (firstNo qs) (q .ask)) || eqb (q .ask) (cond b (firstNo qs) (q .ask))) ≡ true)
     go true (inl z) = inl z
-    go true (inr l) = inr (omega (arith, up))
-    go false s = inr up
+    go true (inr m) = inr (or-l _ _ m)
+    go false s = inr (or-r (among (numbers qs) (q .ask)) _ (eq-eqb (q .ask) (q .ask) refl))
 
--- what stands among them is above a
-among-above : (a n : ℕ) (ms : List ℕ) → risesFrom a (λ x. x) ms ≡ true → among ms n ≡ true → a < n
-unfolding among risesFrom
-among-above a n [] h m = absurd (clash m)
-among-above a n (x ∷ ms) h m = go (or-e (among ms n) (eqb x n) m) (λ k. among-above x n ms (and-r (ltb a x) _ h) k)
+-- either nothing before n is answered no, and the first no is asked from n on or there is none; or the first no comes before n
+Sides : ℕ → List Question → Type 0
+Sides n qs = ((firstNo (before n qs) ≡ 0) × ((firstNo qs ≡ 0) ⊎ (among (onward n (numbers qs)) (firstNo qs) ≡ true))) ⊎ ((firstNo (before n qs) ≡ firstNo qs) × (among (until n (numbers qs)) (firstNo qs) ≡ true))
+
+sides : (n : ℕ) (qs : List Question) → Sides n qs
+unfolding Sides firstNo before until onward among
+sides n [] = inl (refl, inl refl)
+sides n (q ∷ qs) = go (eqb (q .ask) n) (q .yes) refl (sides n qs)
   where
-    go : (among ms n ≡ true) ⊎ (eqb x n ≡ true) → (among ms n ≡ true → x < n) → a < n
-    go (inl k) more = omega (arith, more k, ltb-true a x (and-l _ _ h))
-    go (inr k) more = omega (arith, eqb-true x n k, ltb-true a x (and-l _ _ h))
+    go : (x y : Bool) → q .yes ≡ y → Sides n qs
+        → ((firstNo (cond x [] (q ∷ before n qs)) ≡ 0) × ((firstNo (q ∷ qs) ≡ 0) ⊎ (among (cond x (numbers (q ∷ qs)) (onward n (numbers qs))) (firstNo (q ∷ qs)) ≡ true)))
+        ⊎ ((firstNo (cond x [] (q ∷ before n qs)) ≡ firstNo (q ∷ qs)) × (among (cond x [] (q .ask ∷ until n (numbers qs))) (firstNo (q ∷ qs)) ≡ true))
+    go true y e s = inl (refl, no-among (q ∷ qs))
+    go false true e (inl s) = rw e (inl s)
+    go false true e (inr s) = rw e (inr (s .0, or-l _ _ (s .1)))
+    go false false e s = rw e (inr (refl, or-r (among (until n (numbers qs)) (q .ask)) _ (eq-eqb (q .ask) (q .ask) refl)))
 
--- the first no of those before n is the first no where that is below n, else there is none
-before-is : (a n : ℕ) (qs : List Question) → risesFrom a (λ x. x) (numbers qs) ≡ true → among (numbers qs) n ≡ true → firstNo (before n qs) ≡ cond (ltb (firstNo qs) n) (firstNo qs) 0
-unfolding firstNo before risesFrom among
-before-is a n [] h m = absurd (clash m)
-before-is a n (q ∷ qs) h m = go (ℕ-discrete (q .ask) n) (q .yes) refl (before-is (q .ask) n qs (and-r (ltb a (q .ask)) _ h))
-  where
-    rest : risesFrom (q .ask) (λ x. x) (numbers qs) ≡ true
-    rest = and-r (ltb a (q .ask)) _ h
+-- all numbers of a list pass
+pass : (ℕ → Bool) → List ℕ → Bool
+pass p [] = true
+pass p (m ∷ ms) = p m && pass p ms
 
-    later : (q .ask ≡ n → ⊥) → among (numbers qs) n ≡ true
-    later d = by (or-e (among (numbers qs) n) (eqb (q .ask) n) m)
-      where
-        by : (among (numbers qs) n ≡ true) ⊎ (eqb (q .ask) n ≡ true) → among (numbers qs) n ≡ true
-        by (inl k) = k
-        by (inr k) = absurd (d (eqb-true (q .ask) n k))
+pass-at : (p : ℕ → Bool) (ms : List ℕ) (x : ℕ) → pass p ms ≡ true → among ms x ≡ true → p x ≡ true
+unfolding pass among
+pass-at p [] x h m = absurd (clash m)
+pass-at p (n ∷ ms) x h m = ⊎-elim (λ k. pass-at p ms x (and-r (p n) _ h) k) (λ k. ap p (sym (eqb-true n x k)) ∙ and-l _ _ h) (or-e (among ms x) (eqb n x) m)
 
-    here : q .ask ≡ n → (firstNo qs ≡ 0) ⊎ (q .ask < firstNo qs) → _≡_ {A = ℕ} 0 (cond (ltb (firstNo qs) n) (firstNo qs) 0)
-    here e (inl z) = by (ltb (firstNo qs) n)
-      where
-        by : (b : Bool) → _≡_ {A = ℕ} 0 (cond b (firstNo qs) 0)
-        by true = sym z
-        by false = refl
-    here e (inr l) = rw (le-ltb (firstNo qs) n (omega arith))
+-- of a read and of a write, 1 to 5 and 16 are asked before 6, and from 6 on no more than 8
+early : ℕ → Bool
+early x = ltb x 6 || eqb x 16
 
-    go : Dec (q .ask ≡ n) → (b : Bool) → q .yes ≡ b → (among (numbers qs) n ≡ true → firstNo (before n qs) ≡ cond (ltb (firstNo qs) n) (firstNo qs) 0)
-        → firstNo (cond (eqb (q .ask) n) [] (q ∷ before n qs)) ≡ cond (ltb (cond (q .yes) (firstNo qs) (q .ask)) n) (cond (q .yes) (firstNo qs) (q .ask)) 0
-    go (yes e) true y more = rw (eq-eqb (q .ask) n e, y) (here e (first-above (q .ask) qs rest))
-    go (yes e) false y more = rw (eq-eqb (q .ask) n e, y, le-ltb (q .ask) n (omega arith))
-    go (no d) true y more = rw (ne-eqb (q .ask) n d, y) (more (later d))
-    go (no d) false y more = rw (ne-eqb (q .ask) n d, y, lt-ltb (q .ask) n (among-above (q .ask) n (numbers qs) rest (later d)))
+late : ℕ → Bool
+late x = ltb 5 x && ltb x 9
 
--- the numbers put to a read and to a write do, and 6 is among them
-in-order : (k : Call) (kind : Kind) (c r : ℕ) (bytes : List ℕ) → Counting k kind c r bytes → (risesFrom 0 (λ x. x) (numbersPut k) ≡ true) × (among (numbersPut k) 6 ≡ true)
-unfolding numbersPut risesFrom among
-in-order k kind c r bytes ofRead = (refl, refl)
-in-order k kind c r bytes ofWrite = (refl, refl)
+in-order : (k : Call) (kind : Kind) (q c r : ℕ) (bytes : List ℕ) → Counting k kind q c r bytes → (pass early (until 6 (numbersPut k)) ≡ true) × (pass late (onward 6 (numbersPut k)) ≡ true)
+unfolding numbersPut pass early late until onward
+in-order k kind q c r bytes ofRead = (refl, refl)
+in-order k kind q c r bytes ofWrite = (refl, refl)
 
 -- ---- what is noted
-notes : (t : List ℕ) (k : Call) (kind : Kind) (c r : ℕ) (bytes : List ℕ) → Counting k kind c r bytes → outcome t k .called ≡ noted bytes (fromSix (questions t k) (calledBy kind t c r))
+notes : (t : List ℕ) (k : Call) (kind : Kind) (q c r : ℕ) (bytes : List ℕ) → Counting k kind q c r bytes → outcome t k .called ≡ noted bytes (fromSix (questions t k) (calledBy kind t q c r))
 unfolding calledAfter
-notes t k kind c r bytes (ofRead {a}) = called-is t (read a)
-notes t k kind c r bytes (ofWrite {a}) = called-is t (write a)
+notes t k kind q c r bytes (ofRead {a}) = called-is t (read a)
+notes t k kind q c r bytes (ofWrite {a}) = called-is t (write a)
 
 -- in a list of one byte
 one-noted : (bytes : List ℕ) (n : ℕ) → length bytes ≡ 1 → noted bytes n ≡ n ∷ []
 unfolding noted
 one-noted bytes n one = rw one
 
-module _ (t : List ℕ) (k : Call) (kind : Kind) (c r : ℕ) (bytes : List ℕ) (x : Counting k kind c r bytes) where
+module _ (t : List ℕ) (k : Call) (kind : Kind) (q c r : ℕ) (bytes : List ℕ) (x : Counting k kind q c r bytes) where
   -- by the order in which the questions are put
-  before-six : firstNo (before 6 (questions t k)) ≡ cond (ltb (outcome t k .refusal) 6) (outcome t k .refusal) 0
-  unfolding PutInOrder
-  before-six =
-      let o = in-order k kind c r bytes x in
-      rw (refusal-is t k) (before-is 0 6 (questions t k) (ap (risesFrom 0 (λ x. x)) (put-in-order t k) ∙ o .0) (ap (λ (ms : List ℕ). among ms 6) (put-in-order t k) ∙ o .1))
+  by-number : ((firstNo (before 6 (questions t k)) ≡ 0) × ((outcome t k .refusal ≡ 0) ⊎ (late (outcome t k .refusal) ≡ true))) ⊎ ((firstNo (before 6 (questions t k)) ≡ outcome t k .refusal) × (early (outcome t k .refusal) ≡ true))
+  unfolding Sides PutInOrder
+  by-number = rw (refusal-is t k) (go (sides 6 (questions t k)))
+    where
+      n : ℕ
+      n = firstNo (questions t k)
 
-  from-six : 6 ≤ outcome t k .refusal → firstNo (before 6 (questions t k)) ≡ 0
-  from-six h = before-six ∙ rw (le-ltb (outcome t k .refusal) 6 h)
+      go : Sides 6 (questions t k) → ((firstNo (before 6 (questions t k)) ≡ 0) × ((n ≡ 0) ⊎ (late n ≡ true))) ⊎ ((firstNo (before 6 (questions t k)) ≡ n) × (early n ≡ true))
+      go (inl s) = inl (s .0, ⊎-elim inl (λ m. inr (pass-at late (onward 6 (numbersPut k)) n (in-order k kind q c r bytes x .1) (rw (put-in-order t k) at m))) (s .1))
+      go (inr s) = inr (s .0, pass-at early (until 6 (numbersPut k)) n (in-order k kind q c r bytes x .0) (rw (put-in-order t k) at (s .1)))
+
+  from-six : Within 8 (outcome t k .refusal) → 6 ≤ outcome t k .refusal → firstNo (before 6 (questions t k)) ≡ 0
+  unfolding early
+  from-six h l = ⊎-elim (λ s. s .0) (λ s. absurd (not-early (or-e (ltb (outcome t k .refusal) 6) _ (s .1)))) by-number
+    where
+      not-early : (ltb (outcome t k .refusal) 6 ≡ true) ⊎ (eqb (outcome t k .refusal) 16 ≡ true) → ⊥
+      not-early (inl e) = omega (arith, ltb-true (outcome t k .refusal) 6 e)
+      not-early (inr e) = omega (arith, eqb-true (outcome t k .refusal) 16 e)
 
   module _ (one : length bytes ≡ 1) where
-    note-early : Within 5 (outcome t k .refusal) → outcome t k .called ≡ 0 ∷ []
+    -- refused before 6
+    note-early : 1 ≤ outcome t k .refusal → (late (outcome t k .refusal) ≡ true → ⊥) → outcome t k .called ≡ 0 ∷ []
     unfolding fromSix
-    note-early h =
-        let e : firstNo (before 6 (questions t k)) ≡ outcome t k .refusal = before-six ∙ rw (lt-ltb (outcome t k .refusal) 6 (omega arith)) in
-        notes t k kind c r bytes x ∙ one-noted bytes _ one ∙ rw (ne-eqb (firstNo (before 6 (questions t k))) 0 (λ z. omega arith))
+    note-early h d =
+        let e : firstNo (before 6 (questions t k)) ≡ outcome t k .refusal = ⊎-elim (λ s. absurd (⊎-elim (λ z. omega arith) d (s .1))) (λ s. s .0) by-number in
+        notes t k kind q c r bytes x ∙ one-noted bytes _ one ∙ rw (ne-eqb (firstNo (before 6 (questions t k))) 0 (λ z. omega arith))
 
-    note-late : 6 ≤ outcome t k .refusal → outcome t k .called ≡ calledBy kind t c r ∷ []
+    note-late : Within 8 (outcome t k .refusal) → 6 ≤ outcome t k .refusal → outcome t k .called ≡ calledBy kind t q c r ∷ []
     unfolding fromSix
-    note-late h = notes t k kind c r bytes x ∙ one-noted bytes _ one ∙ rw (eq-eqb (firstNo (before 6 (questions t k))) 0 (from-six h))
+    note-late h l = notes t k kind q c r bytes x ∙ one-noted bytes _ one ∙ rw (eq-eqb (firstNo (before 6 (questions t k))) 0 (from-six h l))
 
 -- ---- a call refused by 6 or 7 went on to R
 -- where it stays with P, both are yes
-stays-yes : (kind : Kind) (t : List ℕ) (c r : ℕ) → stays kind (orderOf t) (answers t r) c (nameOf t c) (has r) ≡ true
-    → (quorumHeld kind (orderOf t) (answers t r) (workSet kind t c r) ≡ true) × (current (answers t r) (workSet kind t c r) ≡ true)
+stays-yes : (kind : Kind) (t : List ℕ) (q c r : ℕ) → stays kind (orderOf t) (answers t q r) c (nameOf t c) (has r) ≡ true
+    → (quorumHeld kind (orderOf t) (answers t q r) (workSet kind t q c r) ≡ true) × (current (answers t q r) (workSet kind t q c r) ≡ true)
 unfolding workSet workedOn stays
-stays-yes kind t c r e = rw e (and-l _ _ e, and-r (quorumHeld kind (orderOf t) (answers t r) (ownTry kind (orderOf t) (answers t r) c (nameOf t c) (has r))) _ e)
+stays-yes kind t q c r e = rw e (and-l _ _ e, and-r (quorumHeld kind (orderOf t) (answers t q r) (ownTry kind (orderOf t) (answers t q r) c (nameOf t c) (has r))) _ e)
+
+-- questions 4 and 5 of a read, and of a write
+abbrev readRange : List ℕ → Reading → Question
+readRange t a = record { ask = 4; yes = inFile t (a .offset) (a .count) }
+
+abbrev readLent : Reading → Question
+readLent a = record { ask = 5; yes = eqb (length (a .buffer)) (a .count) && eqb (length (a .called)) 1 }
+
+abbrev writeRange : List ℕ → Writing → Question
+writeRange t a = record { ask = 4; yes = inFile t (a .offset) (length (a .patch)) }
+
+abbrev writeLent : Writing → Question
+writeLent a = record { ask = 5; yes = eqb (length (a .called)) 1 }
 
 -- and then it is refused by neither
-stays-passes : (t : List ℕ) (k : Call) (kind : Kind) (c r : ℕ) (bytes : List ℕ) → Counting k kind c r bytes → firstNo (before 6 (questions t k)) ≡ 0
-    → stays kind (orderOf t) (answers t r) c (nameOf t c) (has r) ≡ true → (outcome t k .refusal ≡ 0) ⊎ (outcome t k .refusal ≡ 8)
+stays-passes : (t : List ℕ) (k : Call) (kind : Kind) (q c r : ℕ) (bytes : List ℕ) → Counting k kind q c r bytes → firstNo (before 6 (questions t k)) ≡ 0
+    → stays kind (orderOf t) (answers t q r) c (nameOf t c) (has r) ≡ true → (outcome t k .refusal ≡ 0) ⊎ (outcome t k .refusal ≡ 8)
 unfolding questions before firstNo
-stays-passes t k kind c r bytes (ofRead {a}) h e =
-    let y = stays-yes Read t (a .c) (a .r) e in
+stays-passes t k kind q c r bytes (ofRead {a}) h e =
+    let y = stays-yes Read t (a .file) (a .c) (a .r) e in
     let x = early-passed t (a .c) (a .r) _ 6 (omega arith) h in
-    let d = yes-first 3 (inFile t (a .offset) (a .count)) (record { ask = 5; yes = eqb (length (a .buffer)) (a .count) && eqb (length (a .called)) 1 } ∷ []) (x .1) in
-    let f = yes-first 4 (eqb (length (a .buffer)) (a .count) && eqb (length (a .called)) 1) [] (d .1) in
-    inl (refusal-is t (read a) ∙ x .2 ∙ rw (d .0, f .0, y .0, y .1))
-stays-passes t k kind c r bytes (ofWrite {a}) h e =
-    let y = stays-yes Write t (a .c) (a .r) e in
+    let g = yes-first 15 (inGroup t (a .file)) (readRange t a ∷ readLent a ∷ []) (x .1) in
+    let d = yes-first 3 (readRange t a .yes) (readLent a ∷ []) (g .1) in
+    let f = yes-first 4 (readLent a .yes) [] (d .1) in
+    inl (refusal-is t (read a) ∙ x .2 ∙ rw (g .0, d .0, f .0, y .0, y .1))
+stays-passes t k kind q c r bytes (ofWrite {a}) h e =
+    let y = stays-yes Write t (a .file) (a .c) (a .r) e in
     let x = early-passed t (a .c) (a .r) _ 6 (omega arith) h in
-    let d = yes-first 3 (inFile t (a .offset) (length (a .patch))) (record { ask = 5; yes = eqb (length (a .called)) 1 } ∷ []) (x .1) in
-    let f = yes-first 4 (eqb (length (a .called)) 1) [] (d .1) in
-    go (ltb (goodVersion (answers t (a .r)) (workSet Write t (a .c) (a .r))) limit) (refusal-is t (write a) ∙ x .2 ∙ rw (d .0, f .0, y .0, y .1))
+    let g = yes-first 15 (inGroup t (a .file)) (writeRange t a ∷ writeLent a ∷ []) (x .1) in
+    let d = yes-first 3 (writeRange t a .yes) (writeLent a ∷ []) (g .1) in
+    let f = yes-first 4 (writeLent a .yes) [] (d .1) in
+    go (ltb (goodVersion (answers t (a .file) (a .r)) (workSet Write t (a .file) (a .c) (a .r))) limit) (refusal-is t (write a) ∙ x .2 ∙ rw (g .0, d .0, f .0, y .0, y .1))
   where
     go : (b : Bool) → outcome t (write a) .refusal ≡ cond b 0 8 → (outcome t (write a) .refusal ≡ 0) ⊎ (outcome t (write a) .refusal ≡ 8)
     go true q = inl q
     go false q = inr q
 
-module _ (t : List ℕ) (k : Call) (kind : Kind) (c r : ℕ) (bytes : List ℕ) (x : Counting k kind c r bytes) where
-  calls-all : 6 ≤ outcome t k .refusal → outcome t k .refusal ≤ 7 → calledBy kind t c r ≡ usedOf t
+module _ (t : List ℕ) (k : Call) (kind : Kind) (q c r : ℕ) (bytes : List ℕ) (x : Counting k kind q c r bytes) where
+  calls-all : 6 ≤ outcome t k .refusal → outcome t k .refusal ≤ 7 → calledBy kind t q c r ≡ usedOf t
   unfolding calledBy
-  calls-all h g = rw (went-on (stays kind (orderOf t) (answers t r) c (nameOf t c) (has r)) refl)
+  calls-all h g = rw (went-on (stays kind (orderOf t) (answers t q r) c (nameOf t c) (has r)) refl)
     where
-      went-on : (b : Bool) → stays kind (orderOf t) (answers t r) c (nameOf t c) (has r) ≡ b → stays kind (orderOf t) (answers t r) c (nameOf t c) (has r) ≡ false
-      went-on true e = ⊎-elim (λ z. absurd (omega arith)) (λ z. absurd (omega arith)) (stays-passes t k kind c r bytes x (from-six t k kind c r bytes x h) e)
+      went-on : (b : Bool) → stays kind (orderOf t) (answers t q r) c (nameOf t c) (has r) ≡ b → stays kind (orderOf t) (answers t q r) c (nameOf t c) (has r) ≡ false
+      went-on true e = ⊎-elim (λ z. absurd (omega arith)) (λ z. absurd (omega arith)) (stays-passes t k kind q c r bytes x (from-six t k kind q c r bytes x (omega arith) h) e)
       went-on false e = e
 
 pub refused-note : RefusedNote
-unfolding RefusedNote
-refused-note t k kind c r bytes x one =
-    let late = note-late t k kind c r bytes x one in
+unfolding RefusedNote late
+refused-note t k kind q c r bytes x one =
+    let late = note-late t k kind q c r bytes x one in
     record {
-      early = note-early t k kind c r bytes x one;
-      six = λ e. late (omega arith) ∙ ap (λ (n : ℕ). n ∷ []) (calls-all t k kind c r bytes x (omega arith) (omega arith));
-      seven = λ e. late (omega arith) ∙ ap (λ (n : ℕ). n ∷ []) (calls-all t k kind c r bytes x (omega arith) (omega arith));
-      eight = λ e. late (omega arith);
+      early = λ h. note-early t k kind q c r bytes x one (h .0) (λ e. omega (arith, ltb-true 5 (outcome t k .refusal) (and-l _ _ e)));
+      no-file = λ h. note-early t k kind q c r bytes x one (omega arith) (λ e. omega (arith, ltb-true (outcome t k .refusal) 9 (and-r (ltb 5 (outcome t k .refusal)) _ e)));
+      six = λ e. late (omega arith) (omega arith) ∙ ap (λ (n : ℕ). n ∷ []) (calls-all t k kind q c r bytes x (omega arith) (omega arith));
+      seven = λ e. late (omega arith) (omega arith) ∙ ap (λ (n : ℕ). n ∷ []) (calls-all t k kind q c r bytes x (omega arith) (omega arith));
+      eight = λ e. late (omega arith) (omega arith);
     }
 
 -- ---- a list of another length
-five-no : (t : List ℕ) (k : Call) (kind : Kind) (c r : ℕ) (bytes : List ℕ) → Counting k kind c r bytes → (length bytes ≡ 1 → ⊥) → firstNo (before 5 (questions t k)) ≡ 0 → outcome t k .refusal ≡ 5
+five-no : (t : List ℕ) (k : Call) (kind : Kind) (q c r : ℕ) (bytes : List ℕ) → Counting k kind q c r bytes → (length bytes ≡ 1 → ⊥) → firstNo (before 5 (questions t k)) ≡ 0 → outcome t k .refusal ≡ 5
 unfolding questions before firstNo
-five-no t k kind c r bytes (ofRead {a}) other h =
+five-no t k kind q c r bytes (ofRead {a}) other h =
     let x = early-passed t (a .c) (a .r) _ 5 (omega arith) h in
-    let d = yes-first 3 (inFile t (a .offset) (a .count)) [] (x .1) in
-    refusal-is t (read a) ∙ x .2 ∙ rw (d .0, ne-eqb (length (a .called)) 1 other, and-false (eqb (length (a .buffer)) (a .count)))
-five-no t k kind c r bytes (ofWrite {a}) other h =
+    let g = yes-first 15 (inGroup t (a .file)) (readRange t a ∷ []) (x .1) in
+    let d = yes-first 3 (readRange t a .yes) [] (g .1) in
+    refusal-is t (read a) ∙ x .2 ∙ rw (g .0, d .0, ne-eqb (length (a .called)) 1 other, and-false (eqb (length (a .buffer)) (a .count)))
+five-no t k kind q c r bytes (ofWrite {a}) other h =
     let x = early-passed t (a .c) (a .r) _ 5 (omega arith) h in
-    let d = yes-first 3 (inFile t (a .offset) (length (a .patch))) [] (x .1) in
-    refusal-is t (write a) ∙ x .2 ∙ rw (d .0, ne-eqb (length (a .called)) 1 other)
+    let g = yes-first 15 (inGroup t (a .file)) (writeRange t a ∷ []) (x .1) in
+    let d = yes-first 3 (writeRange t a .yes) [] (g .1) in
+    refusal-is t (write a) ∙ x .2 ∙ rw (g .0, d .0, ne-eqb (length (a .called)) 1 other)
 
 pub other-lengths-stay : OtherLengthsStay
 unfolding OtherLengthsStay noted
-other-lengths-stay t k kind c r bytes x other = (notes t k kind c r bytes x ∙ rw (ne-eqb (length bytes) 1 other), five-no t k kind c r bytes x other)
+other-lengths-stay t k kind q c r bytes x other = (notes t k kind q c r bytes x ∙ rw (ne-eqb (length bytes) 1 other), five-no t k kind q c r bytes x other)
 
 -- ---- the other calls
 pub others-note-none : OthersNoteNone

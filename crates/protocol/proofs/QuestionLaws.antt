@@ -7,13 +7,13 @@ use native.Mathlib.Omega.{arith}
 use lib.Dec.{eqb, leb, ltb, eqb·suc-zero}
 use lib.ListN.{length}
 use borrow.Author.Tests.{eqb-true, eqb-false, eq-eqb, ltb-true, leb-true, not-true}
-use Rattle.sets.specs.Upto.{Within, some}
+use Rattle.sets.specs.Upto.{Within, every, some}
 use Rattle.sets.specs.Sets.{has}
 use Rattle.bools.proofs.BoolLaws.{and-l, and-r, clash}
 use Rattle.sets.proofs.UptoLaws.{some-of}
 use Rattle.sets.proofs.SetLaws.{has-within}
 use Rattle.quorums.specs.declared.Kind.the-variants.{Read, Write}
-use Rattle.fields.specs.Layout.{formOf, capacityOf, usedOf, nameOf, fileLengthOf, staleOf, versionOf, desiredOf}
+use Rattle.fields.specs.Layout.{formOf, capacityOf, usedOf, nameOf, fileLengthOf, filesOf, staleOf, versionOf, desiredOf}
 use Rattle.table.specs.Chain.{orderOf}
 use Rattle.table.specs.WellFormed.{between, limit, onlyRows, ownForm, wellFormed}
 use Rattle.table.proofs.FormLaws.{between-is}
@@ -147,10 +147,15 @@ join-yes t a h =
 
 pub record ReadYes (t : List ℕ) (a : Calls.Reading) : Type 0 where
   pub first : ByCoordinator t (a .c) (a .r)
+  pub group : Within (filesOf t) (a .file)
   pub range : (1 ≤ a .count) × (a .offset + a .count ≤ fileLengthOf t)
   pub byte : eqb (length (a .called)) 1 ≡ true
-  pub quorum : quorumHeld Read (orderOf t) (Calls.answers t (a .r)) (Calls.workSet Read t (a .c) (a .r)) ≡ true
-  pub current : current (Calls.answers t (a .r)) (Calls.workSet Read t (a .c) (a .r)) ≡ true
+  pub quorum : quorumHeld Read (orderOf t) (Calls.answers t (a .file) (a .r)) (Calls.workSet Read t (a .file) (a .c) (a .r)) ≡ true
+  pub current : current (Calls.answers t (a .file) (a .r)) (Calls.workSet Read t (a .file) (a .c) (a .r)) ≡ true
+
+pub group-is : (t : List ℕ) (q : ℕ) → Calls.inGroup t q ≡ true → Within (filesOf t) q
+unfolding Calls.inGroup
+group-is t q h = between-is 1 q (filesOf t) h
 
 range-is : (t : List ℕ) (offset count : ℕ) → Calls.inFile t offset count ≡ true → (1 ≤ count) × (offset + count ≤ fileLengthOf t)
 unfolding Calls.inFile
@@ -160,12 +165,14 @@ pub read-yes : (t : List ℕ) (a : Calls.Reading) → firstNo (Calls.questions t
 unfolding Calls.questions
 read-yes t a h =
     let x = passed-first t (a .c) (a .r) _ h in
-    let d = yes-first 3 (Calls.inFile t (a .offset) (a .count)) _ (x .1) in
+    let k = yes-first 15 (Calls.inGroup t (a .file)) _ (x .1) in
+    let d = yes-first 3 (Calls.inFile t (a .offset) (a .count)) _ (k .1) in
     let e = yes-first 4 (eqb (length (a .buffer)) (a .count) && eqb (length (a .called)) 1) _ (d .1) in
-    let q = yes-first 5 (quorumHeld Read (orderOf t) (Calls.answers t (a .r)) (Calls.workSet Read t (a .c) (a .r))) _ (e .1) in
-    let m = yes-first 6 (current (Calls.answers t (a .r)) (Calls.workSet Read t (a .c) (a .r))) _ (q .1) in
+    let q = yes-first 5 (quorumHeld Read (orderOf t) (Calls.answers t (a .file) (a .r)) (Calls.workSet Read t (a .file) (a .c) (a .r))) _ (e .1) in
+    let m = yes-first 6 (current (Calls.answers t (a .file) (a .r)) (Calls.workSet Read t (a .file) (a .c) (a .r))) _ (q .1) in
     record {
       first = x .0;
+      group = group-is t (a .file) (k .0);
       range = range-is t (a .offset) (a .count) (d .0);
       byte = and-r (eqb (length (a .buffer)) (a .count)) _ (e .0);
       quorum = q .0;
@@ -174,23 +181,26 @@ read-yes t a h =
 
 pub record WriteYes (t : List ℕ) (a : Calls.Writing) : Type 0 where
   pub first : ByCoordinator t (a .c) (a .r)
+  pub group : Within (filesOf t) (a .file)
   pub range : (1 ≤ length (a .patch)) × (a .offset + length (a .patch) ≤ fileLengthOf t)
   pub byte : eqb (length (a .called)) 1 ≡ true
-  pub quorum : quorumHeld Write (orderOf t) (Calls.answers t (a .r)) (Calls.workSet Write t (a .c) (a .r)) ≡ true
-  pub current : current (Calls.answers t (a .r)) (Calls.workSet Write t (a .c) (a .r)) ≡ true
-  pub room : goodVersion (Calls.answers t (a .r)) (Calls.workSet Write t (a .c) (a .r)) < limit
+  pub quorum : quorumHeld Write (orderOf t) (Calls.answers t (a .file) (a .r)) (Calls.workSet Write t (a .file) (a .c) (a .r)) ≡ true
+  pub current : current (Calls.answers t (a .file) (a .r)) (Calls.workSet Write t (a .file) (a .c) (a .r)) ≡ true
+  pub room : goodVersion (Calls.answers t (a .file) (a .r)) (Calls.workSet Write t (a .file) (a .c) (a .r)) < limit
 
 pub write-yes : (t : List ℕ) (a : Calls.Writing) → firstNo (Calls.questions t (Calls.write a)) ≡ 0 → WriteYes t a
 unfolding Calls.questions
 write-yes t a h =
     let x = passed-first t (a .c) (a .r) _ h in
-    let d = yes-first 3 (Calls.inFile t (a .offset) (length (a .patch))) _ (x .1) in
+    let k = yes-first 15 (Calls.inGroup t (a .file)) _ (x .1) in
+    let d = yes-first 3 (Calls.inFile t (a .offset) (length (a .patch))) _ (k .1) in
     let e = yes-first 4 (eqb (length (a .called)) 1) _ (d .1) in
-    let q = yes-first 5 (quorumHeld Write (orderOf t) (Calls.answers t (a .r)) (Calls.workSet Write t (a .c) (a .r))) _ (e .1) in
-    let m = yes-first 6 (current (Calls.answers t (a .r)) (Calls.workSet Write t (a .c) (a .r))) _ (q .1) in
-    let l = yes-first 7 (ltb (goodVersion (Calls.answers t (a .r)) (Calls.workSet Write t (a .c) (a .r))) limit) _ (m .1) in
+    let q = yes-first 5 (quorumHeld Write (orderOf t) (Calls.answers t (a .file) (a .r)) (Calls.workSet Write t (a .file) (a .c) (a .r))) _ (e .1) in
+    let m = yes-first 6 (current (Calls.answers t (a .file) (a .r)) (Calls.workSet Write t (a .file) (a .c) (a .r))) _ (q .1) in
+    let l = yes-first 7 (ltb (goodVersion (Calls.answers t (a .file) (a .r)) (Calls.workSet Write t (a .file) (a .c) (a .r))) limit) _ (m .1) in
     record {
       first = x .0;
+      group = group-is t (a .file) (k .0);
       range = range-is t (a .offset) (length (a .patch)) (d .0);
       byte = e .0;
       quorum = q .0;
@@ -204,11 +214,12 @@ pub record SendYes (t : List ℕ) (a : Calls.Sending) : Type 0 where
   pub to-used : Within (usedOf t) (a .t)
   pub rows : a .r < 2 ^ usedOf t
   pub apart : a .f ≡ a .t → ⊥
+  pub group : Within (filesOf t) (a .file)
   pub from-answered : has (a .r) (a .f) ≡ true
   pub to-answered : has (a .r) (a .t) ≡ true
-  pub clean : staleOf t (a .f) ≡ false
-  pub mark : staleOf t (a .t) ≡ true
-  pub enough : desiredOf t (a .t) ≤ versionOf t (a .f)
+  pub clean : staleOf t (a .file) (a .f) ≡ false
+  pub mark : staleOf t (a .file) (a .t) ≡ true
+  pub enough : desiredOf t (a .file) (a .t) ≤ versionOf t (a .file) (a .f)
 
 pub send-yes : (t : List ℕ) (a : Calls.Sending) → firstNo (Calls.questions t (Calls.send a)) ≡ 0 → SendYes t a
 unfolding Calls.questions
@@ -216,8 +227,9 @@ send-yes t a h =
     let x = yes-first 0 (wellFormed t) _ h in
     let b = yes-first 1 (Calls.isUsed t (a .f) && Calls.isUsed t (a .t) && onlyRows (usedOf t) (a .r) && not (eqb (a .f) (a .t))) _ (x .1) in
     let d = yes-first 2 (has (a .r) (a .f) && has (a .r) (a .t)) _ (b .1) in
-    let e = yes-first 8 (not (staleOf t (a .f))) _ (d .1) in
-    let g = yes-first 9 (staleOf t (a .t) && leb (desiredOf t (a .t)) (versionOf t (a .f))) _ (e .1) in
+    let k = yes-first 15 (Calls.inGroup t (a .file)) _ (d .1) in
+    let e = yes-first 8 (not (staleOf t (a .file) (a .f))) _ (k .1) in
+    let g = yes-first 9 (staleOf t (a .file) (a .t) && leb (desiredOf t (a .file) (a .t)) (versionOf t (a .file) (a .f))) _ (e .1) in
     let b1 = and-l (Calls.isUsed t (a .f) && Calls.isUsed t (a .t) && onlyRows (usedOf t) (a .r)) _ (b .0) in
     let b2 = and-l (Calls.isUsed t (a .f) && Calls.isUsed t (a .t)) _ b1 in
     record {
@@ -226,26 +238,27 @@ send-yes t a h =
       to-used = used-is t (a .t) (and-r (Calls.isUsed t (a .f)) _ b2);
       rows = only-is (usedOf t) (a .r) (and-r (Calls.isUsed t (a .f) && Calls.isUsed t (a .t)) _ b1);
       apart = eqb-false (a .f) (a .t) (not-true _ (and-r (Calls.isUsed t (a .f) && Calls.isUsed t (a .t) && onlyRows (usedOf t) (a .r)) _ (b .0)));
+      group = group-is t (a .file) (k .0);
       from-answered = and-l _ _ (d .0);
       to-answered = and-r (has (a .r) (a .f)) _ (d .0);
       clean = not-true _ (e .0);
       mark = and-l _ _ (g .0);
-      enough = leb-true _ _ (and-r (staleOf t (a .t)) _ (g .0));
+      enough = leb-true _ _ (and-r (staleOf t (a .file) (a .t)) _ (g .0));
     }
 
 pub record CheckYes (t : List ℕ) (a : Calls.Checking) : Type 0 where
   pub first : ByCoordinator t (a .c) (a .r)
-  pub quorum : quorumHeld Write (orderOf t) (Calls.answers t (a .r)) (has (a .r)) ≡ true
-  pub current : (eqb (a .r) (inForce (Calls.answers t (a .r)) (has (a .r)) .members) || current (Calls.answers t (a .r)) (has (a .r))) ≡ true
-  pub room : (eqb (a .r) (inForce (Calls.answers t (a .r)) (has (a .r)) .members) || ltb (highestEpoch (Calls.answers t (a .r)) (has (a .r))) limit) ≡ true
+  pub quorum : quorumHeld Write (orderOf t) (Calls.answers t 1 (a .r)) (has (a .r)) ≡ true
+  pub current : (eqb (a .r) (inForce (Calls.answers t 1 (a .r)) (has (a .r)) .members) || every (filesOf t) (λ q. current (Calls.answers t q (a .r)) (has (a .r)))) ≡ true
+  pub room : (eqb (a .r) (inForce (Calls.answers t 1 (a .r)) (has (a .r)) .members) || ltb (highestEpoch (Calls.answers t 1 (a .r)) (has (a .r))) limit) ≡ true
 
 pub check-yes : (t : List ℕ) (a : Calls.Checking) → firstNo (Calls.questions t (Calls.check a)) ≡ 0 → CheckYes t a
 unfolding Calls.questions
 check-yes t a h =
     let x = passed-first t (a .c) (a .r) _ h in
-    let q = yes-first 5 (quorumHeld Write (orderOf t) (Calls.answers t (a .r)) (has (a .r))) _ (x .1) in
-    let m = yes-first 6 (eqb (a .r) (inForce (Calls.answers t (a .r)) (has (a .r)) .members) || current (Calls.answers t (a .r)) (has (a .r))) _ (q .1) in
-    let l = yes-first 7 (eqb (a .r) (inForce (Calls.answers t (a .r)) (has (a .r)) .members) || ltb (highestEpoch (Calls.answers t (a .r)) (has (a .r))) limit) _ (m .1) in
+    let q = yes-first 5 (quorumHeld Write (orderOf t) (Calls.answers t 1 (a .r)) (has (a .r))) _ (x .1) in
+    let m = yes-first 6 (eqb (a .r) (inForce (Calls.answers t 1 (a .r)) (has (a .r)) .members) || every (filesOf t) (λ q. current (Calls.answers t q (a .r)) (has (a .r)))) _ (q .1) in
+    let l = yes-first 7 (eqb (a .r) (inForce (Calls.answers t 1 (a .r)) (has (a .r)) .members) || ltb (highestEpoch (Calls.answers t 1 (a .r)) (has (a .r))) limit) _ (m .1) in
     record { first = x .0; quorum = q .0; current = m .0; room = l .0 }
 
 pub record CarryYes (t : List ℕ) (a : Calls.Carrying) : Type 0 where

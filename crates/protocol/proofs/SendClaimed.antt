@@ -6,9 +6,9 @@ use lib.Dec.{leb}
 use lib.ListN.{length}
 use Rattle.fields.specs.Layout.{get, version}
 use Rattle.window.specs.Windows.{patches, windowOf, sent}
-use Rattle.protocol.specs.Rows.{sentContents, refreshedRow}
+use Rattle.protocol.specs.Rows.{sentContents, refreshedCopy}
 use Rattle.protocol.specs.Claims.{SendsByWindow}
 
 pub sends-by-window : SendsByWindow
-unfolding SendsByWindow refreshedRow sentContents sent
-sends-by-window source other row v w e = rw (← v, ← w, e)
+unfolding SendsByWindow refreshedCopy sentContents sent
+sends-by-window source other copy v w e = rw (← v, ← w, e)

@@ -2,35 +2,36 @@
 use mathlib.Core.Path.{_≡_, refl, sym, _∙_, ap, ap₂, subst₂, fun-ext}
 use mathlib.Core.Bool.{Bool, true, false, not, cond, _&&_}
 use mathlib.Core.List.{List, [], _∷_}
-use Prim.Native.Nat.{ℕ, zero, suc, _+_, _≤_}
+use Prim.Native.Nat.{ℕ, zero, suc, _+_, _-_, _*_, _≤_}
 use native.Mathlib.Nat.{zero-add}
 use native.Mathlib.Omega.{arith}
 use lib.Dec.{eqb, leb, ltb, eqb·suc-zero}
-use lib.ListN.{take}
-use borrow.Author.Tests.{ltb-true}
-use Rattle.sets.specs.Upto.{Within, count, lowest}
+use lib.ListN.{length, take, drop, length-drop}
+use lib.Seq.{drop-drop}
+use borrow.Author.Tests.{eqb-true, ltb-true}
+use Rattle.sets.specs.Upto.{Within, every, count, lowest}
 use Rattle.sets.specs.Sets.{has}
 use Rattle.sets.proofs.SetLaws.{has-within}
 use Rattle.quorums.specs.declared.Kind.{Kind}
 use Rattle.quorums.specs.declared.Kind.the-variants.{Read, Write}
-use Rattle.bytes.specs.Bytes.{number, part}
+use Rattle.bytes.specs.Bytes.{number, part, zeros}
 use Rattle.fields.specs.Layout
-use Rattle.fields.specs.Layout.{isTall, get, mark, version, desired, epoch, list, noList, usedOf, firstOf, fileLengthOf, nameOf, linkOf, staleOf, versionOf, desiredOf, epochOf, listOf, contentsOf, rowBytes}
+use Rattle.fields.specs.Layout.{isTall, get, mark, version, desired, epoch, list, noList, usedOf, firstOf, fileLengthOf, nameOf, linkOf, staleOf, versionOf, desiredOf, epochOf, listOf, contentsOf, filesOf, copyIn, inCopy, copyBytes, rowBytes, rowLength, rowsEnd, formOf, capacityOf}
 use Rattle.linking.specs.Linking.{chain}
 use Rattle.table.specs.Chain.{orderOf}
-use Rattle.table.specs.WellFormed.{between, limit, onlyRows}
-use Rattle.bytes.proofs.ByteLaws.{part-part}
+use Rattle.table.specs.WellFormed.{between, limit, onlyRows, lengthRight, unusedZero}
+use Rattle.bytes.proofs.ByteLaws.{part-part, zeros-are}
 use Rattle.table.proofs.FormLaws.{Formed, formed, header-facts}
 use Rattle.protocol.specs.Lists.{laidNow, listChoice}
 use Rattle.protocol.specs.Polls.{Poll, polled, highestEpoch, inForce, goodVersion, good, current, stays, workedOn}
-use Rattle.protocol.specs.Rows.{wroteRow, checkedRow, refreshedRow}
+use Rattle.protocol.specs.Rows.{checkedRow, refreshedCopy}
 use Rattle.asking.specs.Asking.{Question, firstNo, before}
-use Rattle.protocol.specs.Calls.{Sending, Call, read, write, send, check, byCoordinator, isUsed, inFile, questions, calledBy, noted, fromSix, calledAfter, done, outcome, answers, workSet}
+use Rattle.protocol.specs.Calls.{Sending, Call, read, write, send, check, byCoordinator, isUsed, inFile, inGroup, questions, calledBy, noted, fromSix, calledAfter, done, outcome, answers, workSet}
 use Rattle.protocol.specs.Claims.{Answering, byRead, byWrite, bySend, byCheck, EqualIn, SameFor, UnansweredHaveNoPart}
 use Rattle.table.proofs.TableLaws.{Changed}
 use Rattle.protocol.proofs.PollLaws.{lowest-good, worked-in}
 use Rattle.protocol.proofs.QuestionLaws.{refusal-is, called-is, when-done, when-refused, early-is, early-passed, answered-used, ReadYes, read-yes, WriteYes, write-yes, SendYes, send-yes, CheckYes, check-yes}
-use Rattle.protocol.proofs.DoneLaws.{writeTable, write-rows, sendTable, send-changed, checkTable, check-rows}
+use Rattle.protocol.proofs.DoneLaws.{writing, writeTable, write-rows, sending, sendTable, send-changed, checkList, checking, checkTable, check-rows}
 
 -- chains along links that agree on the used rows
 chain-ext : (n : ℕ) (f g : ℕ → ℕ) → ((i : ℕ) → Within n i → (f i ≡ g i) × (f i ≤ n)) → (m i : ℕ) → i ≤ n → chain f m i ≡ chain g m i
@@ -41,13 +42,13 @@ chain-ext n f g h (suc m) (suc i) l =
     let q = h (suc i) (omega arith) in
     ap (λ (x : List ℕ). suc i ∷ x) (chain-ext n f g h m (f (suc i)) (q .1) ∙ ap (chain g m) (q .0))
 
--- a part of the header is read in the header
-pub head-part : (a n : ℕ) (xs : List ℕ) → a + n ≤ 16 → part a n (take 16 xs) ≡ part a n xs
+-- a part of the first m bytes is read in these, as of the header
+pub first-part : (m a n : ℕ) (xs : List ℕ) → a + n ≤ m → part a n (take m xs) ≡ part a n xs
 unfolding part
-head-part a n xs h = whole ∙ ap (λ (x : ℕ). part x n xs) (zero-add a)
+first-part m a n xs h = whole ∙ ap (λ (x : ℕ). part x n xs) (zero-add a)
   where
-    whole : part a n (take 16 xs) ≡ part (0 + a) n xs
-    whole = part-part 0 16 a n xs h
+    whole : part a n (take m xs) ≡ part (0 + a) n xs
+    whole = part-part 0 m a n xs h
 
 module _ {r : ℕ} {t u : List ℕ} (E : EqualIn r t u) where
   ft : Formed t
@@ -57,7 +58,7 @@ module _ {r : ℕ} {t u : List ℕ} (E : EqualIn r t u) where
   fu = formed u (E .formed-too)
 
   pub header : (a n : ℕ) → a + n ≤ 16 → part a n u ≡ part a n t
-  header a n h = sym (head-part a n u h) ∙ ap (part a n) (sym (E .header)) ∙ head-part a n t h
+  header a n h = sym (first-part 16 a n u h) ∙ ap (part a n) (sym (E .header)) ∙ first-part 16 a n t h
 
   pub get-same : (f : Layout.Field) → f .place + f .width ≤ 16 → get f u ≡ get f t
   unfolding get
@@ -71,6 +72,18 @@ module _ {r : ℕ} {t u : List ℕ} (E : EqualIn r t u) where
   unfolding fileLengthOf Layout.fileLength
   file-same = get-same Layout.fileLength (omega arith)
 
+  pub form-same : formOf u ≡ formOf t
+  unfolding formOf Layout.form
+  form-same = get-same Layout.form (omega arith)
+
+  pub files-same : filesOf u ≡ filesOf t
+  unfolding filesOf Layout.fileCount
+  files-same = rw (form-same, get-same Layout.fileCount (omega arith))
+
+  copy-same : (q i : ℕ) → has r i ≡ true → copyBytes u q i ≡ copyBytes t q i
+  unfolding copyBytes
+  copy-same q i m = ap₂ (λ (l : ℕ) (x : List ℕ). copyIn l q x) file-same (sym (E .rows i m))
+
   pub first-same : firstOf u ≡ firstOf t
   unfolding firstOf Layout.first
   first-same = get-same Layout.first (omega arith)
@@ -83,34 +96,41 @@ module _ {r : ℕ} {t u : List ℕ} (E : EqualIn r t u) where
       ∙ sym (chain-ext (usedOf t) (linkOf t) (linkOf u) (λ i w. (E .links i w, linked i w)) (usedOf t) (firstOf t) (h .first .1))
     where
       linked : (i : ℕ) → Within (usedOf t) i → linkOf t i ≤ usedOf t
-      linked i w = ft .rows i w .linked
+      linked i w = ft .heads i w .linked
 
   -- what the rows of R say is the same
-  poll-same : answers u r ≡ answers t r
+  poll-same : (q : ℕ) → answers u q r ≡ answers t q r
   unfolding answers polled staleOf versionOf desiredOf epochOf listOf
-  poll-same = λ j. record {
+  poll-same q = λ j. record {
     stale = fun-ext (λ i. test i (has r i) refl) j;
     version = fun-ext (λ i. number-at version i (has r i) refl) j;
     desired = fun-ext (λ i. number-at desired i (has r i) refl) j;
-    epoch = fun-ext (λ i. number-at epoch i (has r i) refl) j;
+    epoch = fun-ext (λ i. epoch-at i (has r i) refl) j;
     list = fun-ext (λ i. list-at i (has r i) refl) j;
   }
     where
-      test : (i : ℕ) (b : Bool) → has r i ≡ b → (b && eqb (get mark (rowBytes u i)) 1) ≡ (b && eqb (get mark (rowBytes t i)) 1)
-      test i true m = ap (λ (x : List ℕ). eqb (get mark x) 1) (sym (E .rows i m))
+      test : (i : ℕ) (b : Bool) → has r i ≡ b → (b && eqb (get mark (copyBytes u q i)) 1) ≡ (b && eqb (get mark (copyBytes t q i)) 1)
+      test i true m = ap (λ (x : List ℕ). eqb (get mark x) 1) (copy-same q i m)
       test i false m = refl
 
-      number-at : (f : Layout.Field) (i : ℕ) (b : Bool) → has r i ≡ b → cond b (get f (rowBytes u i)) 0 ≡ cond b (get f (rowBytes t i)) 0
-      number-at f i true m = ap (get f) (sym (E .rows i m))
+      number-at : (f : Layout.Field) (i : ℕ) (b : Bool) → has r i ≡ b → cond b (get f (copyBytes u q i)) 0 ≡ cond b (get f (copyBytes t q i)) 0
+      number-at f i true m = ap (get f) (copy-same q i m)
       number-at f i false m = refl
+
+      epoch-at : (i : ℕ) (b : Bool) → has r i ≡ b → cond b (get epoch (rowBytes u i)) 0 ≡ cond b (get epoch (rowBytes t i)) 0
+      epoch-at i true m = ap (get epoch) (sym (E .rows i m))
+      epoch-at i false m = refl
 
       list-at : (i : ℕ) (b : Bool) → has r i ≡ b → cond b (list (rowBytes u i)) noList ≡ cond b (list (rowBytes t i)) noList
       list-at i true m = ap list (sym (E .rows i m))
       list-at i false m = refl
 
-  work-same : (kind : Kind) (c : ℕ) → has r c ≡ true → workSet kind u c r ≡ workSet kind t c r
+  all-current-same : every (filesOf u) (λ q. current (answers u q r) (has r)) ≡ every (filesOf t) (λ q. current (answers t q r) (has r))
+  all-current-same = ap₂ (λ (n : ℕ) (p : ℕ → Poll). every n (λ q. current (p q) (has r))) files-same (fun-ext poll-same)
+
+  work-same : (kind : Kind) (q c : ℕ) → has r c ≡ true → workSet kind u q c r ≡ workSet kind t q c r
   unfolding workSet nameOf
-  work-same kind c m = rw (order-same, poll-same) (ap (λ (x : List ℕ). workedOn kind (orderOf t) (answers t r) c (get Layout.name x) (has r)) (sym (E .rows c m)))
+  work-same kind q c m = rw (order-same, poll-same q) (ap (λ (x : List ℕ). workedOn kind (orderOf t) (answers t q r) c (get Layout.name x) (has r)) (sym (E .rows c m)))
 
   -- ---- the first no is the same
   first-same-by : (c : ℕ) (qs rs : List Question) → (has r c ≡ true → firstNo qs ≡ firstNo rs) → firstNo (byCoordinator u c r qs) ≡ firstNo (byCoordinator t c r rs)
@@ -123,10 +143,10 @@ module _ {r : ℕ} {t u : List ℕ} (E : EqualIn r t u) where
       go false y m = refl
 
   -- ---- and so is the size of the set called
-  called-by-same : (kind : Kind) (c : ℕ) → has r c ≡ true → calledBy kind u c r ≡ calledBy kind t c r
+  called-by-same : (kind : Kind) (q c : ℕ) → has r c ≡ true → calledBy kind u q c r ≡ calledBy kind t q c r
   unfolding calledBy nameOf
-  called-by-same kind c m = rw (order-same, poll-same, used-same) (ap (λ (x : List ℕ). let a = get Layout.name x in
-      cond (stays kind (orderOf t) (answers t r) c a (has r)) (count 64 (listChoice kind (orderOf t) (answers t r .list c) a)) (usedOf t)) (sym (E .rows c m)))
+  called-by-same kind q c m = rw (order-same, poll-same q, used-same) (ap (λ (x : List ℕ). let a = get Layout.name x in
+      cond (stays kind (orderOf t) (answers t q r) c a (has r)) (count 64 (listChoice kind (orderOf t) (answers t q r .list c) a)) (usedOf t)) (sym (E .rows c m)))
 
   from-six-same : (c : ℕ) (qs rs : List Question) (x y : ℕ) → (has r c ≡ true → firstNo (before 6 qs) ≡ firstNo (before 6 rs)) → (has r c ≡ true → x ≡ y)
       → fromSix (byCoordinator u c r qs) x ≡ fromSix (byCoordinator t c r rs) y
@@ -139,14 +159,14 @@ module _ {r : ℕ} {t u : List ℕ} (E : EqualIn r t u) where
       go zero q = g (early-passed t c r rs 6 (omega arith) q .0 .answered)
       go (suc n) q = rw (eqb·suc-zero n)
 
-  row-of : (i : ℕ) → has r i ≡ true → (staleOf u i ≡ staleOf t i) × (versionOf u i ≡ versionOf t i) × (desiredOf u i ≡ desiredOf t i)
+  row-of : (q i : ℕ) → has r i ≡ true → (staleOf u q i ≡ staleOf t q i) × (versionOf u q i ≡ versionOf t q i) × (desiredOf u q i ≡ desiredOf t q i)
   unfolding staleOf versionOf desiredOf
-  row-of i m =
-      let e = sym (E .rows i m) in (ap (λ (x : List ℕ). eqb (get mark x) 1) e, ap (get version) e, ap (get desired) e)
+  row-of q i m =
+      let e = copy-same q i m in (ap (λ (x : List ℕ). eqb (get mark x) 1) e, ap (get version) e, ap (get desired) e)
 
-  work-in : (kind : Kind) (c i : ℕ) → workSet kind t c r i ≡ true → has r i ≡ true
+  work-in : (kind : Kind) (q c i : ℕ) → workSet kind t q c r i ≡ true → has r i ≡ true
   unfolding workSet
-  work-in kind c i m = worked-in kind (orderOf t) (answers t r) c (nameOf t c) (has r) i m
+  work-in kind q c i m = worked-in kind (orderOf t) (answers t q r) c (nameOf t c) (has r) i m
 
   -- ---- refused: the tables are as they were
   refused-same : (k : Call) → (outcome t k .refusal ≡ 0 → ⊥) → (outcome u k .refusal ≡ 0 → ⊥) → outcome u k .refusal ≡ outcome t k .refusal → calledAfter t k ≡ calledAfter u k → SameFor r (outcome t k) (outcome u k)
@@ -171,40 +191,68 @@ module _ {r : ℕ} {t u : List ℕ} (E : EqualIn r t u) where
   changed-as : {u′ : List ℕ} {n : ℕ} {s s′ : ℕ → Bool} {g g′ : ℕ → List ℕ → List ℕ} → s ≡ s′ → g ≡ g′ → Changed u u′ n s g → Changed u u′ n s′ g′
   changed-as {u′} {n} p q c = subst₂ (λ (s : ℕ → Bool) (g : ℕ → List ℕ → List ℕ). Changed u u′ n s g) p q c
 
+-- ---- two tables that are equal in R: behind the used rows
+-- what is the same behind e is so behind any later place
+pub drop-more : (e b : ℕ) (xs ys : List ℕ) → e ≤ b → drop e xs ≡ drop e ys → drop b xs ≡ drop b ys
+drop-more e b xs ys h q =
+    let n : e + (b - e) ≡ b = omega arith in
+    rw (← n) (sym (drop-drop (b - e) e xs) ∙ ap (drop (b - e)) q ∙ drop-drop (b - e) e ys)
+
+module _ {r : ℕ} {t u : List ℕ} (E : EqualIn r t u) where
+  pub widths : rowLength u ≡ rowLength t
+  unfolding rowLength
+  widths = rw (form-same E, files-same E, file-same E)
+
+  pub lengths : length u ≡ length t
+  unfolding lengthRight rowsEnd capacityOf Layout.capacity
+  lengths = eqb-true _ _ (formed u (E .formed-too) .long) ∙ ap₂ (λ (k w : ℕ). 16 + k * w) (get-same E Layout.capacity (omega arith)) widths ∙ sym (eqb-true _ _ (formed t (E .formed) .long))
+
+  pub ends : rowsEnd u (usedOf u) ≡ rowsEnd t (usedOf t)
+  unfolding rowsEnd
+  ends = rw (used-same E, widths)
+
+  -- behind the used rows both are zero
+  pub rest : drop (rowsEnd t (usedOf t)) u ≡ drop (rowsEnd t (usedOf t)) t
+  unfolding unusedZero
+  rest =
+      let e = rowsEnd t (usedOf t) in
+      zeros-are (drop e u) (rw (← ends) (formed u (E .formed-too) .zero)) ∙ ap zeros (length-drop e u ∙ ap (λ (n : ℕ). n - e) lengths ∙ sym (length-drop e t))
+      ∙ sym (zeros-are (drop e t) (formed t (E .formed) .zero))
+
 send-same : (t u : List ℕ) (a : Sending) → EqualIn (a .r) t u → firstNo (questions u (send a)) ≡ firstNo (questions t (send a))
-unfolding questions isUsed firstNo
+unfolding questions isUsed firstNo inGroup
 send-same t u a E =
-    rw (E .formed, E .formed-too, used-same E) (go (between 1 (a .f) (usedOf t) && between 1 (a .t) (usedOf t) && onlyRows (usedOf t) (a .r) && not (eqb (a .f) (a .t))) (has (a .r) (a .f)) refl (has (a .r) (a .t)) refl)
+    rw (E .formed, E .formed-too, used-same E, files-same E) (go (between 1 (a .f) (usedOf t) && between 1 (a .t) (usedOf t) && onlyRows (usedOf t) (a .r) && not (eqb (a .f) (a .t))) (has (a .r) (a .f)) refl (has (a .r) (a .t)) refl)
   where
     go : (x y : Bool) → has (a .r) (a .f) ≡ y → (z : Bool) → has (a .r) (a .t) ≡ z
-        → _≡_ {A = ℕ} (cond x (cond (y && z) (cond (not (staleOf u (a .f))) (cond (staleOf u (a .t) && leb (desiredOf u (a .t)) (versionOf u (a .f))) 0 10) 9) 3) 2)
-        (cond x (cond (y && z) (cond (not (staleOf t (a .f))) (cond (staleOf t (a .t) && leb (desiredOf t (a .t)) (versionOf t (a .f))) 0 10) 9) 3) 2)
-    go true true m true n = rw (row-of E (a .f) m .0, row-of E (a .f) m .1, row-of E (a .t) n .0, row-of E (a .t) n .2)
+        → _≡_ {A = ℕ} (cond x (cond (y && z) (cond (between 1 (a .file) (filesOf t)) (cond (not (staleOf u (a .file) (a .f))) (cond (staleOf u (a .file) (a .t) && leb (desiredOf u (a .file) (a .t)) (versionOf u (a .file) (a .f))) 0 10) 9) 16) 3) 2)
+        (cond x (cond (y && z) (cond (between 1 (a .file) (filesOf t)) (cond (not (staleOf t (a .file) (a .f))) (cond (staleOf t (a .file) (a .t) && leb (desiredOf t (a .file) (a .t)) (versionOf t (a .file) (a .f))) 0 10) 9) 16) 3) 2)
+    go true true m true n = rw (row-of E (a .file) (a .f) m .0, row-of E (a .file) (a .f) m .1, row-of E (a .file) (a .t) n .0, row-of E (a .file) (a .t) n .2)
     go true true m false n = refl
     go true false m z n = refl
     go false y m z n = refl
 
 asks-same : (t u : List ℕ) (k : Call) (r : ℕ) → Answering k r → EqualIn r t u → firstNo (questions u k) ≡ firstNo (questions t k)
-unfolding questions inFile
-asks-same t u (read a) r byRead E = first-same-by E (a .c) _ _ (λ m. rw (work-same E Read (a .c) m, poll-same E, order-same E, file-same E))
-asks-same t u (write a) r byWrite E = first-same-by E (a .c) _ _ (λ m. rw (work-same E Write (a .c) m, poll-same E, order-same E, file-same E))
+unfolding questions inFile inGroup
+asks-same t u (read a) r byRead E = first-same-by E (a .c) _ _ (λ m. rw (work-same E Read (a .file) (a .c) m, poll-same E (a .file), order-same E, file-same E, files-same E))
+asks-same t u (write a) r byWrite E = first-same-by E (a .c) _ _ (λ m. rw (work-same E Write (a .file) (a .c) m, poll-same E (a .file), order-same E, file-same E, files-same E))
 asks-same t u (send a) r bySend E = send-same t u a E
-asks-same t u (check a) r byCheck E = first-same-by E (a .c) _ _ (λ m. rw (poll-same E, order-same E))
+asks-same t u (check a) r byCheck E = first-same-by E (a .c) _ _ (λ m. rw (all-current-same E, poll-same E 1, order-same E))
 
 called-same : (t u : List ℕ) (k : Call) (r : ℕ) → Answering k r → EqualIn r t u → calledAfter t k ≡ calledAfter u k
-unfolding calledAfter questions before inFile
-called-same t u (read a) r byRead E = sym (ap (noted (a .called)) (from-six-same E (a .c) _ _ _ _ (λ m. rw (file-same E)) (called-by-same E Read (a .c))))
-called-same t u (write a) r byWrite E = sym (ap (noted (a .called)) (from-six-same E (a .c) _ _ _ _ (λ m. rw (file-same E)) (called-by-same E Write (a .c))))
+unfolding calledAfter questions before inFile inGroup
+called-same t u (read a) r byRead E = sym (ap (noted (a .called)) (from-six-same E (a .c) _ _ _ _ (λ m. rw (file-same E, files-same E)) (called-by-same E Read (a .file) (a .c))))
+called-same t u (write a) r byWrite E = sym (ap (noted (a .called)) (from-six-same E (a .c) _ _ _ _ (λ m. rw (file-same E, files-same E)) (called-by-same E Write (a .file) (a .c))))
 called-same t u (send a) r bySend E = refl
 called-same t u (check a) r byCheck E = refl
 
 -- ---- done
 done-same : (t u : List ℕ) (k : Call) (r : ℕ) → Answering k r → EqualIn r t u → firstNo (questions t k) ≡ 0 → firstNo (questions u k) ≡ 0 → SameFor r (done t k) (done u k)
-unfolding done writeTable sendTable checkTable contentsOf
+unfolding done writeTable writing sendTable sending checkTable checking checkList contentsOf
 done-same t u (read a) r byRead E ht hu = record {
   refusal = refl;
-  value = rw (work-same E Read (a .c) (y .first .answered), poll-same E);
-  buffer = rw (work-same E Read (a .c) (y .first .answered), poll-same E) (ap (λ (x : List ℕ). part (a .offset) (a .count) (Layout.contents x)) lowest-row);
+  value = rw (work-same E Read (a .file) (a .c) (y .first .answered), poll-same E (a .file));
+  buffer = rw (work-same E Read (a .file) (a .c) (y .first .answered), poll-same E (a .file)) (ap (λ (x : List ℕ). part (a .offset) (a .count) (Layout.contents x)) lowest-row);
   called = called-same t u (read a) r byRead E;
   rows = λ i m. E .rows i m;
 }
@@ -213,13 +261,13 @@ done-same t u (read a) r byRead E ht hu = record {
     y = read-yes t a ht
 
     low : ℕ
-    low = lowest 64 (good (answers t (a .r)) (workSet Read t (a .c) (a .r)))
+    low = lowest 64 (good (answers t (a .file) (a .r)) (workSet Read t (a .file) (a .c) (a .r)))
 
-    lowest-row : rowBytes t low ≡ rowBytes u low
-    lowest-row = E .rows low (work-in E Read (a .c) low (lowest-good (answers t (a .r)) (workSet Read t (a .c) (a .r)) (y .current) .1 .inside))
+    lowest-row : copyBytes t (a .file) low ≡ copyBytes u (a .file) low
+    lowest-row = sym (copy-same E (a .file) low (work-in E Read (a .file) (a .c) low (lowest-good (answers t (a .file) (a .r)) (workSet Read t (a .file) (a .c) (a .r)) (y .current) .1 .inside)))
 done-same t u (write a) r byWrite E ht hu = record {
   refusal = refl;
-  value = rw (work-same E Write (a .c) (y .first .answered), poll-same E);
+  value = rw (work-same E Write (a .file) (a .c) (y .first .answered), poll-same E (a .file));
   buffer = refl;
   called = called-same t u (write a) r byWrite E;
   rows = λ i m. changed-same E (write-rows t a y) alike i (answered-used t (a .c) (a .r) [] (y .first) i m) m;
@@ -228,12 +276,11 @@ done-same t u (write a) r byWrite E ht hu = record {
     y : WriteYes t a
     y = write-yes t a ht
 
-    alike : Changed u (done u (write a) .table) (usedOf u) (workSet Write t (a .c) (a .r))
-        (wroteRow (good (answers t (a .r)) (workSet Write t (a .c) (a .r))) (goodVersion (answers t (a .r)) (workSet Write t (a .c) (a .r)) + 1) (a .offset) (a .patch))
-    alike = changed-as E (work-same E Write (a .c) (y .first .answered)) (rw (work-same E Write (a .c) (y .first .answered), poll-same E)) (write-rows u a (write-yes u a hu))
+    alike : Changed u (done u (write a) .table) (usedOf u) (workSet Write t (a .file) (a .c) (a .r)) (λ i. inCopy (fileLengthOf t) (a .file) (writing t a y i))
+    alike = changed-as E (work-same E Write (a .file) (a .c) (y .first .answered)) (rw (work-same E Write (a .file) (a .c) (y .first .answered), poll-same E (a .file), file-same E)) (write-rows u a (write-yes u a hu))
 done-same t u (send a) r bySend E ht hu = record {
   refusal = refl;
-  value = sym (row-of E (a .f) (y .from-answered) .1);
+  value = sym (row-of E (a .file) (a .f) (y .from-answered) .1);
   buffer = refl;
   called = called-same t u (send a) r bySend E;
   rows = λ i m. changed-same E (send-changed t a y) alike i (has-within (usedOf t) (a .r) i (y .rows) m) m;
@@ -242,9 +289,9 @@ done-same t u (send a) r bySend E ht hu = record {
     y : SendYes t a
     y = send-yes t a ht
 
-    alike : Changed u (done u (send a) .table) (usedOf u) (eqb (a .t)) (λ i. refreshedRow (rowBytes t (a .f)))
-    alike = changed-as E refl (ap (λ (x : List ℕ). λ (i : ℕ). refreshedRow x) (sym (E .rows (a .f) (y .from-answered)))) (send-changed u a (send-yes u a hu))
-done-same t u (check a) r byCheck E ht hu = go (eqb (a .r) (inForce (answers t (a .r)) (has (a .r)) .members)) refl
+    alike : Changed u (done u (send a) .table) (usedOf u) (eqb (a .t)) (λ i. inCopy (fileLengthOf t) (a .file) (refreshedCopy (copyBytes t (a .file) (a .f))))
+    alike = changed-as E refl (ap₂ (λ (l : ℕ) (x : List ℕ). λ (i : ℕ). inCopy l (a .file) (refreshedCopy x)) (file-same E) (copy-same E (a .file) (a .f) (y .from-answered))) (send-changed u a (send-yes u a hu))
+done-same t u (check a) r byCheck E ht hu = go (eqb (a .r) (inForce (answers t 1 (a .r)) (has (a .r)) .members)) refl
   where
     y : CheckYes t a
     y = check-yes t a ht
@@ -252,21 +299,27 @@ done-same t u (check a) r byCheck E ht hu = go (eqb (a .r) (inForce (answers t (
     z : CheckYes u a
     z = check-yes u a hu
 
-    same-u : (b : Bool) → eqb (a .r) (inForce (answers t (a .r)) (has (a .r)) .members) ≡ b → eqb (a .r) (inForce (answers u (a .r)) (has (a .r)) .members) ≡ b
-    same-u b q = ap (λ (p : Poll). eqb (a .r) (inForce p (has (a .r)) .members)) (poll-same E) ∙ q
+    same-u : (b : Bool) → eqb (a .r) (inForce (answers t 1 (a .r)) (has (a .r)) .members) ≡ b → eqb (a .r) (inForce (answers u 1 (a .r)) (has (a .r)) .members) ≡ b
+    same-u b q = ap (λ (p : Poll). eqb (a .r) (inForce p (has (a .r)) .members)) (poll-same E 1) ∙ q
 
-    go : (b : Bool) → eqb (a .r) (inForce (answers t (a .r)) (has (a .r)) .members) ≡ b → SameFor (a .r) (done t (check a)) (done u (check a))
-    go true q = rw (q, same-u true q) (record { refusal = refl; value = ap (λ (p : Poll). highestEpoch p (has (a .r))) (sym (poll-same E)); buffer = refl; called = called-same t u (check a) r byCheck E; rows = λ i m. E .rows i m })
+    -- what a row becomes, by the number of files, their length and the polls
+    by : ℕ → ℕ → (ℕ → Poll) → ℕ → List ℕ → List ℕ
+    by n l p = checkedRow n l (λ q. good (p q) (has (a .r))) (λ q. goodVersion (p q) (has (a .r))) (highestEpoch (p 1) (has (a .r)) + 1) (laidNow (isTall (inForce (p 1) (has (a .r)))) (a .r))
+
+    by-same : by (filesOf u) (fileLengthOf u) (λ q. answers u q (a .r)) ≡ by (filesOf t) (fileLengthOf t) (λ q. answers t q (a .r))
+    by-same = ap₂ (λ (n l : ℕ). by n l (λ q. answers u q (a .r))) (files-same E) (file-same E) ∙ ap (by (filesOf t) (fileLengthOf t)) (fun-ext (poll-same E))
+
+    go : (b : Bool) → eqb (a .r) (inForce (answers t 1 (a .r)) (has (a .r)) .members) ≡ b → SameFor (a .r) (done t (check a)) (done u (check a))
+    go true q = rw (q, same-u true q) (record { refusal = refl; value = ap (λ (p : Poll). highestEpoch p (has (a .r))) (sym (poll-same E 1)); buffer = refl; called = called-same t u (check a) r byCheck E; rows = λ i m. E .rows i m })
     go false q =
-        let room : ltb (highestEpoch (answers t (a .r)) (has (a .r))) limit ≡ true = rw q at (y .room) in
-        let room-u : ltb (highestEpoch (answers u (a .r)) (has (a .r))) limit ≡ true = rw (same-u false q) at (z .room) in
+        let room : ltb (highestEpoch (answers t 1 (a .r)) (has (a .r))) limit ≡ true = rw q at (y .room) in
+        let room-u : ltb (highestEpoch (answers u 1 (a .r)) (has (a .r))) limit ≡ true = rw (same-u false q) at (z .room) in
         rw (q, same-u false q) (record {
           refusal = refl;
-          value = ap (λ (p : Poll). highestEpoch p (has (a .r)) + 1) (sym (poll-same E));
+          value = ap (λ (p : Poll). highestEpoch p (has (a .r)) + 1) (sym (poll-same E 1));
           buffer = refl;
           called = called-same t u (check a) r byCheck E;
-          rows = λ i m. changed-same E (check-rows t a y (ltb-true _ _ room))
-              (changed-as E refl (ap (λ (p : Poll). checkedRow (good p (has (a .r))) (goodVersion p (has (a .r))) (highestEpoch p (has (a .r)) + 1) (laidNow (isTall (inForce p (has (a .r)))) (a .r))) (poll-same E)) (check-rows u a z (ltb-true _ _ room-u)))
+          rows = λ i m. changed-same E (check-rows t a y (ltb-true _ _ room)) (changed-as E refl by-same (check-rows u a z (ltb-true _ _ room-u)))
               i (answered-used t (a .c) (a .r) [] (y .first) i m) m;
         })
 

@@ -287,8 +287,8 @@ done t (check a) =
     let p = answers t 1 (a .r) in
     let e = highestEpoch p (has (a .r)) in
     let same = eqb (a .r) (inForce p (has (a .r)) .members) in
-    let goods = λ q. good (answers t q (a .r)) (has (a .r)) in
-    let versions = λ q. goodVersion (answers t q (a .r)) (has (a .r)) in
+    let goods : ℕ → ℕ → Bool = λ q. good (answers t q (a .r)) (has (a .r)) in
+    let versions : ℕ → ℕ = λ q. goodVersion (answers t q (a .r)) (has (a .r)) in
     leaves t (check a) 0 (cond same e (e + 1))
     (cond same t
     (withRows t (has (a .r)) (checkedRow (filesOf t) (fileLengthOf t) goods versions (e + 1) (laidNow (isTall (inForce p (has (a .r)))) (a .r))) (usedOf t)))
