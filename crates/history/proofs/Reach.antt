@@ -5,9 +5,9 @@ use mathlib.Core.List.{List, [], _∷_}
 use Prim.Native.Nat.{ℕ, zero, suc, _+_, _*_, _<_, _≤_}
 use native.Mathlib.Decide.{ℕ-discrete}
 use native.Mathlib.Omega.{arith}
-use lib.Dec.{eqb}
+use lib.Dec.{eqb, leb}
 use lib.ListN.{length, replicate}
-use borrow.Author.Tests.{eq-eqb, lt-ltb}
+use borrow.Author.Tests.{eq-eqb, lt-ltb, le-leb}
 use Rattle.sets.specs.Upto.{Within, every}
 use Rattle.linking.specs.Linking.{inserted, byName}
 use Rattle.sets.specs.Sets.{has, cutTo}
@@ -16,7 +16,7 @@ use Rattle.sets.proofs.UptoLaws.{every-at, every-of, some-at, some-of}
 use Rattle.sets.proofs.SetLaws.{has-within}
 use Rattle.quorums.specs.declared.Kind.the-variants.{Write}
 use Rattle.bytes.proofs.ByteLaws.{length-put, length-zeros}
-use Rattle.fields.specs.Layout.{stride, usedOf, fileLengthOf}
+use Rattle.fields.specs.Layout.{stride, usedOf, filesOf, fileLengthOf}
 use Rattle.table.specs.Chain.{orderOf}
 use Rattle.table.specs.WellFormed.{between, limit, onlyRows}
 use Rattle.table.proofs.FormLaws.{well-formed-of}
@@ -24,7 +24,7 @@ use Rattle.protocol.specs.Lists.{laidNow, listChoice}
 use Rattle.protocol.specs.Polls.{goodVersion, current, quorumHeld}
 use Rattle.asking.specs.Asking.{firstNo, before}
 use Rattle.bytes.specs.Bytes.{zeros}
-use Rattle.protocol.specs.Calls.{Founding, Writing, founding, write, isUsed, inFile, byCoordinator, questions, outcome, answers, workSet, namesIn, namesRising, foundedList}
+use Rattle.protocol.specs.Calls.{Founding, Writing, founding, write, isUsed, inFile, inGroup, byCoordinator, questions, outcome, answers, workSet, namesIn, namesRising, foundedList}
 use Rattle.protocol.proofs.ListLaws.{one-holds}
 use Rattle.protocol.proofs.PollLaws.{cut-in}
 use Rattle.protocol.proofs.QuestionLaws.{refusal-is, ByCoordinator}
@@ -32,12 +32,12 @@ use Rattle.history.specs.Book.{Book, opened, order, nameIn, hasAll, hold
 use Rattle.history.specs.Demand3.{verdict}
 use Rattle.history.specs.Claims.{tableAfter, bookAfter, Reached, after, aWrite, BelowTheLimit, AtTheLimit, WithWrites, LimitReached}
 use Rattle.history.proofs.State.{State, six-is, seven-is}
-use Rattle.history.proofs.Answers.{version-now, passed-seven}
+use Rattle.history.proofs.Answers.{version-now, passed-seven, Group, first-file}
 use Rattle.history.proofs.Theorems.{next, opens, reached, below-the-limit, at-the-limit}
 
 -- the machine writes the only byte of its file
 unfoldable again : Writing
-again = record { c = 1; r = 1; offset = 0; patch = 7 ∷ []; called = 0 ∷ [] }
+again = record { c = 1; r = 1; offset = 0; patch = 7 ∷ []; called = 0 ∷ []; file = 1 }
 
 -- the book of a file of one byte on one machine
 record Lone (b : Book) : Type 0 where
@@ -72,7 +72,7 @@ module _ (b : Book) (L : Lone b) where
       go false h = refl
 
   -- the book after it
-  more : Lone (entered b (write again) true)
+  more : Lone (entered 1 b (write again) true)
   unfolding again entered written hasAll
   more = record {
     names = L .names;
@@ -86,7 +86,7 @@ module _ (b : Book) (L : Lone b) where
       has-it k w (no d) = or-l _ _ (every-at (b .writes) (b .hasWrite 1) (L .all) k (omega arith))
 
   -- ---- on its table
-  module _ (t : List ℕ) (e : ℕ) (S : State t b e) where
+  module _ (t : List ℕ) (e : ℕ) (S : State 1 t b e) where
     by-one : ByCoordinator t 1 1
     unfolding has
     by-one =
@@ -95,65 +95,67 @@ module _ (b : Book) (L : Lone b) where
 
     -- it passes 1 to 5, and 6 and 7 too
     passes-all : (firstNo (before 6 (questions t (write again))) ≡ 0) × (firstNo (before 8 (questions t (write again))) ≡ 0)
-    unfolding again questions before byCoordinator firstNo isUsed between onlyRows inFile has
+    unfolding again questions before byCoordinator firstNo isUsed between onlyRows inFile inGroup has
     passes-all =
         let u : usedOf t ≡ 1 = S .used ∙ ap length (L .names) in
         let f : fileLengthOf t ≡ 1 = sym (S .file) ∙ L .file in
-        let six : quorumHeld Write (orderOf t) (answers t 1) (workSet Write t 1 1) ≡ true = six-is t b e S 1 Write 1 by-one ∙ holds in
-        let cur : current (answers t 1) (workSet Write t 1 1) ≡ true = seven-is t b e S 1 Write 1 by-one holds ∙ someone in
-        rw (well-formed-of t (S .formed), u, f, six, cur) (refl, refl)
+        let six : quorumHeld Write (orderOf t) (answers t 1 1) (workSet Write t 1 1 1) ≡ true = six-is 1 t b e S 1 Write 1 by-one ∙ holds in
+        let cur : current (answers t 1 1) (workSet Write t 1 1 1) ≡ true = seven-is 1 t b e S 1 Write 1 by-one holds ∙ someone in
+        let g : leb 1 (filesOf t) ≡ true = le-leb 1 (filesOf t) (S .group .1) in
+        rw (well-formed-of t (S .formed), u, f, g, six, cur) (refl, refl)
 
     is-done : b .writes < 1_000_000 → outcome t (write again) .refusal ≡ 0
     unfolding again firstNo limit
     is-done l =
-        let a = passed-seven t b e S again (passes-all .1) in
-        refusal-is t (write again) ∙ a .3 ∙ rw (lt-ltb (goodVersion (answers t 1) (workSet Write t 1 1)) limit (omega (arith, version-now t b e S Write 1 1 (a .0) (a .1) (a .2))))
+        let a = passed-seven t b e again (passes-all .1) in
+        refusal-is t (write again) ∙ a .3 ∙ rw (lt-ltb (goodVersion (answers t 1 1) (workSet Write t 1 1 1)) limit (omega (arith, version-now 1 t b e S Write 1 1 (a .0) (a .1) (a .2))))
 
 -- one machine, named 10, and a file of one byte
 unfoldable alone : Founding
-alone = record { capacity = 1; fileLength = 1; names = 10 ∷ 0 ∷ []; choice = 0 }
+alone = record { capacity = 1; fileLength = 1; names = 10 ∷ 0 ∷ []; choice = 0; files = 1 }
 
 blank : List ℕ
-blank = zeros (16 + stride 1)
+blank = zeros (16 + stride 1 1)
 
 founds : outcome blank (founding alone) .refusal ≡ 0
 unfolding alone blank questions firstNo namesIn namesRising between
-founds = refusal-is blank (founding alone) ∙ rw (eq-eqb (length (zeros (16 + stride 1))) (16 + 1 * stride 1) (length-zeros (16 + stride 1) ∙ omega arith))
+founds = refusal-is blank (founding alone) ∙ rw (eq-eqb (length (zeros (16 + stride 1 1))) (16 + 1 * stride 1 1) (length-zeros (16 + stride 1 1) ∙ omega arith))
 
 first : Lone (opened alone)
 unfolding alone opened foundedList namesIn zeros hasAll every
 first = record { names = refl; list = refl; file = refl; all = refl }
 
 -- m writes more
-many : (m : ℕ) (t : List ℕ) (b : Book) (e : ℕ) → State t b e → Lone b → b .writes + m ≤ 1_000_000
-    → let c = bookAfter t b (replicate m (write again)) in (c .writes ≡ b .writes + m) × Lone c
+many : (m : ℕ) (t : List ℕ) (b : ℕ → Book) (e : ℕ) → Group t b e → Lone (b 1) → b 1 .writes + m ≤ 1_000_000
+    → let c = bookAfter 1 t (b 1) (replicate m (write again)) in (c .writes ≡ b 1 .writes + m) × Lone c
 unfolding again tableAfter bookAfter entered written
-many zero t b e S L h = (omega arith, L)
-many (suc m) t b e S L h =
-    let d : outcome t (write again) .refusal ≡ 0 = is-done b L t e S (omega arith) in
-    let n = next t b e S (write again) in
-    let S′ : State (outcome t (write again) .table) (entered b (write again) true) (n .0) = rw d at (n .1) in
-    let r = many m (outcome t (write again) .table) (entered b (write again) true) (n .0) S′ (more b L) (omega arith) in
-    subst (λ (x : ℕ). let c = bookAfter (outcome t (write again) .table) (entered b (write again) (eqb x 0)) (replicate m (write again)) in (c .writes ≡ b .writes + suc m) × Lone c)
+many zero t b e G L h = (omega arith, L)
+many (suc m) t b e G L h =
+    let d : outcome t (write again) .refusal ≡ 0 = is-done (b 1) L t e (first-file G) (omega arith) in
+    let n = next t b e G (write again) in
+    let G′ : Group (outcome t (write again) .table) (λ q. entered q (b q) (write again) true) (n .0) = rw d at (n .1) in
+    let r = many m (outcome t (write again) .table) (λ q. entered q (b q) (write again) true) (n .0) G′ (more (b 1) L) (omega arith) in
+    subst (λ (x : ℕ). let c = bookAfter 1 (outcome t (write again) .table) (entered 1 (b 1) (write again) (eqb x 0)) (replicate m (write again)) in (c .writes ≡ b 1 .writes + suc m) × Lone c)
     (sym d) (r .0 ∙ omega arith, r .1)
 
 -- n writes, and then one more, whose answer is known of every such history
-reach : (n x : ℕ) → n ≤ 1_000_000 → ((t : List ℕ) (b : Book) → Reached t b → b .writes ≡ n → Lone b → outcome t (write again) .refusal ≡ x) → WithWrites n x
+reach : (n x : ℕ) → n ≤ 1_000_000 → ((t : List ℕ) (b : ℕ → Book) → Reached t b → b 1 .writes ≡ n → Lone (b 1) → outcome t (write again) .refusal ≡ x) → WithWrites n x
 unfolding again opened
 reach n x h answer =
-    let r = many n (outcome blank (founding alone) .table) (opened alone) 0 (opens blank alone founds) first (omega arith) in
-    let w : bookAfter (outcome blank (founding alone) .table) (opened alone) (replicate n (write again)) .writes ≡ n = r .0 ∙ omega arith in
+    let r = many n (outcome blank (founding alone) .table) (λ q. opened alone) 0 (opens blank alone founds) first (omega arith) in
+    let w : bookAfter 1 (outcome blank (founding alone) .table) (opened alone) (replicate n (write again)) .writes ≡ n = r .0 ∙ omega arith in
     let R = after blank alone (replicate n (write again)) founds in
     let l = reached _ _ R in
     record {
       table = _;
-      book = _;
+      books = _;
       reached = R;
+      file = 1;
       writes = w;
       call = write again;
       rows = 1;
       asks = aWrite;
-      passes = passes-all _ (r .1) _ (l .0) (l .1) .1;
+      passes = passes-all _ (r .1) _ (l .0) (first-file (l .1)) .1;
       answer = answer _ _ R w (r .1);
     }
 
@@ -161,6 +163,6 @@ reach n x h answer =
 pub limit-reached : LimitReached
 unfolding LimitReached BelowTheLimit AtTheLimit again verdict
 limit-reached = (
-  reach 999_999 0 (omega arith) (λ t b R w L. let l = reached t b R in below-the-limit t b R w (write again) Write 1 aWrite (passes-all b L t (l .0) (l .1) .0) ∙ rw (holds b L, someone b L)),
-  reach 1_000_000 8 (omega arith) (λ t b R w L. let l = reached t b R in at-the-limit t b R w .writes (write again) 1 aWrite (passes-all b L t (l .0) (l .1) .1)),
+  reach 999_999 0 (omega arith) (λ t b R w L. let l = reached t b R in below-the-limit t b R (write again) Write 1 1 aWrite w (passes-all (b 1) L t (l .0) (first-file (l .1)) .0) ∙ rw (holds (b 1) L, someone (b 1) L)),
+  reach 1_000_000 8 (omega arith) (λ t b R w L. let l = reached t b R in at-the-limit t b R 1 w .writes (write again) 1 aWrite (passes-all (b 1) L t (l .0) (first-file (l .1)) .1)),
 )

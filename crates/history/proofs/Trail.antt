@@ -1,4 +1,4 @@
--- What the rows keep goes by their versions: contents and window of a row of version v are those that v writes leave.
+-- What the rows keep of a file goes by their versions of it: contents and window of a row of version v are those that v writes leave.
 use mathlib.Core.Path.{_≡_, refl, sym, _∙_, ap, ap₂}
 use mathlib.Core.Bool.{Bool, true, false, cond}
 use mathlib.Core.Logic.{_⊎_, ⊎-elim}
@@ -9,7 +9,7 @@ use lib.Dec.{leb}
 use lib.ListN.{length}
 use borrow.Author.Tests.{le-leb, lt-leb}
 use Rattle.sets.specs.Upto.{Within}
-use Rattle.fields.specs.Layout.{get, version, contents, rowBytes, usedOf, fileLengthOf, versionOf, contentsOf}
+use Rattle.fields.specs.Layout.{get, version, contents, copyBytes, usedOf, fileLengthOf, versionOf, contentsOf}
 use Rattle.bytes.specs.Bytes.{put, zeros}
 use Rattle.window.specs.Windows.{Window, Patch, Kept, windowOf, emptied, added, patched, sent}
 use Rattle.window.specs.Claims.{Fits, Grown}
@@ -18,52 +18,52 @@ use Rattle.protocol.specs.Rows.{sentContents}
 use Rattle.history.specs.Claims.{keptOf}
 
 -- what a row of each version keeps after so many writes, and that each row keeps what its version says
-pub record Trail (t : List ℕ) (writes : ℕ) : Type 0 where
+pub record Trail (q : ℕ) (t : List ℕ) (writes : ℕ) : Type 0 where
   pub kept : ℕ → Kept
   pub grown : Grown (fileLengthOf t) writes kept
-  pub held : (i : ℕ) → Within (usedOf t) i → keptOf t i ≡ kept (versionOf t i)
+  pub held : (i : ℕ) → Within (usedOf t) i → keptOf t q i ≡ kept (versionOf t q i)
 
 kept-is : (k l : Kept) → k .contents ≡ l .contents → k .window ≡ l .window → k ≡ l
-kept-is k l e q = λ i. record { contents = e i; window = q i }
+kept-is k l e z = λ i. record { contents = e i; window = z i }
 
 -- row i of u keeps what row i of t does, at the same version
-pub record SameKept (t u : List ℕ) (i : ℕ) : Type 0 where
-  pub version : versionOf u i ≡ versionOf t i
-  pub contents : contentsOf u i ≡ contentsOf t i
-  pub window : windowOf (rowBytes u i) ≡ windowOf (rowBytes t i)
+pub record SameKept (q : ℕ) (t u : List ℕ) (i : ℕ) : Type 0 where
+  pub version : versionOf u q i ≡ versionOf t q i
+  pub contents : contentsOf u q i ≡ contentsOf t q i
+  pub window : windowOf (copyBytes u q i) ≡ windowOf (copyBytes t q i)
 
-pub same-kept : {t u : List ℕ} {i : ℕ} → SameKept t u i → keptOf u i ≡ keptOf t i
+pub same-kept : {q : ℕ} {t u : List ℕ} {i : ℕ} → SameKept q t u i → keptOf u q i ≡ keptOf t q i
 unfolding keptOf
-same-kept {t} {u} {i} s = kept-is (keptOf u i) (keptOf t i) (s .contents) (s .window)
+same-kept {q} {t} {u} {i} s = kept-is (keptOf u q i) (keptOf t q i) (s .contents) (s .window)
 
-pub same-row : (t u : List ℕ) (i : ℕ) → rowBytes u i ≡ rowBytes t i → SameKept t u i
+pub same-copy : (q : ℕ) (t u : List ℕ) (i : ℕ) → copyBytes u q i ≡ copyBytes t q i → SameKept q t u i
 unfolding versionOf contentsOf
-same-row t u i e = record { version = ap (get version) e; contents = ap contents e; window = ap windowOf e }
+same-copy q t u i e = record { version = ap (get version) e; contents = ap contents e; window = ap windowOf e }
 
-module _ {t u : List ℕ} {writes : ℕ} (r : Trail t writes) (file : fileLengthOf u ≡ fileLengthOf t) where
-  same-held : (i : ℕ) → Within (usedOf t) i → SameKept t u i → keptOf u i ≡ r .kept (versionOf u i)
+module _ {q : ℕ} {t u : List ℕ} {writes : ℕ} (r : Trail q t writes) (file : fileLengthOf u ≡ fileLengthOf t) where
+  same-held : (i : ℕ) → Within (usedOf t) i → SameKept q t u i → keptOf u q i ≡ r .kept (versionOf u q i)
   same-held i v s = same-kept s ∙ r .held i v ∙ ap (r .kept) (sym (s .version))
 
   -- every row as it was, or new and blank
-  pub trail-same : usedOf u ≡ usedOf t → ((i : ℕ) → Within (usedOf t) i → SameKept t u i) → Trail u writes
+  pub trail-same : usedOf u ≡ usedOf t → ((i : ℕ) → Within (usedOf t) i → SameKept q t u i) → Trail q u writes
   trail-same used same = record { kept = r .kept; grown = rw file (r .grown); held = rw used (λ i v. same-held i v (same i v)) }
 
   -- a row more, with nothing in it
-  pub trail-more : usedOf u ≡ suc (usedOf t) → ((i : ℕ) → Within (usedOf t) i → SameKept t u i)
-      → versionOf u (suc (usedOf t)) ≡ 0 → keptOf u (suc (usedOf t)) ≡ record { contents = zeros (fileLengthOf t); window = emptied }
-      → ((i : ℕ) → Within (suc (usedOf t)) i → (i ≡ suc (usedOf t)) ⊎ Within (usedOf t) i) → Trail u writes
+  pub trail-more : usedOf u ≡ suc (usedOf t) → ((i : ℕ) → Within (usedOf t) i → SameKept q t u i)
+      → versionOf u q (suc (usedOf t)) ≡ 0 → keptOf u q (suc (usedOf t)) ≡ record { contents = zeros (fileLengthOf t); window = emptied }
+      → ((i : ℕ) → Within (suc (usedOf t)) i → (i ≡ suc (usedOf t)) ⊎ Within (usedOf t) i) → Trail q u writes
   trail-more used same none blank last = record {
     kept = r .kept;
     grown = rw file (r .grown);
     held = rw used (λ i v. ⊎-elim
-        (λ (q : i ≡ suc (usedOf t)). rw q (blank ∙ sym (r .grown .first) ∙ ap (r .kept) (sym none)))
+        (λ (z : i ≡ suc (usedOf t)). rw z (blank ∙ sym (r .grown .first) ∙ ap (r .kept) (sym none)))
         (λ w. same-held i w (same i w))
         (last i v));
   }
 
   -- each row as it was, or a row of the last version with the patch on it
-  pub trail-write : usedOf u ≡ usedOf t → (p : Patch) → Fits (fileLengthOf t) p → ((i : ℕ) → Within (usedOf t) i → versionOf t i ≤ writes)
-      → ((i : ℕ) → Within (usedOf t) i → SameKept t u i ⊎ ((versionOf t i ≡ writes) × (versionOf u i ≡ suc writes) × (keptOf u i ≡ patched p (keptOf t i)))) → Trail u (suc writes)
+  pub trail-write : usedOf u ≡ usedOf t → (p : Patch) → Fits (fileLengthOf t) p → ((i : ℕ) → Within (usedOf t) i → versionOf t q i ≤ writes)
+      → ((i : ℕ) → Within (usedOf t) i → SameKept q t u i ⊎ ((versionOf t q i ≡ writes) × (versionOf u q i ≡ suc writes) × (keptOf u q i ≡ patched p (keptOf t q i)))) → Trail q u (suc writes)
   trail-write used p f past each = record {
     kept = kept′;
     grown = rw file (grown-more {file = fileLengthOf t} (r .grown) p f);
@@ -73,19 +73,19 @@ module _ {t u : List ℕ} {writes : ℕ} (r : Trail t writes) (file : fileLength
       kept′ : ℕ → Kept
       kept′ v = cond (leb v writes) (r .kept v) (patched p (r .kept writes))
 
-      old : (i : ℕ) → Within (usedOf t) i → SameKept t u i → keptOf u i ≡ kept′ (versionOf u i)
-      old i v s = same-held i v s ∙ rw (le-leb (versionOf u i) writes (omega (arith, s .version, past i v)))
+      old : (i : ℕ) → Within (usedOf t) i → SameKept q t u i → keptOf u q i ≡ kept′ (versionOf u q i)
+      old i v s = same-held i v s ∙ rw (le-leb (versionOf u q i) writes (omega (arith, s .version, past i v)))
 
-      new : (i : ℕ) → Within (usedOf t) i → (versionOf t i ≡ writes) × (versionOf u i ≡ suc writes) × (keptOf u i ≡ patched p (keptOf t i)) → keptOf u i ≡ kept′ (versionOf u i)
+      new : (i : ℕ) → Within (usedOf t) i → (versionOf t q i ≡ writes) × (versionOf u q i ≡ suc writes) × (keptOf u q i ≡ patched p (keptOf t q i)) → keptOf u q i ≡ kept′ (versionOf u q i)
       new i v s = s .2 ∙ ap (patched p) (r .held i v ∙ ap (r .kept) (s .0)) ∙ sym (rw (s .1, lt-leb (suc writes) writes (omega arith)))
 
 -- what a send lays is what the sender holds
-module _ {t : List ℕ} {writes : ℕ} (r : Trail t writes) (low : fileLengthOf t < 65_536) (f to : ℕ) (uf : Within (usedOf t) f) (ut : Within (usedOf t) to)
-    (past : versionOf t f ≤ writes) (behind : versionOf t to ≤ versionOf t f) where
-  pub sent-all : sentContents (rowBytes t f) (rowBytes t to) ≡ contentsOf t f
+module _ {q : ℕ} {t : List ℕ} {writes : ℕ} (r : Trail q t writes) (low : fileLengthOf t < 65_536) (f to : ℕ) (uf : Within (usedOf t) f) (ut : Within (usedOf t) to)
+    (past : versionOf t q f ≤ writes) (behind : versionOf t q to ≤ versionOf t q f) where
+  pub sent-all : sentContents (copyBytes t q f) (copyBytes t q to) ≡ contentsOf t q f
   unfolding sentContents versionOf contentsOf keptOf
   sent-all =
       let a = r .held f uf in
       let b = r .held to ut in
-      ap₂ (λ (x y : Kept). sent (versionOf t f - versionOf t to) (x .window) (x .contents) (y .contents)) a b
-      ∙ sent-whole low (r .grown) (versionOf t to) (versionOf t f) behind past ∙ ap (λ (k : Kept). k .contents) (sym a)
+      ap₂ (λ (x y : Kept). sent (versionOf t q f - versionOf t q to) (x .window) (x .contents) (y .contents)) a b
+      ∙ sent-whole low (r .grown) (versionOf t q to) (versionOf t q f) behind past ∙ ap (λ (k : Kept). k .contents) (sym a)
