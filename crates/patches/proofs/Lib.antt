@@ -1,4 +1,4 @@
 pub mod EndLaws
 pub mod RecordLaws
-pub mod RowLaws
+pub mod CopyLaws
 pub mod LayLaws

@@ -1,4 +1,4 @@
-// A row's window takes a patch; the patches of a window are laid over contents.
+// The window of a copy takes a patch; the patches of a window are laid over contents.
 use windows::PLACES;
 use windows::WIDTH;
 use windows::next_of;
@@ -128,17 +128,17 @@ fn enter(records: &mut [u8], x: usize, offset: usize, patch: &[u8])
     write_record(&mut records[at..at + WIDTH], offset, patch);
 }
 
-// The window of a row is emptied.
-fn clear(row: &mut [u8])
-    requires { ⌜ 608 ≤ length (now row) ⌝ }
-    ensures { λ r. ⌜ now (row .exit) ≡ storeWindow emptied (now (row .entry)) ⌝ }
+// The window of a copy is emptied.
+fn clear(copy: &mut [u8])
+    requires { ⌜ 588 ≤ length (now copy) ⌝ }
+    ensures { λ r. ⌜ now (copy .exit) ≡ storeWindow emptied (now (copy .entry)) ⌝ }
 {
-    fields::set_oldest(row, 0);
-    let at = row.len() - fields::RECORDS;
-    bytes::fill(&mut row[at..], 0);
+    fields::set_oldest(copy, 0);
+    let at = copy.len() - fields::RECORDS;
+    bytes::fill(&mut copy[at..], 0);
 }
 
-// The records of a row's window take a patch, at its place.
+// The records of a window take a patch, at its place.
 fn take_in(records: &mut [u8], youngest: usize, x: usize, offset: usize, patch: &[u8])
     requires { ⌜ (length (now records) ≡ 576) × Within 16 x × (youngest ≤ 16) × (length (now patch) ≤ 32) ⌝ }
     ensures { λ r. ⌜ now (records .exit) ≡ withBlock 0 36 x (λ y. recordWith (record { offset = offset; bytes = now (patch .entry) })) (withBlock 0 36 youngest (store younger x) (now (records .entry))) ⌝ }
@@ -147,18 +147,18 @@ fn take_in(records: &mut [u8], youngest: usize, x: usize, offset: usize, patch: 
     enter(records, x, offset, patch);
 }
 
-// A row's window takes a patch.
-pub fn add(row: &mut [u8], offset: usize, patch: &[u8])
-    requires { ⌜ (608 ≤ length (now row)) × ((file : ℕ) × RightFor file (windowOf (now row))) ⌝ }
-    ensures { λ r. ⌜ now (row .exit) ≡ storeWindow (added (record { offset = offset; bytes = now (patch .entry) }) (windowOf (now (row .entry)))) (now (row .entry)) ⌝ }
+// The window of a copy takes a patch.
+pub fn add(copy: &mut [u8], offset: usize, patch: &[u8])
+    requires { ⌜ (588 ≤ length (now copy)) × ((file : ℕ) × RightFor file (windowOf (now copy))) ⌝ }
+    ensures { λ r. ⌜ now (copy .exit) ≡ storeWindow (added (record { offset = offset; bytes = now (patch .entry) }) (windowOf (now (copy .entry)))) (now (copy .entry)) ⌝ }
 {
     if 32 < patch.len() {
-        return clear(row);
+        return clear(copy);
     }
-    let at = row.len() - fields::RECORDS;
-    let place = room_for(fields::oldest(row) as usize, &row[at..]);
-    fields::set_oldest(row, place.first as u8);
-    take_in(&mut row[at..], place.youngest, place.taken, offset, patch);
+    let at = copy.len() - fields::RECORDS;
+    let place = room_for(fields::oldest(copy) as usize, &copy[at..]);
+    fields::set_oldest(copy, place.first as u8);
+    take_in(&mut copy[at..], place.youngest, place.taken, offset, patch);
 }
 
 // The patch of a record is laid over the contents, where it is wanted.
@@ -191,7 +191,7 @@ pub fn lay_after(contents: &mut [u8], oldest: usize, records: &[u8], skip: usize
     }
 }
 
-// What a send leaves of a row's own contents: the missing patches laid over them where the window reaches so far back, else the whole contents.
+// What a send leaves of a copy's own contents: the missing patches laid over them where the window reaches so far back, else the whole contents.
 pub fn sent_over(own: &mut [u8], whole: &[u8], oldest: usize, records: &[u8], missing: usize)
     requires { ⌜ (length (now records) ≡ 576) × RightFor (length (now own)) (window oldest (now records)) × (length (now own) ≡ length (now whole)) ⌝ }
     ensures { λ r. ⌜ now (own .exit) ≡ sent missing (window oldest (now (records .entry))) (now (whole .entry)) (now (own .entry)) ⌝ }

@@ -1,4 +1,4 @@
-// Question 1 of a row's window: its chain, and its records.
+// Question 1 of a window: its chain, and its records.
 use bools::both;
 use bytes::larger;
 use rows::RowSet;

@@ -7,7 +7,7 @@ use Rattle.window.specs.Windows.{Window, windowOf, storeWindow}
 use Rattle.window.proofs.AddLaws.{added-long}
 use Rattle.windows.specs.Visits.{RightFor}
 use Rattle.patches.specs.Places.{Placed}
-use Rattle.patches.proofs.RowLaws.{cut-window, cut-long, took-in}
+use Rattle.patches.proofs.CopyLaws.{cut-window, cut-long, took-in}
 use borrow.Author.Needs.{needs}
 use Rattle.patches.proofs.add.Statement.{statement}
 use Rattle.patches.proofs.add.Tie as tie
@@ -23,7 +23,7 @@ returns c =
     let k = c .before .before in
     let t = k .before .before in
     let s = t .before .before .before in
-    k .clear .ensures ∙ ap (λ (w : Window). storeWindow w (s .args .row .now)) (sym (added-long (record { offset = s .args .offset; bytes = s .args .patch .now }) (windowOf (s .args .row .now)) (omega (arith, t .if1 .taken))))
+    k .clear .ensures ∙ ap (λ (w : Window). storeWindow w (s .args .copy .now)) (sym (added-long (record { offset = s .args .offset; bytes = s .args .patch .now }) (windowOf (s .args .copy .now)) (omega (arith, t .if1 .taken))))
 
 sub-at : tie.Need-sub-at
 sub-at c = search needs
@@ -48,7 +48,7 @@ room-for-requires c κs =
     let o = c .before .before in
     let e = o .before .before in
     let s = e .before .before .before in
-    (cut-long (s .args .row .now) (s .pre .0), subst (λ (w : Window). (file : ℕ) × RightFor file w) (sym (cut-window (s .args .row .now) _ _ (o .oldest .ensures) (tail-is (s .args .row .now) (length (s .args .row .now) - 576) (length (s .args .row .now) - 576) refl))) (s .pre .1))
+    (cut-long (s .args .copy .now) (s .pre .0), subst (λ (w : Window). (file : ℕ) × RightFor file w) (sym (cut-window (s .args .copy .now) _ _ (o .oldest .ensures) (tail-is (s .args .copy .now) (length (s .args .copy .now) - 576) (length (s .args .copy .now) - 576) refl))) (s .pre .1))
 
 cast-set-oldest : tie.Need-cast-set-oldest
 cast-set-oldest c = search needs
@@ -79,8 +79,8 @@ returns-2 c =
     let o = r .before .before .before in
     let e = o .before .before in
     let s = e .before .before .before in
-    took-in (s .args .row .now) _ _ (s .pre .0) (d .set-oldest .ensures) (record { offset = s .args .offset; bytes = s .args .patch .now }) (omega (arith, e .if1 .left)) _ _
-    (subst (λ (w : Window). Placed w (r .room-for .result .taken) (r .room-for .result .youngest) (r .room-for .result .first)) (cut-window (s .args .row .now) _ _ (o .oldest .ensures) (tail-is (s .args .row .now) (length (s .args .row .now) - 576) (length (s .args .row .now) - 576) refl)) (r .room-for .ensures))
+    took-in (s .args .copy .now) _ _ (s .pre .0) (d .set-oldest .ensures) (record { offset = s .args .offset; bytes = s .args .patch .now }) (omega (arith, e .if1 .left)) _ _
+    (subst (λ (w : Window). Placed w (r .room-for .result .taken) (r .room-for .result .youngest) (r .room-for .result .first)) (cut-window (s .args .copy .now) _ _ (o .oldest .ensures) (tail-is (s .args .copy .now) (length (s .args .copy .now) - 576) (length (s .args .copy .now) - 576) refl)) (r .room-for .ensures))
     _ (k .take-in .ensures)
 
 pub add-spec : {M : Type 1} → statement M

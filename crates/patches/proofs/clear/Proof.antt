@@ -1,5 +1,5 @@
 use mathlib.Core.Path.{refl}
-use Rattle.patches.proofs.RowLaws.{cleared}
+use Rattle.patches.proofs.CopyLaws.{cleared}
 use borrow.Author.Needs.{needs}
 use Rattle.patches.proofs.clear.Statement.{statement}
 use Rattle.patches.proofs.clear.Tie as tie
@@ -30,7 +30,7 @@ returns c =
     let k = c .before .before in
     let o = k .before .before .before .before in
     let s = o .before .before .before in
-    cleared (s .args .row .now) _ 0 (s .pre) (o .set-oldest .ensures) refl _ (k .fill .ensures)
+    cleared (s .args .copy .now) _ 0 (s .pre) (o .set-oldest .ensures) refl _ (k .fill .ensures)
 
 pub clear-spec : {M : Type 1} → statement M
 clear-spec =
