@@ -19,9 +19,9 @@ by-own : (t : List ℕ) → ownForm t ≡ false → false ≡ wellFormed t
 unfolding wellFormed
 by-own t e = sym (rw e (and-false (eqb (formOf t) formValue)))
 
-by-form : (t : List ℕ) (f : ℕ) → ownForm t ≡ true → f ≡ formOf t → eqb f 3 ≡ wellFormed t
+by-form : (t : List ℕ) (f : ℕ) → ownForm t ≡ true → f ≡ formOf t → eqb f 4 ≡ wellFormed t
 unfolding wellFormed formValue
-by-form t f e q = ap (λ (n : ℕ). eqb n 3) q ∙ sym (rw e (and-true (eqb (formOf t) 3)))
+by-form t f e q = ap (λ (n : ℕ). eqb n 4) q ∙ sym (rw e (and-true (eqb (formOf t) 4)))
 
 returns : tie.Need-returns
 returns c = (by-own _ (sym (c .before .chained .ensures .0) ∙ not-true _ (c .if1 .taken)), λ e. absurd (clash e), c .before .chained .ensures .2)
