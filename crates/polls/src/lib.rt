@@ -1,8 +1,10 @@
-// What the rows that answered say.
+// What the rows that answered say of a file.
 use rows::RowSet;
+ghost use mathlib.Core.Path.{_≡_};
 ghost use Prim.Native.Nat.{_^_, _<_};
+ghost use Rattle.sets.specs.Upto.{Within};
 ghost use Rattle.sets.specs.Sets.{has};
-ghost use Rattle.fields.specs.Layout.{usedOf};
+ghost use Rattle.fields.specs.Layout.{formValue, formOf, usedOf, filesOf};
 ghost use Rattle.table.specs.Contracts.{Sized};
 ghost use Rattle.protocol.specs.Polls.{polled};
 ghost use Rattle.polls.specs.Shows.{Shows};
@@ -16,10 +18,10 @@ pub struct Poll {
     pub epochs: [u32; 64],
 }
 
-// What the rows that answered say. The sets are stored behind the loop.
-pub fn gather(t: &[u8], answering: RowSet) -> Poll
-    requires { ⌜ Sized (now t) × (answering .bits < 2 ^ usedOf (now t)) ⌝ }
-    ensures { λ r. ⌜ Shows r (polled (now (t .entry)) (has (answering .bits))) ⌝ }
+// What the rows that answered say of file q. The sets are stored behind the loop.
+pub fn gather(t: &[u8], q: usize, answering: RowSet) -> Poll
+    requires { ⌜ Sized (now t) × (formOf (now t) ≡ formValue) × Within (filesOf (now t)) q × (answering .bits < 2 ^ usedOf (now t)) ⌝ }
+    ensures { λ r. ⌜ Shows r (polled (now (t .entry)) q (has (answering .bits))) ⌝ }
 {
     let mut p = Poll {
         stale: RowSet::EMPTY,
@@ -34,12 +36,13 @@ pub fn gather(t: &[u8], answering: RowSet) -> Poll
     while !left.is_empty() {
         let i = left.lowest();
         let row = table::row_of(t, i);
+        let copy = table::copy_of(t, i, q);
         let list = fields::list(row);
-        stale = stale.gain(i, fields::is_stale(row));
+        stale = stale.gain(i, fields::is_stale(copy));
         listed = listed.gain(i, !list.is_empty());
         let k = i - 1;
-        p.versions[k] = fields::version(row);
-        p.desired[k] = fields::desired(row);
+        p.versions[k] = fields::version(copy);
+        p.desired[k] = fields::desired(copy);
         p.epochs[k] = fields::epoch(row);
         left = left.rest();
     }

@@ -1,7 +1,7 @@
 use mathlib.Core.Bool.{Bool, true, false, not, cond, _&&_}
 use mathlib.Core.Path.{_≡_, refl, sym, ap, _∙_, fun-ext}
 use mathlib.Core.List.{List}
-use Prim.Native.Nat.{ℕ}
+use Prim.Native.Nat.{ℕ, _≤_}
 use native.Mathlib.Omega.{arith}
 use borrow.Author.Needs.{needs}
 use borrow.Author.Tests.{not-true, not-false}
@@ -11,7 +11,8 @@ use Rattle.places.proofs.PlaceLaws.{placed-none, placed-more, gained-more}
 use Rattle.places.specs.Places.{placed}
 use Rattle.protocol.specs.Polls.{polled}
 use Rattle.fields.specs.declared.Laid.{Laid}
-use Rattle.fields.specs.Layout.{get, mark, version, desired, epoch, list, noList, isEmpty, usedOf, staleOf, versionOf, desiredOf, epochOf, listOf}
+use Rattle.fields.specs.Layout.{get, mark, version, desired, epoch, list, noList, isEmpty, usedOf, fileLengthOf, staleOf, versionOf, desiredOf, epochOf, listOf}
+use Rattle.fields.proofs.FieldLaws.{copy-is}
 use Rattle.sets.proofs.SetLaws.{has-empty, has-within}
 use Rattle.sets.proofs.MemberLaws.{only, Taken, none-taken, all-taken, at-hand, in-set, fewer-left, one-taken}
 use Rattle.sets.specs.Sets.{has, noRow, joining}
@@ -21,13 +22,13 @@ use Rattle.polls.proofs.gather.Tie as tie
 
 -- the places and the sets show what the rows taken so far say
 abbrev Inv-loop : tie.InvT-loop
-Inv-loop t p₀ stale₀ listed₀ left₀ p stale listed left = (s : ℕ → Bool) × Taken (left₀ .bits) (left .bits) s
-    × (has (stale .bits) ≡ polled t s .stale) × (has (listed .bits) ≡ (λ (i : ℕ). s i && not (isEmpty (listOf t i))))
-    × (placed (p .versions) ≡ polled t s .version) × (placed (p .desired) ≡ polled t s .desired) × (placed (p .epochs) ≡ polled t s .epoch)
+Inv-loop t q p₀ stale₀ listed₀ left₀ p stale listed left = (s : ℕ → Bool) × Taken (left₀ .bits) (left .bits) s
+    × (has (stale .bits) ≡ polled t q s .stale) × (has (listed .bits) ≡ (λ (i : ℕ). s i && not (isEmpty (listOf t i))))
+    × (placed (p .versions) ≡ polled t q s .version) × (placed (p .desired) ≡ polled t q s .desired) × (placed (p .epochs) ≡ polled t q s .epoch)
     × (length (p .versions) ≡ 64) × (length (p .desired) ≡ 64) × (length (p .epochs) ≡ 64)
 
 abbrev μ-loop : tie.MeasureT-loop
-μ-loop t p₀ stale₀ listed₀ left₀ p stale listed left = left .bits
+μ-loop t q p₀ stale₀ listed₀ left₀ p stale listed left = left .bits
 
 -- in a turn some row is left
 some-left : (c : tie.Then1 Inv-loop μ-loop) → some 64 (has (c .before .before .loop .left .bits)) ≡ true
@@ -40,7 +41,11 @@ hand c = at-hand (c .before .before .before .loop .inv .1) (some-left (c .before
 used : (c : tie.After-lowest Inv-loop μ-loop) → Within (usedOf (c .before .before .before .before .before .args .t .now)) (c .lowest .result)
 used c =
     let s = c .before .before .before .before .before in
-    has-within (usedOf (s .args .t .now)) (s .args .answering .bits) _ (s .pre .1) (in-set (c .before .before .before .loop .inv .1) (some-left (c .before)) (c .lowest .ensures))
+    has-within (usedOf (s .args .t .now)) (s .args .answering .bits) _ (s .pre .3) (in-set (c .before .before .before .loop .inv .1) (some-left (c .before)) (c .lowest .ensures))
+
+-- and its copy has room for the numbers
+copy-room : (c : tie.After-copy-of Inv-loop μ-loop) → 12 ≤ length (c .copy-of .result .now)
+copy-room c = omega (arith, c .copy-of .ensures .1, copy-is (fileLengthOf (c .before .before .before .before .before .before .before .args .t .now)))
 
 loop-holds : tie.Need-loop-holds Inv-loop μ-loop
 unfolding polled noRow
@@ -55,11 +60,14 @@ lowest-requires c κs = search needs
 row-of-requires : tie.Need-row-of-requires Inv-loop μ-loop
 row-of-requires c κs = (c .before .before .before .before .before .pre .0, used c)
 
+copy-of-requires : tie.Need-copy-of-requires Inv-loop μ-loop
+copy-of-requires c κs = let p = c .before .before .before .before .before .before .pre in (p .0, p .1, used (c .before), p .2)
+
 list-requires : tie.Need-list-requires Inv-loop μ-loop
-list-requires c κs = c .row-of .ensures .1
+list-requires c κs = c .before .row-of .ensures .1
 
 is-stale-requires : tie.Need-is-stale-requires Inv-loop μ-loop
-is-stale-requires c κs = c .before .row-of .ensures .1
+is-stale-requires c κs = copy-room (c .before)
 
 gain-requires : tie.Need-gain-requires Inv-loop μ-loop
 gain-requires c κs = search needs
@@ -71,41 +79,41 @@ gain-requires-2 : tie.Need-gain-requires-2 Inv-loop μ-loop
 gain-requires-2 c κs = search needs
 
 sub-k : tie.Need-sub-k Inv-loop μ-loop
-sub-k c = omega (arith, hand (c .before .before .before .before .before .before))
+sub-k c = omega (arith, hand (c .before .before .before .before .before .before .before))
 
 version-requires : tie.Need-version-requires Inv-loop μ-loop
-version-requires c κs = c .before .before .before .before .before .row-of .ensures .1
+version-requires c κs = copy-room (c .before .before .before .before .before)
 
 mul-p : tie.Need-mul-p Inv-loop μ-loop
-mul-p c = omega (arith, hand (c .before .before .before .before .before .before .before))
+mul-p c = omega (arith, hand (c .before .before .before .before .before .before .before .before))
 
 element-write-p : tie.Need-element-write-p Inv-loop μ-loop
-element-write-p c = omega (arith, hand (c .before .before .before .before .before .before .before))
+element-write-p c = omega (arith, hand (c .before .before .before .before .before .before .before .before))
 
 desired-requires : tie.Need-desired-requires Inv-loop μ-loop
-desired-requires c κs = c .before .before .before .before .before .before .row-of .ensures .1
+desired-requires c κs = copy-room (c .before .before .before .before .before .before)
 
 mul-p-2 : tie.Need-mul-p-2 Inv-loop μ-loop
-mul-p-2 c = omega (arith, hand (c .before .before .before .before .before .before .before .before))
+mul-p-2 c = omega (arith, hand (c .before .before .before .before .before .before .before .before .before))
 
 element-write-p-2 : tie.Need-element-write-p-2 Inv-loop μ-loop
-element-write-p-2 c = omega (arith, hand (c .before .before .before .before .before .before .before .before))
+element-write-p-2 c = omega (arith, hand (c .before .before .before .before .before .before .before .before .before))
 
 epoch-requires : tie.Need-epoch-requires Inv-loop μ-loop
-epoch-requires c κs = c .before .before .before .before .before .before .before .row-of .ensures .1
+epoch-requires c κs = c .before .before .before .before .before .before .before .before .row-of .ensures .1
 
 mul-p-3 : tie.Need-mul-p-3 Inv-loop μ-loop
-mul-p-3 c = omega (arith, hand (c .before .before .before .before .before .before .before .before .before))
+mul-p-3 c = omega (arith, hand (c .before .before .before .before .before .before .before .before .before .before))
 
 element-write-p-3 : tie.Need-element-write-p-3 Inv-loop μ-loop
-element-write-p-3 c = omega (arith, hand (c .before .before .before .before .before .before .before .before .before))
+element-write-p-3 c = omega (arith, hand (c .before .before .before .before .before .before .before .before .before .before))
 
 rest-requires : tie.Need-rest-requires Inv-loop μ-loop
 rest-requires c κs = search needs
 
 loop-less : tie.Need-loop-less Inv-loop μ-loop
 loop-less c =
-    let w = c .before .before .before .before .before .before .before .before .before .before in
+    let w = c .before .before .before .before .before .before .before .before .before .before .before in
     fewer-left (w .before .before .before .loop .inv .1) (some-left (w .before)) (w .lowest .ensures) (c .rest .ensures)
 
 loop-again : tie.Need-loop-again Inv-loop μ-loop
@@ -119,18 +127,20 @@ loop-again c =
     let g = n .before in
     let m = g .before in
     let o = m .before in
-    let r = o .before in
+    let k = o .before in
+    let r = k .before in
     let w = r .before in
     let l = w .before .before .before .loop in
     let i = w .lowest .result in
     let s = l .inv .0 in
-    let row = r .row-of .ensures .0 in (
+    let row = r .row-of .ensures .0 in
+    let copy = k .copy-of .ensures .0 in (
       joining s (only i),
       one-taken (l .inv .1) (some-left (w .before)) (w .lowest .ensures) (c .rest .ensures),
-      g .gain .ensures ∙ gained-more s i (hand w) _ _ _ (l .inv .2) (m .is-stale .ensures ∙ ap (λ (b : List ℕ). eqb (get mark b) 1) row),
+      g .gain .ensures ∙ gained-more s i (hand w) _ _ _ (l .inv .2) (m .is-stale .ensures ∙ ap (λ (b : List ℕ). eqb (get mark b) 1) copy),
       h .gain2 .ensures ∙ gained-more s i (hand w) _ _ _ (l .inv .3) (ap not (n .is-empty2 .ensures ∙ ap isEmpty (o .list .ensures ∙ ap list row))),
-      placed-more s i (hand w) _ _ _ (l .inv .7) (l .inv .4) (v .version .ensures ∙ ap (get version) row),
-      placed-more s i (hand w) _ _ _ (l .inv .8) (l .inv .5) (d .desired .ensures ∙ ap (get desired) row),
+      placed-more s i (hand w) _ _ _ (l .inv .7) (l .inv .4) (v .version .ensures ∙ ap (get version) copy),
+      placed-more s i (hand w) _ _ _ (l .inv .8) (l .inv .5) (d .desired .ensures ∙ ap (get desired) copy),
       placed-more s i (hand w) _ _ _ (l .inv .9) (l .inv .6) (e .epoch .ensures ∙ ap (get epoch) row),
       simp length-set (l .inv .7),
       simp length-set (l .inv .8),
@@ -167,6 +177,7 @@ gather-spec =
     is-empty-requires
     lowest-requires
     row-of-requires
+    copy-of-requires
     list-requires
     is-stale-requires
     gain-requires
