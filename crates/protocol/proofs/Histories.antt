@@ -21,6 +21,9 @@ rdq q c r offset count buffer called = read (record { c = c; r = r; offset = off
 unfoldable pub wrq : (q c r offset : ℕ) (patch called : List ℕ) → Call
 wrq q c r offset patch called = write (record { c = c; r = r; offset = offset; patch = patch; called = called; file = q })
 
+unfoldable pub snq : (q f t r : ℕ) → Call
+snq q f t r = send (record { f = f; t = t; r = r; file = q })
+
 unfoldable pub rdc : (c r offset count : ℕ) (buffer called : List ℕ) → Call
 rdc = rdq 1
 
@@ -35,7 +38,7 @@ unfoldable pub wr : (c r offset : ℕ) (patch : List ℕ) → Call
 wr c r offset patch = wrc c r offset patch (0 ∷ [])
 
 unfoldable pub sn : (f t r : ℕ) → Call
-sn f t r = send (record { f = f; t = t; r = r; file = 1 })
+sn = snq 1
 
 unfoldable pub ck : (c r : ℕ) → Call
 ck c r = check (record { c = c; r = r })

@@ -1,14 +1,14 @@
 -- Single calls on tables that no founding leads to, and foundings: what the histories do not reach.
 use mathlib.Core.Bool.{Bool, true, not, _&&_}
 use mathlib.Core.List.{List, [], _∷_, _++_}
-use Prim.Native.Nat.{ℕ, _+_, _-_}
+use Prim.Native.Nat.{ℕ, _+_, _-_, _*_}
 use lib.Dec.{eqb}
 use lib.ListN.{take}
 use Rattle.sets.specs.Upto.{upward}
 use Rattle.bytes.specs.Bytes.{zeros}
-use Rattle.fields.specs.Layout.{Field, get, stride, mark, version, desired, epoch, members, rowBytes, contentsOf}
+use Rattle.fields.specs.Layout.{Field, get, stride, mark, oldest, version, desired, epoch, members, records, rowBytes, copyBytes, contentsOf}
 use Rattle.protocol.specs.Calls.{outcome}
-use Rattle.protocol.proofs.Histories.{fo, jn, rdc, wrc, rd, wr, ck, same}
+use Rattle.protocol.proofs.Histories.{fo, jn, rdq, wrq, snq, rdc, wrc, rd, wr, ck, same}
 use Rattle.protocol.proofs.Cases.{Case, On, Notes, pair, row1, row2, row3, set, single, third, unlisted, nobody, twoBytes, full, remarked}
 
 -- ---- calls
@@ -21,7 +21,15 @@ formed t = On t (ck 0 0) 2 0 []
 
 -- a founding on so many bytes
 unfoldable pub founds : (length capacity fileLength : ℕ) (names : List ℕ) (refusal value : ℕ) → Case
-founds length capacity fileLength names refusal value = On (zeros length) (fo capacity fileLength names 0) refusal value []
+founds length capacity fileLength names refusal value = On (zeros length) (fo capacity fileLength names 0 1) refusal value []
+
+-- one used row, with a blank copy of each of so many files of one byte
+unfoldable pub grouped : (files : ℕ) → List ℕ
+grouped files = (4 ∷ 1 ∷ 1 ∷ 1 ∷ 1 ∷ 0 ∷ files ∷ zeros 9) ++ ((10 ∷ zeros 15) ++ ((1 ∷ zeros 15) ++ zeros (files * 589)))
+
+-- where row 1's copy of file 2 starts
+unfoldable pub last : ℕ
+last = row1 + 32 + 589
 
 unfoldable pub cases : List Case
 cases =
@@ -47,12 +55,25 @@ cases =
     ∷ formed (single 1 1)
     ∷ formed (single 1 4_096)
     ∷ malformed (single 1 4_097)
+    -- the number of files, and the table's length by it
+    ∷ malformed (grouped 0)
+    ∷ formed (grouped 2)
+    ∷ formed (grouped 8)
+    ∷ malformed (grouped 9)
+    ∷ malformed (set 6 1 2 pair)
+    -- each rule of a copy, in the last file: mark, oldest record, zeros, version, desired version; its contents
+    ∷ malformed (set last 1 2 (grouped 2))
+    ∷ malformed (set (last + 1) 1 1 (grouped 2))
+    ∷ malformed (set (last + 2) 1 1 (grouped 2))
+    ∷ malformed (set (last + 4) 4 1_000_001 (grouped 2))
+    ∷ malformed (set (last + 8) 4 1 (grouped 2))
+    ∷ formed (set (last + 12) 1 7 (grouped 2))
     -- the rest of the header
-    ∷ malformed (set 6 1 1 pair)
+    ∷ malformed (set 7 1 1 pair)
     ∷ malformed (set 15 1 1 pair)
     -- the table's length
     ∷ malformed (pair ++ (0 ∷ []))
-    ∷ malformed (take (row3 + stride 1 - 1) pair)
+    ∷ malformed (take (row3 + stride 1 1 - 1) pair)
     ∷ malformed (take 16 pair)
     ∷ malformed []
     -- names
@@ -70,17 +91,17 @@ cases =
     ∷ malformed (set 3 1 2 pair)
     ∷ formed (set 3 1 2 (set (row1 + 2) 1 0 (set row2 2 5 (set (row2 + 2) 1 1 pair))))
     -- mark and desired version
-    ∷ malformed (set (row2 + 3) 1 2 pair)
-    ∷ malformed (set (row2 + 3) 1 1 pair)
-    ∷ formed (set (row2 + 3) 1 1 (set (row2 + 8) 4 1 pair))
-    ∷ malformed (set (row2 + 8) 4 1 pair)
-    ∷ malformed (set (row2 + 3) 1 1 (set (row2 + 4) 4 2 (set (row2 + 8) 4 2 pair)))
-    ∷ formed (set (row2 + 3) 1 1 (set (row2 + 4) 4 2 (set (row2 + 8) 4 3 pair)))
+    ∷ malformed (set (row2 + 32) 1 2 pair)
+    ∷ malformed (set (row2 + 32) 1 1 pair)
+    ∷ formed (set (row2 + 32) 1 1 (set (row2 + 40) 4 1 pair))
+    ∷ malformed (set (row2 + 40) 4 1 pair)
+    ∷ malformed (set (row2 + 32) 1 1 (set (row2 + 36) 4 2 (set (row2 + 40) 4 2 pair)))
+    ∷ formed (set (row2 + 32) 1 1 (set (row2 + 36) 4 2 (set (row2 + 40) 4 3 pair)))
     -- the three numbers
-    ∷ formed (set (row2 + 4) 4 1_000_000 pair)
-    ∷ malformed (set (row2 + 4) 4 1_000_001 pair)
-    ∷ formed (set (row2 + 3) 1 1 (set (row2 + 8) 4 1_000_000 pair))
-    ∷ malformed (set (row2 + 3) 1 1 (set (row2 + 8) 4 1_000_001 pair))
+    ∷ formed (set (row2 + 36) 4 1_000_000 pair)
+    ∷ malformed (set (row2 + 36) 4 1_000_001 pair)
+    ∷ formed (set (row2 + 32) 1 1 (set (row2 + 40) 4 1_000_000 pair))
+    ∷ malformed (set (row2 + 32) 1 1 (set (row2 + 40) 4 1_000_001 pair))
     ∷ formed (set (row1 + 12) 4 1_000_000 pair)
     ∷ malformed (set (row1 + 12) 4 1_000_001 pair)
     -- lists: a row that is not used, the own row missing, two lists in one epoch
@@ -110,12 +131,17 @@ cases =
     ∷ formed (set (row1 + 24) 1 2 (unlisted 0))
     ∷ malformed (remarked 2 2 (unlisted 0))
     -- zeros of a row; its contents; an unused row
+    ∷ malformed (set (row1 + 3) 1 1 pair)
+    ∷ malformed (set (row1 + 11) 1 1 pair)
     ∷ malformed (set (row1 + 25) 1 1 pair)
-    ∷ malformed (set (row1 + 26) 1 1 pair)
+    -- a copy's: the oldest record of an empty window, the two zeros
+    ∷ malformed (set (row1 + 33) 1 1 pair)
+    ∷ malformed (set (row1 + 34) 1 1 pair)
+    ∷ malformed (set (row2 + 35) 1 1 pair)
     ∷ malformed (set (row2 + 31) 1 1 pair)
-    ∷ formed (set (row2 + 32) 1 1 pair)
+    ∷ formed (set (row2 + 44) 1 1 pair)
     ∷ malformed (set row3 1 1 pair)
-    ∷ malformed (set (row3 + 32) 1 1 pair)
+    ∷ malformed (set (row3 + 44) 1 1 pair)
     -- ---- a row with an empty list is passed over, whatever its epoch; with such rows alone question 6 is no
     ∷ On (unlisted 900_000) (ck 1 3) 0 2 []
     ∷ On (unlisted 900_000) (ck 1 1) 0 1 []
@@ -133,7 +159,7 @@ cases =
     ∷ Notes (full 5) (rd 1 5 0 1 (9 ∷ [])) 6 (5 ∷ [])
     ∷ Notes (unlisted 1) (rd 2 3 0 1 (9 ∷ [])) 0 (2 ∷ [])
     -- what P called where 8 is no; 0 before question 6
-    ∷ Notes (set (row1 + 4) 4 1_000_000 pair) (wr 1 1 0 (7 ∷ [])) 8 (1 ∷ [])
+    ∷ Notes (set (row1 + 36) 4 1_000_000 pair) (wr 1 1 0 (7 ∷ [])) 8 (1 ∷ [])
     ∷ Notes (set 0 1 0 pair) (rdc 2 3 0 1 (9 ∷ []) (9 ∷ [])) 1 (0 ∷ [])
     ∷ Notes pair (rdc 3 3 0 1 (9 ∷ []) (9 ∷ [])) 2 (0 ∷ [])
     ∷ Notes pair (wrc 2 1 0 (7 ∷ []) (9 ∷ [])) 3 (0 ∷ [])
@@ -166,8 +192,8 @@ cases =
     ∷ formed (outcome pair (jn 15) .table)
     ∷ formed (outcome nobody (jn 1) .table)
     -- ---- question 8, of a write and of a check that changes the list; one that does not is done
-    ∷ On (set (row1 + 4) 4 999_999 pair) (wr 1 1 0 (7 ∷ [])) 0 1_000_000 []
-    ∷ On (set (row1 + 4) 4 1_000_000 pair) (wr 1 1 0 (7 ∷ [])) 8 0 []
+    ∷ On (set (row1 + 36) 4 999_999 pair) (wr 1 1 0 (7 ∷ [])) 0 1_000_000 []
+    ∷ On (set (row1 + 36) 4 1_000_000 pair) (wr 1 1 0 (7 ∷ [])) 8 0 []
     ∷ On (set (row1 + 12) 4 999_999 pair) (ck 1 3) 0 1_000_000 []
     ∷ On (set (row1 + 12) 4 1_000_000 pair) (ck 1 3) 8 0 []
     ∷ On (set (row1 + 12) 4 1_000_000 pair) (ck 1 1) 0 1_000_000 []
@@ -177,41 +203,75 @@ cases =
     ∷ malformed (outcome (third 2) (ck 1 3) .table)
     ∷ formed (outcome (third 3) (ck 1 3) .table)
     -- ---- question 11: 1 to 64 names, strictly rising, none 0, two bytes each
-    ∷ founds 625 1 1 [] 11 0
-    ∷ founds 625 1 1 (10 ∷ []) 11 0
-    ∷ founds 625 1 1 (10 ∷ 0 ∷ []) 0 1
-    ∷ founds 625 1 1 (10 ∷ 0 ∷ 20 ∷ []) 11 0
-    ∷ founds 38_992 64 1 (twoBytes (upward 64 1)) 0 64
-    ∷ founds 38_992 64 1 (twoBytes (upward 65 1)) 11 0
-    ∷ founds 625 1 1 (0 ∷ 0 ∷ []) 11 0
-    ∷ founds 1_234 2 1 (10 ∷ 0 ∷ 9 ∷ 0 ∷ []) 11 0
-    ∷ founds 1_234 2 1 (10 ∷ 0 ∷ 10 ∷ 0 ∷ []) 11 0
+    ∷ founds 637 1 1 [] 11 0
+    ∷ founds 637 1 1 (10 ∷ []) 11 0
+    ∷ founds 637 1 1 (10 ∷ 0 ∷ []) 0 1
+    ∷ founds 637 1 1 (10 ∷ 0 ∷ 20 ∷ []) 11 0
+    ∷ founds 39_760 64 1 (twoBytes (upward 64 1)) 0 64
+    ∷ founds 39_760 64 1 (twoBytes (upward 65 1)) 11 0
+    ∷ founds 637 1 1 (0 ∷ 0 ∷ []) 11 0
+    ∷ founds 1_258 2 1 (10 ∷ 0 ∷ 9 ∷ 0 ∷ []) 11 0
+    ∷ founds 1_258 2 1 (10 ∷ 0 ∷ 10 ∷ 0 ∷ []) 11 0
     -- ---- question 12; the value is the rows used, not the capacity
-    ∷ founds 1_234 2 1 (10 ∷ 0 ∷ 11 ∷ 0 ∷ []) 0 2
-    ∷ founds 1_843 3 1 (10 ∷ 0 ∷ 11 ∷ 0 ∷ []) 0 2
-    ∷ founds 625 1 1 (10 ∷ 0 ∷ 11 ∷ 0 ∷ []) 12 0
+    ∷ founds 1_258 2 1 (10 ∷ 0 ∷ 11 ∷ 0 ∷ []) 0 2
+    ∷ founds 1_879 3 1 (10 ∷ 0 ∷ 11 ∷ 0 ∷ []) 0 2
+    ∷ founds 637 1 1 (10 ∷ 0 ∷ 11 ∷ 0 ∷ []) 12 0
     ∷ founds 16 0 1 (10 ∷ 0 ∷ []) 12 0
-    ∷ founds 39_601 65 1 (10 ∷ 0 ∷ []) 12 0
-    ∷ founds 624 1 0 (10 ∷ 0 ∷ []) 12 0
-    ∷ founds 4_720 1 4_096 (10 ∷ 0 ∷ []) 0 1
-    ∷ founds 4_721 1 4_097 (10 ∷ 0 ∷ []) 12 0
-    ∷ founds 624 1 1 (10 ∷ 0 ∷ []) 12 0
-    ∷ founds 626 1 1 (10 ∷ 0 ∷ []) 12 0
+    ∷ founds 40_381 65 1 (10 ∷ 0 ∷ []) 12 0
+    ∷ founds 636 1 0 (10 ∷ 0 ∷ []) 12 0
+    ∷ founds 4_732 1 4_096 (10 ∷ 0 ∷ []) 0 1
+    ∷ founds 4_733 1 4_097 (10 ∷ 0 ∷ []) 12 0
+    ∷ founds 636 1 1 (10 ∷ 0 ∷ []) 12 0
+    ∷ founds 638 1 1 (10 ∷ 0 ∷ []) 12 0
+    -- ---- 1 to 8 files
+    ∷ On (zeros 48) (fo 1 1 (10 ∷ 0 ∷ []) 0 0) 12 0 []
+    ∷ On (zeros 1_226) (fo 1 1 (10 ∷ 0 ∷ []) 0 2) 0 1 []
+    ∷ On (zeros 4_760) (fo 1 1 (10 ∷ 0 ∷ []) 0 8) 0 1 []
+    ∷ On (zeros 5_349) (fo 1 1 (10 ∷ 0 ∷ []) 0 9) 12 0 []
+    -- ---- 16 after 3 and before 4, and before 9; then nothing is noted
+    ∷ On pair (wrq 0 2 3 9 (7 ∷ []) (0 ∷ [])) 16 0 []
+    ∷ On pair (wrq 2 2 3 9 (7 ∷ []) (0 ∷ [])) 16 0 []
+    ∷ On pair (wrq 2 2 1 9 (7 ∷ []) (0 ∷ [])) 3 0 []
+    ∷ On pair (rdq 4_294_967_297 2 3 0 1 [] []) 16 0 []
+    ∷ On (set (row1 + 32) 1 1 (set (row1 + 40) 4 1 pair)) (snq 2 1 2 3) 16 0 []
+    ∷ On (set (row1 + 32) 1 1 (set (row1 + 40) 4 1 pair)) (snq 1 1 2 3) 9 0 []
+    ∷ On pair (snq 2 1 2 1) 3 0 []
+    ∷ Notes pair (wrq 2 2 3 0 (7 ∷ []) (9 ∷ [])) 16 (0 ∷ [])
     -- ---- the choice is 0 or 1
-    ∷ On (zeros 625) (fo 1 1 (10 ∷ 0 ∷ []) 1) 0 1 []
-    ∷ On (zeros 625) (fo 1 1 (10 ∷ 0 ∷ []) 2) 11 0 []
+    ∷ On (zeros 637) (fo 1 1 (10 ∷ 0 ∷ []) 1 1) 0 1 []
+    ∷ On (zeros 637) (fo 1 1 (10 ∷ 0 ∷ []) 2 1) 11 0 []
     -- ---- 11 before 12
     ∷ founds 0 0 0 [] 11 0
     ∷ []
 
--- ---- pair with every field of row 2 changed but name and link
-unfoldable pub other : List ℕ
-other = set (row2 + 3) 1 1 (set (row2 + 4) 4 1 (set (row2 + 8) 4 2 (set (row2 + 12) 4 2 (set (row2 + 16) 8 2 (set (row2 + 32) 1 6 pair)))))
+-- ---- a table with every field of a copy changed, of a file of one byte: where the copy starts
+unfoldable pub touched : (place : ℕ) → List ℕ → List ℕ
+touched place t = set place 2 257 (set (place + 4) 4 1 (set (place + 8) 4 2 (set (place + 12) 1 6 (set (place + 14) 1 1 (set (place + 17) 1 6 t)))))
 
--- the fields differ in row 2
-unfoldable pub differ : List Field → Bool
-differ [] = true
-differ (f ∷ fs) = not (eqb (get f (rowBytes pair 2)) (get f (rowBytes other 2))) && differ fs
+-- pair with every field of row 2 changed but name and link
+unfoldable pub other : List ℕ
+other = touched (row2 + 32) (set (row2 + 12) 4 2 (set (row2 + 16) 8 2 pair))
+
+-- two rows and two files; and with every field of file 2 changed
+unfoldable pub doubled : List ℕ
+doubled =
+    (4 ∷ 2 ∷ 2 ∷ 1 ∷ 1 ∷ 0 ∷ 2 ∷ zeros 9)
+    ++ ((10 ∷ 0 ∷ 2 ∷ zeros 13) ++ ((3 ∷ zeros 15) ++ (zeros 1_178
+    ++ ((20 ∷ 0 ∷ zeros 14) ++ ((3 ∷ zeros 15) ++ zeros 1_178)))))
+
+unfoldable pub elsewhere : List ℕ
+elsewhere = touched last (touched (last + stride 2 1) doubled)
+
+-- these fields differ
+unfoldable pub differ : List ℕ → List ℕ → List Field → Bool
+differ xs ys [] = true
+differ xs ys (f ∷ fs) = not (eqb (get f xs) (get f ys)) && differ xs ys fs
+
+-- all that row i says of file q does
+unfoldable pub unlike : List ℕ → List ℕ → (q i : ℕ) → Bool
+unlike t u q i =
+    differ (copyBytes t q i) (copyBytes u q i) (mark ∷ oldest ∷ version ∷ desired ∷ [])
+    && (not (same (contentsOf t q i) (contentsOf u q i)) && not (same (records (copyBytes t q i)) (records (copyBytes u q i))))
 
 unfoldable pub allDiffer : Bool
-allDiffer = differ (mark ∷ version ∷ desired ∷ epoch ∷ members ∷ []) && not (same (contentsOf pair 2) (contentsOf other 2))
+allDiffer = differ (rowBytes pair 2) (rowBytes other 2) (epoch ∷ members ∷ []) && (unlike pair other 1 2 && (unlike doubled elsewhere 2 1 && unlike doubled elsewhere 2 2))
