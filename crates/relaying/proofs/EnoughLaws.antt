@@ -27,7 +27,7 @@ use Rattle.history.specs.Book.{Book, holdsQuorum, someHasAll}
 use Rattle.history.specs.Demand3.{verdict, RefusedRight, Right}
 use Rattle.history.proofs.Invariant.{both-is}
 use Rattle.history.proofs.State.{whole, State, chain-is, few, answered, quorum-whole, current-whole, six-is, seven-is}
-use Rattle.history.proofs.Answers.{right}
+use Rattle.history.proofs.Answers.{right, read-group, write-group, Group}
 use Rattle.history.proofs.Theorems.{reached}
 use Rattle.choices.specs.Choosing.{firstCalled, choiceQuestions, chosen}
 use Rattle.relaying.specs.Relaying.{BlankedEqual}
@@ -41,7 +41,7 @@ chosen-alike t r c kind set e m =
     let E = blanked-equal t r e in
     rw (E .formed-too, e, used-same E, order-same E, sym (E .rows c m))
 
-module _ (t : List ℕ) (b : Book) (e : ℕ) (S : State t b e) (kind : Kind) (c r : ℕ) (B : ByCoordinator t c r) (own : b .own c ≡ b .inForce)
+module _ (q : ℕ) (t : List ℕ) (b : Book) (e : ℕ) (S : State q t b e) (kind : Kind) (c r : ℕ) (B : ByCoordinator t c r) (own : b .own c ≡ b .inForce)
     (all : (i : ℕ) → firstCalled kind t c i ≡ true → has r i ≡ true) (cur : someHasAll b (firstCalled kind t c) ≡ true) where
   -- c's list is the list in force
   in-force : listOf t c ≡ b .inForce
@@ -63,10 +63,10 @@ module _ (t : List ℕ) (b : Book) (e : ℕ) (S : State t b e) (kind : Kind) (c 
   -- so c's choice holds a quorum of it
   holds : holdsQuorum b kind (firstCalled kind t c) ≡ true
   unfolding holdsQuorum firstCalled listQuorum listChoice EveryChoiceHolds
-  holds = rw (in-force, ← (chain-is t b e S)) (every-choice-holds t (B .formed) (has (b .inForce .members)) used peopled kind (b .inForce .mark) (nameOf t c) .0)
+  holds = rw (in-force, ← (chain-is q t b e S)) (every-choice-holds t (B .formed) (has (b .inForce .members)) used peopled kind (b .inForce .mark) (nameOf t c) .0)
 
   -- cut down to R it is what it was
-  tried-is : ownTry kind (orderOf t) (answers t r) c (nameOf t c) (has r) ≡ firstCalled kind t c
+  tried-is : ownTry kind (orderOf t) (answers t q r) c (nameOf t c) (has r) ≡ firstCalled kind t c
   unfolding ownTry firstCalled answers polled cutTo
   tried-is = rw (B .answered) (fun-ext (λ i. go i (listChoice kind (orderOf t) (listOf t c) (nameOf t c) i) refl))
     where
@@ -75,52 +75,55 @@ module _ (t : List ℕ) (b : Book) (e : ℕ) (S : State t b e) (kind : Kind) (c 
       go i false m = refl
 
   -- questions 6 and 7 are yes for it
-  both : (quorumHeld kind (orderOf t) (answers t r) (firstCalled kind t c) && current (answers t r) (firstCalled kind t c)) ≡ true
+  both : (quorumHeld kind (orderOf t) (answers t q r) (firstCalled kind t c) && current (answers t q r) (firstCalled kind t c)) ≡ true
   both =
-      ap₂ _&&_ (quorum-whole t b e S r (firstCalled kind t c) all kind) (current-whole t b e S r (firstCalled kind t c) all)
-      ∙ both-is (usedOf t) (whole t) (contentsOf t) b e (few t b e S r) (S .inv) (firstCalled kind t c) (λ i m. answered t b e S r kind c B i (all i m)) kind
+      ap₂ _&&_ (quorum-whole q t b e S r (firstCalled kind t c) all kind) (current-whole q t b e S r (firstCalled kind t c) all)
+      ∙ both-is (usedOf t) (whole t q) (contentsOf t q) b e (few q t b e S r) (S .inv) (firstCalled kind t c) (λ i m. answered q t b e S r kind c B i (all i m)) kind
       ∙ and-i _ _ holds cur
 
-  works : workSet kind t c r ≡ firstCalled kind t c
+  works : workSet kind t q c r ≡ firstCalled kind t c
   unfolding workSet workedOn stays
   works = rw (tried-is, both)
 
-  six : quorumHeld kind (orderOf t) (answers t r) (workSet kind t c r) ≡ true
+  six : quorumHeld kind (orderOf t) (answers t q r) (workSet kind t q c r) ≡ true
   six = rw works (and-l _ _ both)
 
-  seven : current (answers t r) (workSet kind t c r) ≡ true
-  seven = rw works (and-r (quorumHeld kind (orderOf t) (answers t r) (firstCalled kind t c)) _ both)
+  seven : current (answers t q r) (workSet kind t q c r) ≡ true
+  seven = rw works (and-r (quorumHeld kind (orderOf t) (answers t q r) (firstCalled kind t c)) _ both)
 
   by-book : verdict b kind r ≡ 0
   unfolding verdict
   by-book =
-      let q : holdsQuorum b kind (has r) ≡ true = sym (six-is t b e S r kind c B) ∙ six in
-      let m : someHasAll b (has r) ≡ true = sym (seven-is t b e S r kind c B q) ∙ seven in
-      rw (q, m)
+      let h : holdsQuorum b kind (has r) ≡ true = sym (six-is q t b e S r kind c B) ∙ six in
+      let m : someHasAll b (has r) ≡ true = sym (seven-is q t b e S r kind c B h) ∙ seven in
+      rw (h, m)
 
-  -- after 4 and 5, with the answers x and y
-  passed : (x y : Bool) → firstNo (record { ask = 4; yes = x } ∷ record { ask = 5; yes = y } ∷ []) ≡ 0
-      → firstNo (record { ask = 4; yes = x } ∷ record { ask = 5; yes = y } ∷ record { ask = 6; yes = quorumHeld kind (orderOf t) (answers t r) (workSet kind t c r) } ∷ record { ask = 7; yes = current (answers t r) (workSet kind t c r) } ∷ []) ≡ 0
+  -- after 16, 4 and 5, with the answers z, x and y
+  passed : (z x y : Bool) → firstNo (record { ask = 16; yes = z } ∷ record { ask = 4; yes = x } ∷ record { ask = 5; yes = y } ∷ []) ≡ 0
+      → firstNo (record { ask = 16; yes = z } ∷ record { ask = 4; yes = x } ∷ record { ask = 5; yes = y } ∷ record { ask = 6; yes = quorumHeld kind (orderOf t) (answers t q r) (workSet kind t q c r) } ∷ record { ask = 7; yes = current (answers t q r) (workSet kind t q c r) } ∷ []) ≡ 0
   unfolding firstNo
-  passed true true h = rw (six, seven)
-  passed true false h = absurd (omega arith)
-  passed false y h = absurd (omega arith)
+  passed true true true h = rw (six, seven)
+  passed true true false h = absurd (omega arith)
+  passed true false y h = absurd (omega arith)
+  passed false x y h = absurd (omega arith)
 
-enough : (t : List ℕ) (b : Book) (e : ℕ) → State t b e → (k : Call) (kind : Kind) (c r : ℕ) → By k kind c r → AnswersWhole t b k kind c r → StaysWithChoice t b k kind c r
+enough : (t : List ℕ) (b : ℕ → Book) (e : ℕ) → Group t b e → (k : Call) (kind : Kind) (q c r : ℕ) → By k kind q c r → AnswersWhole t (b q) k kind c r → StaysWithChoice t (b q) k kind q c r
 unfolding questions before byCoordinator Right RefusedRight
-enough t b e S (read a) kind c r aRead h =
+enough t b e G (read a) kind q c r aRead h =
     let x = passed-first t (a .c) (a .r) _ (h .passes) in
+    let S = G .file (a .file) (read-group t (b (a .file)) e a (h .passes)) in
     record {
-      passes = x .2 _ ∙ passed t b e S Read (a .c) (a .r) (x .0) (h .own) (h .answers) (h .current) _ _ (x .1);
-      alone = works t b e S Read (a .c) (a .r) (x .0) (h .own) (h .answers) (h .current);
-      done = λ l. right t b e S (read a) .1 (h .passes) l ∙ by-book t b e S Read (a .c) (a .r) (x .0) (h .own) (h .answers) (h .current);
+      passes = x .2 _ ∙ passed (a .file) t (b (a .file)) e S Read (a .c) (a .r) (x .0) (h .own) (h .answers) (h .current) _ _ _ (x .1);
+      alone = works (a .file) t (b (a .file)) e S Read (a .c) (a .r) (x .0) (h .own) (h .answers) (h .current);
+      done = λ l. right t b e G (a .file) (read a) refl .1 (h .passes) l ∙ by-book (a .file) t (b (a .file)) e S Read (a .c) (a .r) (x .0) (h .own) (h .answers) (h .current);
     }
-enough t b e S (write a) kind c r aWrite h =
+enough t b e G (write a) kind q c r aWrite h =
     let x = passed-first t (a .c) (a .r) _ (h .passes) in
+    let S = G .file (a .file) (write-group t (b (a .file)) e a (h .passes)) in
     record {
-      passes = x .2 _ ∙ passed t b e S Write (a .c) (a .r) (x .0) (h .own) (h .answers) (h .current) _ _ (x .1);
-      alone = works t b e S Write (a .c) (a .r) (x .0) (h .own) (h .answers) (h .current);
-      done = λ l. right t b e S (write a) (h .passes) l ∙ by-book t b e S Write (a .c) (a .r) (x .0) (h .own) (h .answers) (h .current);
+      passes = x .2 _ ∙ passed (a .file) t (b (a .file)) e S Write (a .c) (a .r) (x .0) (h .own) (h .answers) (h .current) _ _ _ (x .1);
+      alone = works (a .file) t (b (a .file)) e S Write (a .c) (a .r) (x .0) (h .own) (h .answers) (h .current);
+      done = λ l. right t b e G (a .file) (write a) refl (h .passes) l ∙ by-book (a .file) t (b (a .file)) e S Write (a .c) (a .r) (x .0) (h .own) (h .answers) (h .current);
     }
 
 pub choice-enough : ChoiceEnough

@@ -12,7 +12,7 @@ use Rattle.grid.specs.Sizes.{root, rootUp, published, newFive, exchanged, gridB
 use Rattle.quorums.specs.declared.Kind.{Kind}
 use Rattle.quorums.specs.declared.Kind.the-variants.{Read, Write}
 use Rattle.quorums.specs.Quorums.{isPosition, readChoice, writeChoice, choice}
-use Rattle.fields.specs.Layout.{usedOf, fileLengthOf}
+use Rattle.fields.specs.Layout.{usedOf, fileLengthOf, filesOf}
 use Rattle.table.specs.WellFormed.{between, onlyRows}
 use Rattle.table.proofs.FormLaws.{well-formed-of}
 use Rattle.bytes.specs.Bytes.{zeros}
@@ -20,10 +20,13 @@ use Rattle.linking.specs.Linking.{inserted, byName}
 use Rattle.asking.specs.Asking.{firstNo, before}
 use Rattle.protocol.specs.Lists.{laidNow, seats, atSeat, levelChoice, listChoice}
 use Rattle.protocol.specs.Polls.{polled}
-use Rattle.protocol.specs.Calls.{Call, founding, read, write, isUsed, inFile, byCoordinator, questions, outcome, namesIn, foundedList}
+use Rattle.protocol.specs.Calls.{Call, founding, read, write, isUsed, inFile, inGroup, byCoordinator, questions, outcome, namesIn, foundedList}
 use Rattle.seats.proofs.HeldLaws.{chosen-in}
 use Rattle.history.specs.Book.{Book, nameIn, order, opened, hasAll, someHasAll}
 use Rattle.history.specs.Claims.{tableAfter, bookAfter, after}
+use Rattle.history.proofs.Answers.{first-file}
+use borrow.Author.Tests.{le-leb}
+use lib.Dec.{leb}
 use Rattle.history.proofs.State.{whole, State, chain-is}
 use Rattle.history.proofs.Theorems.{opens}
 use Rattle.history.proofs.Lost.{fourMachines, blank, founds}
@@ -31,9 +34,9 @@ use Rattle.choices.specs.Choosing.{firstCalled}
 use Rattle.relaying.specs.Enough.{By, aRead, aWrite, AnswersWhole, ChoiceEnoughMet}
 
 -- the set that c calls first, by the book
-called-is : (t : List ℕ) (b : Book) (e : ℕ) → State t b e → (kind : Kind) (c : ℕ) → Within (usedOf t) c → firstCalled kind t c ≡ listChoice kind (order b) (b .own c) (nameIn b c)
+called-is : (q : ℕ) (t : List ℕ) (b : Book) (e : ℕ) → State q t b e → (kind : Kind) (c : ℕ) → Within (usedOf t) c → firstCalled kind t c ≡ listChoice kind (order b) (b .own c) (nameIn b c)
 unfolding firstCalled whole polled
-called-is t b e S kind c u = rw (chain-is t b e S, S .names c u, S .inv .epochs .owned c u)
+called-is q t b e S kind c u = rw (chain-is q t b e S, S .names c u, S .inv .epochs .owned c u)
 
 -- row 1's choice over all four, computed
 chosen : Kind → ℕ → Bool
@@ -54,23 +57,23 @@ answered kind i m =
 
 -- row 1 reads, or writes, the only byte of the file; the first three answer
 unfoldable byFirst : Kind → Call
-byFirst Read = read (record { c = 1; r = 7; offset = 0; count = 1; buffer = 0 ∷ []; called = 0 ∷ [] })
-byFirst Write = write (record { c = 1; r = 7; offset = 0; patch = 7 ∷ []; called = 0 ∷ [] })
+byFirst Read = read (record { c = 1; r = 7; offset = 0; count = 1; buffer = 0 ∷ []; called = 0 ∷ []; file = 1 })
+byFirst Write = write (record { c = 1; r = 7; offset = 0; patch = 7 ∷ []; called = 0 ∷ []; file = 1 })
 
-by-first : (kind : Kind) → By (byFirst kind) kind 1 7
+by-first : (kind : Kind) → By (byFirst kind) kind 1 1 7
 unfolding byFirst
 by-first Read = aRead
 by-first Write = aWrite
 
-module _ (t : List ℕ) (S : State t (opened fourMachines) 0) where
+module _ (t : List ℕ) (S : State 1 t (opened fourMachines) 0) where
   called : (kind : Kind) → firstCalled kind t 1 ≡ chosen kind
   unfolding chosen opened fourMachines namesIn
-  called kind = called-is t (opened fourMachines) 0 S kind 1 (omega (arith, S .used))
+  called kind = called-is 1 t (opened fourMachines) 0 S kind 1 (omega (arith, S .used))
 
   passes : (kind : Kind) → firstNo (before 6 (questions t (byFirst kind))) ≡ 0
-  unfolding byFirst opened fourMachines namesIn questions before byCoordinator firstNo isUsed between onlyRows inFile has zeros
-  passes Read = let u : usedOf t ≡ 4 = S .used in let f : fileLengthOf t ≡ 1 = sym (S .file) in rw (well-formed-of t (S .formed), u, f)
-  passes Write = let u : usedOf t ≡ 4 = S .used in let f : fileLengthOf t ≡ 1 = sym (S .file) in rw (well-formed-of t (S .formed), u, f)
+  unfolding byFirst opened fourMachines namesIn questions before byCoordinator firstNo isUsed between onlyRows inFile inGroup has zeros
+  passes Read = let u : usedOf t ≡ 4 = S .used in let f : fileLengthOf t ≡ 1 = sym (S .file) in let g : leb 1 (filesOf t) ≡ true = le-leb 1 (filesOf t) (S .group .1) in rw (well-formed-of t (S .formed), u, f, g)
+  passes Write = let u : usedOf t ≡ 4 = S .used in let f : fileLengthOf t ≡ 1 = sym (S .file) in let g : leb 1 (filesOf t) ≡ true = le-leb 1 (filesOf t) (S .group .1) in rw (well-formed-of t (S .formed), u, f, g)
 
   whole-choice : (kind : Kind) → AnswersWhole t (opened fourMachines) (byFirst kind) kind 1 7
   unfolding opened
@@ -80,14 +83,15 @@ pub choice-enough-met : ChoiceEnoughMet
 unfolding ChoiceEnoughMet opened fourMachines foundedList namesIn laidNow has tableAfter bookAfter
 choice-enough-met kind = (
   outcome blank (founding fourMachines) .table,
-  opened fourMachines,
+  (λ q. opened fourMachines),
   byFirst kind,
+  1,
   1,
   7,
   4,
   after blank fourMachines [] founds,
   by-first kind,
-  whole-choice _ (opens blank fourMachines founds) kind,
+  whole-choice _ (first-file (opens blank fourMachines founds)) kind,
   refl,
   refl,
 )

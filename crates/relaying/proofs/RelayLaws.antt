@@ -1,29 +1,27 @@
 -- The table that a relay puts together says of the rows that answered what the whole table says.
-use mathlib.Core.Path.{_≡_, refl, sym, _∙_, ap, ap₂}
+use mathlib.Core.Path.{_≡_, refl, sym, _∙_, ap}
 use mathlib.Core.Bool.{Bool, true, false, not, cond}
 use mathlib.Core.List.{List}
-use Prim.Native.Nat.{ℕ, zero, suc, _+_, _-_, _*_, _≤_, _<_}
+use Prim.Native.Nat.{ℕ, zero, suc, _≤_, _<_}
 use native.Mathlib.Decide.{decLe}
 use native.Mathlib.Omega.{arith}
-use lib.ListN.{length, drop, length-drop}
-use lib.Seq.{drop-drop}
-use borrow.Author.Tests.{eqb-true}
+use lib.ListN.{length}
 use Rattle.bools.proofs.BoolLaws.{clash}
 use Rattle.sets.specs.Upto.{Within}
 use Rattle.sets.specs.Sets.{has}
 use Rattle.blocks.specs.Blocks.{block}
 use Rattle.blocks.proofs.BlockLaws.{Altered, blocks-changed, alike}
 use Rattle.bytes.specs.Bytes.{bytesOf, part, zeros}
-use Rattle.bytes.proofs.ByteLaws.{length-zeros, zeros-are}
-use Rattle.fields.specs.Layout.{get, form, capacity, link, epoch, list, isEmpty, isTall, bodyLength, strideIn, stride, formOf, capacityOf, fileLengthOf, rowLength, rowsEnd, usedOf, nameOf, linkOf, listOf, rowBytes, withRows}
-use Rattle.table.specs.WellFormed.{lengthRight, unusedZero, wellFormed}
-use Rattle.fields.proofs.FieldLaws.{row-newest, records-room}
-use Rattle.table.proofs.FormLaws.{RowFacts, OneList, OneShape, Formed, formed, well-formed-of, rows-room, header-facts}
+use Rattle.bytes.proofs.ByteLaws.{length-zeros}
+use Rattle.fields.specs.Layout.{get, link, epoch, list, isEmpty, isTall, bodyLength, stride, copyLength, copyIn, copyBytes, filesOf, fileLengthOf, rowLength, rowsEnd, usedOf, nameOf, linkOf, listOf, rowBytes, withRows}
+use Rattle.table.specs.WellFormed.{wellFormed}
+use Rattle.fields.proofs.FieldLaws.{row-newest, zero-copies, blank-copy}
+use Rattle.table.proofs.FormLaws.{HeadFacts, CopyFacts, OneList, OneShape, Formed, formed, well-formed-of, rows-room, header-facts}
 use Rattle.table.proofs.TableLaws.{Changed, behind, like-length, many-rows}
-use Rattle.joining.proofs.RowLaws.{new-name, new-link, new-list, new-facts}
-use Rattle.protocol.proofs.FrameLaws.{same-form, Frame, frame-of, same-used, same-header, same-long, same-visits, same-rise, zero-stays}
+use Rattle.joining.proofs.RowLaws.{blank-facts, new-name, new-link, new-list, new-facts}
+use Rattle.protocol.proofs.FrameLaws.{same-form, Frame, frame-of, same-used, same-file, same-files, same-header, same-long, same-visits, same-rise, zero-stays}
 use Rattle.protocol.specs.Claims.{EqualIn}
-use Rattle.protocol.proofs.Unanswered.{header, get-same, used-same, file-same, unanswered-have-no-part}
+use Rattle.protocol.proofs.Unanswered.{header, used-same, file-same, unanswered-have-no-part, files-same, widths, lengths, ends, rest, drop-more}
 use Rattle.protocol.specs.Claims.{UnansweredHaveNoPart}
 use Rattle.relaying.specs.Relaying.{blankRow, blanked, BlankedEqual, OthersBlank, BlankedAlike, BlankedAnswers}
 
@@ -35,14 +33,10 @@ module _ (t : List ℕ) (r : ℕ) (e : wellFormed t ≡ true) where
   out i = not (has r i)
 
   body : ℕ
-  body = bodyLength (fileLengthOf t)
+  body = bodyLength (filesOf t) (fileLengthOf t)
 
-  records-room-here : 576 ≤ body
-  unfolding body
-  records-room-here = records-room (fileLengthOf t)
-
-  facts : (i : ℕ) → Within (usedOf t) i → RowFacts (usedOf t) i (rowBytes t i)
-  facts i u = w .rows i u
+  facts : (i : ℕ) → Within (usedOf t) i → HeadFacts (usedOf t) i (rowBytes t i)
+  facts i u = w .heads i u
 
   link-small : (i : ℕ) → Within (usedOf t) i → get link (rowBytes t i) < 256
   link-small i u = let h = header-facts t (w .header) in omega (arith, facts i u .linked, h .used, h .capacity)
@@ -68,6 +62,10 @@ module _ (t : List ℕ) (r : ℕ) (e : wellFormed t ≡ true) where
   unfolding out
   blank i u m = change .rows i u ∙ rw m
 
+  blank-copies : (i q : ℕ) → Within (filesOf t) q → copyIn (fileLengthOf t) q (blankRow body (rowBytes t i)) ≡ zeros (copyLength (fileLengthOf t))
+  unfolding blankRow body bytesOf zeros
+  blank-copies i q v = zero-copies (filesOf t) (fileLengthOf t) (blankRow body (rowBytes t i)) refl q v
+
   -- a row with a list is one of R
   listed : (i : ℕ) → Within (usedOf t) i → isEmpty (list (rowBytes (blanked r t) i)) ≡ false → rowBytes (blanked r t) i ≡ rowBytes t i
   unfolding blankRow
@@ -77,13 +75,22 @@ module _ (t : List ℕ) (r : ℕ) (e : wellFormed t ≡ true) where
       go true m = kept i u m
       go false m = absurd (clash (sym f ∙ ap (λ (x : List ℕ). isEmpty (list x)) (blank i u m) ∙ new-list _ _ body (facts i u .named) (link-small i u)))
 
-  row-facts : (i : ℕ) → Within (usedOf t) i → RowFacts (usedOf t) i (rowBytes (blanked r t) i)
+  row-facts : (i : ℕ) → Within (usedOf t) i → HeadFacts (usedOf t) i (rowBytes (blanked r t) i)
   unfolding blankRow
   row-facts i u = go (has r i) refl
     where
-      go : (b : Bool) → has r i ≡ b → RowFacts (usedOf t) i (rowBytes (blanked r t) i)
+      go : (b : Bool) → has r i ≡ b → HeadFacts (usedOf t) i (rowBytes (blanked r t) i)
       go true m = rw (kept i u m) (facts i u)
-      go false m = rw (blank i u m) (new-facts _ _ body (facts i u .named) (link-small i u) records-room-here (usedOf t) i (facts i u .linked))
+      go false m = rw (blank i u m) (new-facts _ _ body (facts i u .named) (link-small i u) (usedOf t) i (facts i u .linked))
+
+  -- a blank row's copies say nothing
+  copy-facts : (i q : ℕ) → Within (usedOf t) i → Within (filesOf t) q → CopyFacts (fileLengthOf t) (copyBytes (blanked r t) q i)
+  unfolding copyBytes
+  copy-facts i q u v = rw (same-file frame) (go (has r i) refl)
+    where
+      go : (b : Bool) → has r i ≡ b → CopyFacts (fileLengthOf t) (copyIn (fileLengthOf t) q (rowBytes (blanked r t) i))
+      go true m = rw (kept i u m) (w .copies i q u v)
+      go false m = rw (blank i u m, blank-copies i q v) (blank-facts (blank-copy (fileLengthOf t)))
 
   agree : (i j : ℕ) → Within (usedOf t) i → Within (usedOf t) j → OneList (rowBytes (blanked r t) i) (rowBytes (blanked r t) j)
   agree i j u v a b q =
@@ -113,7 +120,8 @@ module _ (t : List ℕ) (r : ℕ) (e : wellFormed t ≡ true) where
     newest = same-form frame ∙ w .newest;
     header = same-header frame ∙ w .header;
     long = same-long frame ∙ w .long;
-    rows = rw (same-used frame) row-facts;
+    heads = rw (same-used frame) row-facts;
+    copies = rw (same-used frame, same-files frame, same-file frame) copy-facts;
     visits = same-visits frame ∙ w .visits;
     rise = same-rise frame ∙ w .rise;
     zero = zero-stays change refl (same-used frame) ∙ w .zero;
@@ -137,47 +145,21 @@ unfolding OthersBlank blankRow body nameOf linkOf
 others-blank t r i e u m = blank t r e i u m
 
 -- ---- two tables that are equal in R
--- what is the same behind e is so behind any later place
-pub drop-more : (e b : ℕ) (xs ys : List ℕ) → e ≤ b → drop e xs ≡ drop e ys → drop b xs ≡ drop b ys
-drop-more e b xs ys h q =
-    let n : e + (b - e) ≡ b = omega arith in
-    rw (← n) (sym (drop-drop (b - e) e xs) ∙ ap (drop (b - e)) q ∙ drop-drop (b - e) e ys)
-
 module _ {r : ℕ} {t u : List ℕ} (E : EqualIn r t u) where
-  widths : rowLength u ≡ rowLength t
-  unfolding rowLength formOf form
-  widths = ap₂ strideIn (get-same E form (omega arith)) (file-same E)
-
-  pub lengths : length u ≡ length t
-  unfolding lengthRight rowsEnd capacityOf capacity
-  lengths = eqb-true _ _ (formed u (E .formed-too) .long) ∙ ap₂ (λ (k w : ℕ). 16 + k * w) (get-same E capacity (omega arith)) widths ∙ sym (eqb-true _ _ (formed t (E .formed) .long))
-
-  ends : rowsEnd u (usedOf u) ≡ rowsEnd t (usedOf t)
-  unfolding rowsEnd
-  ends = rw (used-same E, widths)
-
-  -- behind the used rows both are zero
-  pub rest : drop (rowsEnd t (usedOf t)) u ≡ drop (rowsEnd t (usedOf t)) t
-  unfolding unusedZero
-  rest =
-      let e = rowsEnd t (usedOf t) in
-      zeros-are (drop e u) (rw (← ends) (formed u (E .formed-too) .zero)) ∙ ap zeros (length-drop e u ∙ ap (λ (n : ℕ). n - e) lengths ∙ sym (length-drop e t))
-      ∙ sym (zeros-are (drop e t) (formed t (E .formed) .zero))
-
-  row-alike : (i : ℕ) → Within (usedOf t) i → (b : Bool) → has r i ≡ b → rowBytes (blanked r u) i ≡ cond (not b) (blankRow (bodyLength (fileLengthOf t)) (rowBytes t i)) (rowBytes t i)
+  row-alike : (i : ℕ) → Within (usedOf t) i → (b : Bool) → has r i ≡ b → rowBytes (blanked r u) i ≡ cond (not b) (blankRow (bodyLength (filesOf t) (fileLengthOf t)) (rowBytes t i)) (rowBytes t i)
   unfolding body blankRow nameOf linkOf
   row-alike i w true m = kept u r (E .formed-too) i (rw (used-same E) w) m ∙ sym (E .rows i m)
-  row-alike i w false m = blank u r (E .formed-too) i (rw (used-same E) w) m ∙ rw (file-same E, sym (E .names i w), sym (E .links i w))
+  row-alike i w false m = blank u r (E .formed-too) i (rw (used-same E) w) m ∙ rw (file-same E, files-same E, sym (E .names i w), sym (E .links i w))
 
-  altered : Altered 16 (rowLength t) t (blanked r u) (usedOf t) (λ i. not (has r i)) (λ i. blankRow (bodyLength (fileLengthOf t)))
+  altered : Altered 16 (rowLength t) t (blanked r u) (usedOf t) (λ i. not (has r i)) (λ i. blankRow (bodyLength (filesOf t) (fileLengthOf t)))
   unfolding rowBytes rowsEnd
   altered =
       let f = frame u r (E .formed-too) in
       record {
-        long = f .like .long ∙ lengths;
+        long = f .like .long ∙ lengths E;
         head = λ a n h. f .like .header a n h ∙ header E a n h;
-        blocks = λ i w. ap (λ (n : ℕ). block 16 n i (blanked r u)) (sym (like-length (f .like) ∙ widths)) ∙ row-alike i w (has r i) refl;
-        tail = λ b h. change u r (E .formed-too) .tail b (rw ends h) ∙ drop-more (rowsEnd t (usedOf t)) b u t h rest;
+        blocks = λ i w. ap (λ (n : ℕ). block 16 n i (blanked r u)) (sym (like-length (f .like) ∙ widths E)) ∙ row-alike i w (has r i) refl;
+        tail = λ b h. change u r (E .formed-too) .tail b (rw (ends E) h) ∙ drop-more (rowsEnd t (usedOf t)) b u t h (rest E);
       }
 
 pub blanked-alike : BlankedAlike

@@ -17,15 +17,15 @@ use Rattle.table.proofs.TableLaws.{Like, like-length, like-end, Roomy, row-long
 use Rattle.protocol.specs.Calls.{Call, founding, join, read, write, send, check, carry, outcome}
 use Rattle.protocol.specs.Claims.{Answering, byRead, byWrite, bySend, byCheck, OnlyRowsOf, AltersOnlyAnswered}
 use Rattle.protocol.proofs.QuestionLaws.{when-refused}
-use Rattle.protocol.proofs.Unanswered.{head-part}
+use Rattle.protocol.proofs.Unanswered.{first-part, drop-more}
 use Rattle.protocol.proofs.Claimed.{only-none, alters-only-answered}
 use Rattle.history.specs.Book.{Book}
 use Rattle.history.specs.Claims.{tableAfter}
-use Rattle.history.proofs.State.{State}
+use Rattle.history.proofs.Answers.{Group, first-file}
 use Rattle.history.proofs.Theorems.{next, reached}
 use Rattle.relaying.specs.Relaying.{blanked, BlankedAnswers}
 use Rattle.relaying.specs.Shipping.{shipped, relayedBy, relayed, relayedAfter, RelaySees}
-use Rattle.relaying.proofs.RelayLaws.{drop-more, blanked-answers}
+use Rattle.relaying.proofs.RelayLaws.{blanked-answers}
 
 -- ---- v is t but for rows of R, and u has these
 module _ (r : ℕ) (t u v : List ℕ) (room : Roomy t (usedOf t)) (only : OnlyRowsOf r t v) (same : (i : ℕ) → has r i ≡ true → rowBytes v i ≡ rowBytes u i) where
@@ -33,7 +33,7 @@ module _ (r : ℕ) (t u v : List ℕ) (room : Roomy t (usedOf t)) (only : OnlyRo
   unfolding part
   like = record {
     long = only .bytes;
-    header = λ a n h. sym (head-part a n v h) ∙ ap (part a n) (only .header) ∙ head-part a n t h;
+    header = λ a n h. sym (first-part 16 a n v h) ∙ ap (part a n) (only .header) ∙ first-part 16 a n t h;
   }
 
   row : (i : ℕ) → Within (usedOf t) i → (b : Bool) → has r i ≡ b → rowBytes v i ≡ cond b (rowBytes u i) (rowBytes t i)
@@ -89,12 +89,12 @@ module _ (t : List ℕ) (e : wellFormed t ≡ true) where
   relayed-same (carry a) = refl
 
 -- ---- a list of calls
-next-same : (t : List ℕ) (b : Book) (e : ℕ) → State t b e → (ks : List Call) (k : Call) → relayed (relayedAfter t ks) k ≡ outcome (tableAfter t ks) k
+next-same : (t : List ℕ) (b : ℕ → Book) (e : ℕ) → Group t b e → (ks : List Call) (k : Call) → relayed (relayedAfter t ks) k ≡ outcome (tableAfter t ks) k
 unfolding relayedAfter tableAfter
-next-same t b e S [] k = relayed-same t (well-formed-of t (S .formed)) k
-next-same t b e S (j ∷ ks) k =
-    let n = next t b e S j in
-    rw (relayed-same t (well-formed-of t (S .formed)) j) (next-same (outcome t j .table) _ (n .0) (n .1) ks k)
+next-same t b e G [] k = relayed-same t (well-formed-of t (first-file G .formed)) k
+next-same t b e G (j ∷ ks) k =
+    let n = next t b e G j in
+    rw (relayed-same t (well-formed-of t (first-file G .formed)) j) (next-same (outcome t j .table) _ (n .0) (n .1) ks k)
 
 pub relay-sees : RelaySees
 unfolding RelaySees
