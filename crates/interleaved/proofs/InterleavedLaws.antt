@@ -26,18 +26,17 @@ use Rattle.asking.specs.Asking.{firstNo}
 use Rattle.protocol.specs.Claims.{Answering, byRead, byWrite, bySend, byCheck, OnlyRowsOf, EqualIn, SameFor}
 use Rattle.protocol.proofs.FrameLaws.{Frame, same-used}
 use Rattle.protocol.proofs.QuestionLaws.{CheckYes, refusal-is, when-done, when-refused, write-yes, send-yes, check-yes}
-use Rattle.protocol.proofs.DoneLaws.{writeTable, write-leaves, sendTable, send-leaves, checkTable, check-leaves}
-use Rattle.protocol.proofs.Unanswered.{used-same}
+use Rattle.protocol.proofs.DoneLaws.{writing, writeTable, write-leaves, sendTable, send-leaves, checkList, checking, checkTable, check-leaves}
+use Rattle.protocol.proofs.Unanswered.{used-same, lengths, rest}
 use Rattle.history.specs.Book.{Book}
 use Rattle.history.specs.Demand3.{RefusedRight, Right}
 use Rattle.history.specs.Claims.{tableAfter, bookAfter}
 use Rattle.history.specs.Claims as History
-use Rattle.history.proofs.State.{State}
-use Rattle.history.proofs.Answers.{right}
+use Rattle.history.proofs.Answers.{Group, first-file, right}
 use Rattle.history.proofs.Theorems.{later, reached}
 use Rattle.relaying.specs.Relaying.{blanked, BlankedEqual, OthersBlank, BlankedAlike, BlankedAnswers}
 use Rattle.relaying.specs.Shipping.{shipped}
-use Rattle.relaying.proofs.RelayLaws.{lengths, rest, blanked-equal, others-blank, blanked-alike, blanked-answers}
+use Rattle.relaying.proofs.RelayLaws.{blanked-equal, others-blank, blanked-alike, blanked-answers}
 use Rattle.relaying.proofs.ShippingLaws.{shipped-is, only-answered}
 use Rattle.commit.specs.Steps.{Answer, silent, gave, Shown, none, some, show, shown}
 use Rattle.commit.specs.Atomic.{Entry, calls, answered, given, made, after, Saw, EveryCallAtomic, EveryCallOnce}
@@ -99,19 +98,19 @@ same-frame : (t : List ℕ) → Frame t t
 same-frame t = record { like = record { long = refl; header = λ a n h. refl }; names = refl; links = refl }
 
 done-frame : (t : List ℕ) (k : Call) (r : ℕ) → Answering k r → firstNo (questions t k) ≡ 0 → Frame t (done t k .table)
-unfolding done writeTable sendTable checkTable
+unfolding done writeTable writing sendTable checkTable checking checkList
 done-frame t (read a) _ byRead h = same-frame t
 done-frame t (write a) _ byWrite h = write-leaves t a (write-yes t a h) .frame
 done-frame t (send a) _ bySend h = send-leaves t a (send-yes t a h) .frame
-done-frame t (check a) _ byCheck h = go (eqb (a .r) (inForce (answers t (a .r)) (has (a .r)) .members)) refl
+done-frame t (check a) _ byCheck h = go (eqb (a .r) (inForce (answers t 1 (a .r)) (has (a .r)) .members)) refl
   where
     y : CheckYes t a
     y = check-yes t a h
 
-    go : (b : Bool) → eqb (a .r) (inForce (answers t (a .r)) (has (a .r)) .members) ≡ b → Frame t (done t (check a) .table)
+    go : (b : Bool) → eqb (a .r) (inForce (answers t 1 (a .r)) (has (a .r)) .members) ≡ b → Frame t (done t (check a) .table)
     go true q = rw q (same-frame t)
     go false q =
-        let room : ltb (highestEpoch (answers t (a .r)) (has (a .r))) limit ≡ true = rw q at (y .room) in
+        let room : ltb (highestEpoch (answers t 1 (a .r)) (has (a .r))) limit ≡ true = rw q at (y .room) in
         rw q (check-leaves t a y (ltb-true _ _ room) .frame)
 
 call-frame : (t : List ℕ) (k : Call) (r : ℕ) → Answering k r → Frame t (outcome t k .table)
@@ -231,24 +230,24 @@ unfolding byLibrary
 by-library t request n x y e i = ap (λ (z : ℕ → Shown). rowBytes (decidedOn t (request n) z .table) i) e
 
 -- demand 3's claim of a call is about its result and its read bytes
-right-same : (t : List ℕ) (b : Book) (k : Call) (r : ℕ) (o p : Outcome) → SameFor r o p → Right t b k o → Right t b k p
+right-same : (q : ℕ) (t : List ℕ) (b : Book) (k : Call) (r : ℕ) (o p : Outcome) → SameFor r o p → Right q t b k o → Right q t b k p
 unfolding Right RefusedRight
-right-same t b (founding a) r o p s h = tt
-right-same t b (join a) r o p s h = tt
-right-same t b (read a) r o p s h =
-    (λ z. let g = h .0 (s .refusal ∙ z) in record { value = sym (s .value) ∙ g .value; bytes = sym (s .buffer) ∙ g .bytes }, λ z l. sym (s .refusal) ∙ h .1 z l)
-right-same t b (write a) r o p s h = λ z l. sym (s .refusal) ∙ h z l
-right-same t b (send a) r o p s h = tt
-right-same t b (check a) r o p s h = tt
-right-same t b (carry a) r o p s h = tt
+right-same q t b (founding a) r o p s h = tt
+right-same q t b (join a) r o p s h = tt
+right-same q t b (read a) r o p s h = λ f.
+    (λ z. let g = h f .0 (s .refusal ∙ z) in record { value = sym (s .value) ∙ g .value; bytes = sym (s .buffer) ∙ g .bytes }, λ z l. sym (s .refusal) ∙ h f .1 z l)
+right-same q t b (write a) r o p s h = λ f z l. sym (s .refusal) ∙ h f z l
+right-same q t b (send a) r o p s h = tt
+right-same q t b (check a) r o p s h = tt
+right-same q t b (carry a) r o p s h = tt
 
-module _ (t : List ℕ) (b : Book) (p : ℕ) (S : State t b p) (request : ℕ → Request) where
+module _ (t : List ℕ) (b : ℕ → Book) (p : ℕ) (G : Group t b p) (request : ℕ → Request) where
   upto : List Entry → List ℕ
   upto es = tableAfter t (callsOf t request es)
 
   formed-after : (es : List Entry) → wellFormed (upto es) ≡ true
   unfolding upto
-  formed-after es = well-formed-of _ (later t b p S (callsOf t request es) .1 .formed)
+  formed-after es = well-formed-of _ (first-file (later t b p G (callsOf t request es) .1) .formed)
 
   frame-after : (es : List Entry) → Frame t (upto es)
   unfolding upto callsOf tableAfter
@@ -274,14 +273,14 @@ module _ (t : List ℕ) (b : Book) (p : ℕ) (S : State t b p) (request : ℕ �
     unfolding R decidedOn callOf BlankedAnswers
     same-outcome =
         subst (λ (x : List ℕ). SameFor R (outcome (upto es) (callOf t request e)) (outcome x (callOf t request e)))
-        (sym (together t (upto es) (well-formed-of t (S .formed)) (formed-after es) (frame-after es) (shown (e .heard)) shown-rows))
+        (sym (together t (upto es) (well-formed-of t (first-file G .formed)) (formed-after es) (frame-after es) (shown (e .heard)) shown-rows))
         (blanked-answers (upto es) (callOf t request e) R (call-answering t request e) (formed-after es))
 
     told-it : Told t b request e es
     unfolding upto R
     told-it = record {
       same = same-outcome;
-      right = let l = later t b p S (callsOf t request es) in right-same _ _ _ _ _ _ same-outcome (right (upto es) (bookAfter t b (callsOf t request es)) (l .0) (l .1) (callOf t request e));
+      right = λ q. let l = later t b p G (callsOf t request es) in right-same q _ _ _ _ _ _ same-outcome (right (upto es) (λ q. bookAfter q t (b q) (callsOf t request es)) (l .0) (l .1) q (callOf t request e));
     }
 
     made-it : (i : ℕ) → Within (usedOf t) i → made (byLibrary t request) e (after (byLibrary t request) (rowBytes t) es) i ≡ rowBytes (outcome (upto es) (callOf t request e) .table) i
