@@ -12,7 +12,6 @@ use lib.ListN.{length, take, drop, length-append, length-drop}
 use lib.Seq.{drop-at, take-nil}
 use borrow.Author.Tests.{eqb-true, eq-eqb, le-leb, lt-leb}
 use Rattle.sets.specs.Upto.{Within, every}
-use Rattle.sets.specs.Sets.{has}
 use Rattle.bools.proofs.BoolLaws.{and-l, and-r, and-i, or-l, or-r}
 use Rattle.sets.proofs.UptoLaws.{every-at, every-of}
 use Rattle.bytes.specs.Bytes.{number, part, zeros, allZero}

@@ -1,12 +1,11 @@
 -- Sends in a founded history: as whole sends; rows of one version keep the same.
-use mathlib.Core.Path.{_≡_, refl, sym, _∙_, ap}
-use mathlib.Core.Bool.{false}
+use mathlib.Core.Path.{sym, _∙_, ap}
 use mathlib.Core.List.{List}
 use Prim.Native.Nat.{ℕ}
 use native.Mathlib.Omega.{arith}
 use lib.Dec.{eqb}
 use Rattle.fields.specs.Layout.{staleOf, versionOf, desiredOf, contentsOf}
-use Rattle.protocol.specs.Calls.{Sending, send, done, outcome}
+use Rattle.protocol.specs.Calls.{Sending, send, done}
 use Rattle.protocol.proofs.RowLaws.{copyKit, fieldsOf, changed}
 use Rattle.protocol.proofs.QuestionLaws.{SendYes, refusal-is, when-done, send-yes}
 use Rattle.protocol.proofs.DoneLaws.{sendTable, send-target}

@@ -1,17 +1,16 @@
 -- What the rows keep of a file goes by their versions of it: contents and window of a row of version v are those that v writes leave.
-use mathlib.Core.Path.{_≡_, refl, sym, _∙_, ap, ap₂}
-use mathlib.Core.Bool.{Bool, true, false, cond}
+use mathlib.Core.Path.{_≡_, sym, _∙_, ap, ap₂}
+use mathlib.Core.Bool.{cond}
 use mathlib.Core.Logic.{_⊎_, ⊎-elim}
 use mathlib.Core.List.{List}
-use Prim.Native.Nat.{ℕ, suc, _+_, _-_, _≤_, _<_}
+use Prim.Native.Nat.{ℕ, suc, _-_, _≤_, _<_}
 use native.Mathlib.Omega.{arith}
 use lib.Dec.{leb}
-use lib.ListN.{length}
 use borrow.Author.Tests.{le-leb, lt-leb}
 use Rattle.sets.specs.Upto.{Within}
 use Rattle.fields.specs.Layout.{get, version, contents, copyBytes, usedOf, fileLengthOf, versionOf, contentsOf}
-use Rattle.bytes.specs.Bytes.{put, zeros}
-use Rattle.window.specs.Windows.{Window, Patch, Kept, windowOf, emptied, added, patched, sent}
+use Rattle.bytes.specs.Bytes.{zeros}
+use Rattle.window.specs.Windows.{Patch, Kept, windowOf, emptied, patched, sent}
 use Rattle.window.specs.Claims.{Fits, Grown}
 use Rattle.window.proofs.ReachLaws.{grown-more, sent-whole}
 use Rattle.protocol.specs.Rows.{sentContents}

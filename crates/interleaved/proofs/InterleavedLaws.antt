@@ -1,6 +1,6 @@
 -- Every interleaving is a list of calls.
 use mathlib.Core.Path.{_≡_, refl, sym, _∙_, ap, ap₂, subst, fun-ext}
-use mathlib.Core.Bool.{Bool, true, false, not, cond, _&&_, _||_, and-true, and-false, or-false}
+use mathlib.Core.Bool.{Bool, true, false, cond, _&&_, _||_, and-true, and-false, or-false}
 use mathlib.Core.List.{List, [], _∷_, _++_}
 use Prim.Native.Nat.{ℕ, zero, suc, _^_, _≤_, _<_}
 use native.Mathlib.Decide.{decLt, ℕ-discrete}
@@ -9,16 +9,14 @@ use lib.Dec.{eqb, ltb}
 use borrow.Author.Tests.{eq-eqb, ne-eqb, ltb-true}
 use Rattle.bools.proofs.BoolLaws.{clash}
 use lib.Bits.{bitOr}
-use lib.ListN.{length, take, drop}
 use Rattle.sets.specs.Upto.{Within}
 use Rattle.sets.specs.Sets.{has}
 use Rattle.sets.proofs.SetLaws.{has-suc, empty-at}
 use Rattle.sets.proofs.DigitLaws.{on, on-or, on-power}
 use Rattle.bytes.specs.Bytes.{part}
 use Rattle.blocks.specs.Blocks.{withBlock, withBlocks}
-use Rattle.fields.specs.Layout.{usedOf, nameOf, linkOf, rowLength, rowBytes, rowsEnd, withRows}
+use Rattle.fields.specs.Layout.{usedOf, rowLength, rowBytes, withRows}
 use Rattle.table.specs.WellFormed.{limit, wellFormed}
-use Rattle.table.proofs.TableLaws.{Like}
 use Rattle.table.proofs.FormLaws.{formed, well-formed-of, rows-room}
 use Rattle.protocol.specs.Polls.{highestEpoch, inForce}
 use Rattle.protocol.specs.Calls.{Call, founding, join, read, write, send, check, carry, Outcome, answers, questions, done, outcome}
@@ -31,7 +29,6 @@ use Rattle.protocol.proofs.Unanswered.{used-same, lengths, rest}
 use Rattle.history.specs.Book.{Book}
 use Rattle.history.specs.Demand3.{RefusedRight, Right}
 use Rattle.history.specs.Claims.{tableAfter, bookAfter}
-use Rattle.history.specs.Claims as History
 use Rattle.history.proofs.Answers.{Group, first-file, right}
 use Rattle.history.proofs.Theorems.{later, reached}
 use Rattle.relaying.specs.Relaying.{blanked, BlankedEqual, OthersBlank, BlankedAlike, BlankedAnswers}
@@ -42,7 +39,7 @@ use Rattle.commit.specs.Steps.{Answer, silent, gave, Shown, none, some, show, s
 use Rattle.commit.specs.Atomic.{Entry, calls, answered, given, made, after, Saw, EveryCallAtomic, EveryCallOnce}
 use Rattle.commit.proofs.AtomicLaws.{every-call-atomic}
 use Rattle.commit.proofs.LedgerLaws.{every-call-once}
-use Rattle.interleaved.specs.Interleaved.{Request, toRead, toWrite, toSend, toCheck, asked, isShown, rowOf, setOf, assembled, decidedOn, byLibrary, callOf, callsOf, Told, AllTold, OneAtATime, EveryInterleaving}
+use Rattle.interleaved.specs.Interleaved.{Request, toRead, toWrite, toSend, toCheck, asked, isShown, rowOf, setOf, assembled, decidedOn, byLibrary, callOf, callsOf, Told, AllTold, EveryInterleaving}
 
 asked-answering : (q : Request) (r : ℕ) → Answering (asked q r) r
 unfolding asked

@@ -1,7 +1,7 @@
 -- Two overlapping writes, a crash and messages that come twice: a run, for whatever is decided, and its calls, computed over bytes.
-use mathlib.Core.Path.{_≡_, refl, sym, _∙_, ap, subst}
-use mathlib.Core.Bool.{Bool, true, false, cond, _&&_}
-use mathlib.Core.Logic.{_⊎_, inl, inr}
+use mathlib.Core.Path.{_≡_, refl, ap}
+use mathlib.Core.Bool.{Bool, true, false, _&&_}
+use mathlib.Core.Logic.{inl, inr}
 use mathlib.Core.List.{List, [], _∷_}
 use Prim.Native.Nat.{ℕ, _+_, _*_}
 use lib.Dec.{eqb}
@@ -26,11 +26,11 @@ use Rattle.protocol.specs.Calls
 use Rattle.protocol.proofs.Computed.{IsTrue, so}
 use Rattle.history.specs.Book.{opened}
 use Rattle.history.specs.Claims as History
-use Rattle.commit.specs.Steps.{Answer, silent, gave, Shown, none, some, show, shown, Decision, clear, prepared, Runs, State, set, In, EachOf, says, turns, logs, puts, installs, Step, begins, gives, hears, decides, ships, stores, reports-stored, notes, tells-take, takes, reports-took, crashes, founded, Reached, start, then, Later, now, later}
+use Rattle.commit.specs.Steps.{silent, gave, some, show, shown, Decision, clear, prepared, Runs, State, set, In, EachOf, says, turns, logs, puts, installs, Step, begins, gives, hears, decides, ships, stores, reports-stored, notes, tells-take, takes, reports-took, crashes, founded, Reached, start, then, Later, now, later}
 use Rattle.commit.specs.Atomic.{ifConfirmed, entries, calls, Ended}
 use Rattle.commit.proofs.Invariant.{no}
 use Rattle.commit.proofs.Losses.{each-none, each-set}
-use Rattle.interleaved.specs.Interleaved.{Request, toRead, toWrite, asked, isShown, setOf, byLibrary, callOf, callsOf, OverlapMet}
+use Rattle.interleaved.specs.Interleaved.{Request, toWrite, asked, isShown, setOf, byLibrary, callOf, callsOf, OverlapMet}
 
 -- ---- the run
 both : (r : List ℕ) (k : ℕ) (q : List ℕ) (c : ℕ) (P : ℕ → ℕ → List ℕ → Type 0) → P 1 k r → P 2 c q → EachOf (set (set (λ i. silent) 1 (gave k r)) 2 (gave c q)) P

@@ -19,7 +19,7 @@ use Rattle.fields.specs.Layout.{isTall, contents, copyLength, rowLength, rowByt
 use Rattle.table.specs.Chain.{orderOf}
 use Rattle.table.specs.WellFormed.{limit}
 use Rattle.fields.proofs.FieldLaws.{row-newest}
-use Rattle.window.specs.Windows.{Window, windowRight, windowOf, added}
+use Rattle.window.specs.Windows.{Window, windowOf, added}
 use Rattle.window.specs.Claims.{Fits}
 use Rattle.table.proofs.FormLaws.{Formed, formed, header-facts, rows-room}
 use Rattle.protocol.specs.Polls.{Poll, polled, highestEpoch, inForce, goodVersion, good}

@@ -1,11 +1,10 @@
 -- What is claimed of moves, proved.
-use mathlib.Core.Path.{_≡_, sym, _∙_, ap, subst}
-use mathlib.Core.List.{List}
+use mathlib.Core.Path.{sym, _∙_, ap, subst}
 use Rattle.carrying.specs.Claims.{RightIn, CarriedRight}
 use Rattle.carrying.proofs.Formed.{carried-right}
-use Rattle.protocol.specs.Calls.{Outcome, carry, done, outcome}
+use Rattle.protocol.specs.Calls.{Outcome, carry, done}
 use Rattle.protocol.specs.Claims.{MovesOver}
-use Rattle.protocol.proofs.QuestionLaws.{refusal-is, when-done, CarryYes, carry-yes}
+use Rattle.protocol.proofs.QuestionLaws.{refusal-is, when-done, carry-yes}
 
 pub moves-over : MovesOver
 unfolding MovesOver CarriedRight done

@@ -1,11 +1,6 @@
 -- What is claimed of sends, proved.
-use mathlib.Core.Path.{_≡_, refl, sym, _∙_, ap}
-use mathlib.Core.List.{List}
-use Prim.Native.Nat.{ℕ, _-_}
-use lib.Dec.{leb}
-use lib.ListN.{length}
-use Rattle.fields.specs.Layout.{get, version}
-use Rattle.window.specs.Windows.{patches, windowOf, sent}
+use Prim.Native.Nat.{_-_}
+use Rattle.window.specs.Windows.{sent}
 use Rattle.protocol.specs.Rows.{sentContents, refreshedCopy}
 use Rattle.protocol.specs.Claims.{SendsByWindow}
 

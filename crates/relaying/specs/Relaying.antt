@@ -1,6 +1,6 @@
 -- A relay that holds only rows that answered, and the table that it puts together for a call.
 use mathlib.Core.Path.{_≡_}
-use mathlib.Core.Bool.{Bool, true, false, not}
+use mathlib.Core.Bool.{true, false, not}
 use mathlib.Core.List.{List, _++_}
 use Prim.Native.Nat.{ℕ}
 use Rattle.sets.specs.Upto.{Within}
