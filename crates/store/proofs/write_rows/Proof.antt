@@ -1,16 +1,16 @@
 use mathlib.Core.Bool.{Bool, true, false}
-use mathlib.Core.Path.{_≡_, sym, _∙_, subst}
-use mathlib.Core.List.{List}
-use Rattle.window.specs.Windows.{windowOf}
-use Rattle.windows.specs.Visits.{RightFor}
-use Prim.Native.Nat.{ℕ}
+use mathlib.Core.Path.{_≡_, sym, _∙_, ap}
+use Prim.Native.Nat.{ℕ, _+_, _*_}
+use native.Mathlib.Nat.{mul-le-mul-right}
 use native.Mathlib.Omega.{arith}
 use borrow.Author.Needs.{needs}
 use borrow.Author.Tests.{not-true, not-false}
 use Rattle.store.proofs.RowsLaws.{Done, none-done, turn-fits, turn-long, turn-row, turn-done, done-long, done-all}
-use Rattle.protocol.specs.Rows.{wroteRow}
-use Rattle.table.proofs.WellFormedLaws.{long}
-use Rattle.fields.specs.Layout.{usedOf}
+use Rattle.protocol.specs.Rows.{wroteCopy}
+use Rattle.table.proofs.WellFormedLaws.{long, header}
+use Rattle.fields.specs.Layout.{copyLength, copyIn, inCopy, usedOf, filesOf, fileLengthOf, rowLength, copyBytes}
+use Rattle.fields.proofs.FieldLaws.{row-newest, stride-is}
+use Rattle.fields.proofs.FieldLaws as Fields
 use Rattle.sets.proofs.MemberLaws.{only, Taken, none-taken, all-taken, in-set, not-yet, fewer-left, one-taken}
 use Rattle.sets.specs.Sets.{has, noRow, joining}
 use Rattle.sets.specs.Upto.{Within, some}
@@ -19,20 +19,23 @@ use Rattle.store.proofs.write_rows.Tie as tie
 
 -- the rows taken so far are written
 abbrev Inv-loop : tie.InvT-loop
-Inv-loop t₀ good version offset patch size left₀ t left = (p : ℕ → Bool) × Taken (left₀ .bits) (left .bits) p × Done t₀ (wroteRow (has (good .bits)) version offset patch) size p t
+Inv-loop t₀ q good version offset patch size copy left₀ t left = (p : ℕ → Bool) × Taken (left₀ .bits) (left .bits) p × Done t₀ (λ i. inCopy (fileLengthOf t₀) q (wroteCopy (has (good .bits)) version offset patch i)) size p t
 
 abbrev μ-loop : tie.MeasureT-loop
-μ-loop t₀ good version offset patch size left₀ t left = left .bits
+μ-loop t₀ q good version offset patch size copy left₀ t left = left .bits
 
 -- in a turn some row is left
 some-left : (c : tie.Then1 Inv-loop μ-loop) → some 64 (has (c .before .before .loop .left .bits)) ≡ true
 some-left c = not-false _ (sym (c .before .is-empty .ensures) ∙ not-true _ (c .if1 .taken))
 
+abbrev start : tie.After-lowest Inv-loop μ-loop → tie.Start Inv-loop μ-loop
+start c = c .before .before .before .before .before .before .before .before .before .before .before
+
 -- the lowest of them is a used row, and not changed yet
-used : (c : tie.After-lowest Inv-loop μ-loop) → Within (usedOf (c .before .before .before .before .before .before .before .before .args .t .now)) (c .lowest .result)
+used : (c : tie.After-lowest Inv-loop μ-loop) → Within (usedOf (start c .args .t .now)) (c .lowest .result)
 used c =
-    let s = c .before .before .before .before .before .before .before .before in
-    s .pre .1 _ (in-set (c .before .before .before .loop .inv .1) (some-left (c .before)) (c .lowest .ensures))
+    let s = start c in
+    s .pre .3 _ (in-set (c .before .before .before .loop .inv .1) (some-left (c .before)) (c .lowest .ensures))
 
 new : (c : tie.After-lowest Inv-loop μ-loop) → c .before .before .before .loop .inv .0 (c .lowest .result) ≡ false
 new c = not-yet (c .before .before .before .loop .inv .1) (some-left (c .before)) (c .lowest .ensures)
@@ -40,8 +43,14 @@ new c = not-yet (c .before .before .before .loop .inv .1) (some-left (c .before)
 row-length-requires : tie.Need-row-length-requires Inv-loop μ-loop
 row-length-requires c κs = let z = c .before .before .before .pre .0 in (long z, z .header)
 
+file-length-requires : tie.Need-file-length-requires Inv-loop μ-loop
+file-length-requires c κs = long (c .before .before .before .before .before .pre .0)
+
+copy-size-requires : tie.Need-copy-size-requires Inv-loop μ-loop
+copy-size-requires c κs = let z = c .before .before .before .before .before .before .pre .0 in omega (arith, c .file-length .ensures, header (z .header) .file)
+
 loop-holds : tie.Need-loop-holds Inv-loop μ-loop
-loop-holds c = (noRow, none-taken _, none-done (c .before .before .before .before .pre .0) _ (c .row-length .ensures))
+loop-holds c = (noRow, none-taken _, none-done (c .before .before .before .before .before .before .before .pre .0) _ (c .before .before .before .row-length .ensures))
 
 is-empty-requires : tie.Need-is-empty-requires Inv-loop μ-loop
 is-empty-requires c κs = search needs
@@ -73,13 +82,22 @@ part-write-row-end c = omega (arith, turn-fits (c .before .before .before .loop 
 has-requires : tie.Need-has-requires Inv-loop μ-loop
 has-requires c κs = search needs
 
+-- a copy is as long as the file says
+copy-is : (c : tie.After-lowest Inv-loop μ-loop) → c .before .before .before .before .copy-size .result ≡ copyLength (fileLengthOf (start c .args .t .now))
+copy-is c = let k = c .before .before .before .before in k .copy-size .ensures ∙ ap copyLength (k .before .file-length .ensures)
+
 write-row-requires : tie.Need-write-row-requires Inv-loop μ-loop
+unfolding copyBytes copyIn
 write-row-requires c κs =
     let w = c .before .before in
-    let z = w .before .before .before .before .before .before .before .before in
-    let l = w .before .before .before .loop .inv in (
-      omega (arith, turn-long (l .2) (used w) (new w), z .pre .2),
-      subst (λ (row : List ℕ). (file : ℕ) × RightFor file (windowOf row)) (sym (turn-row (l .2) (used w) (new w))) (z .pre .3 _ (in-set (l .1) (some-left (w .before)) (w .lowest .ensures))),
+    let s = start w in
+    let l = w .before .before .before .loop .inv in
+    let t = s .args .t .now in
+    let n : rowLength t ≡ 32 + filesOf t * copyLength (fileLengthOf t) = row-newest t (s .pre .1) ∙ stride-is (filesOf t) (fileLengthOf t) in (
+      s .pre .2 .0,
+      omega (arith, turn-long (l .2) (used w) (new w), n, copy-is w, mul-le-mul-right {m = s .args .q} {n = filesOf t} (copyLength (fileLengthOf t)) (s .pre .2 .1), ap (λ (k : ℕ). s .args .q * k) (copy-is w)),
+      omega (arith, copy-is w, Fields.copy-is (fileLengthOf t), s .pre .4),
+      rw (copy-is w, turn-row (l .2) (used w) (new w)) (s .pre .5 _ (in-set (l .1) (some-left (w .before)) (w .lowest .ensures))),
     )
 
 rest-requires : tie.Need-rest-requires Inv-loop μ-loop
@@ -91,14 +109,14 @@ loop-less c =
     fewer-left (w .before .before .before .loop .inv .1) (some-left (w .before)) (w .lowest .ensures) (c .rest .ensures)
 
 loop-again : tie.Need-loop-again Inv-loop μ-loop
-unfolding wroteRow
+unfolding inCopy wroteCopy
 loop-again c =
     let x = c .before .before .before in
     let w = x .before .before .before in
     let l = w .before .before .before .loop in (
       joining (l .inv .0) (only (w .lowest .result)),
       one-taken (l .inv .1) (some-left (w .before)) (w .lowest .ensures) (c .rest .ensures),
-      turn-done (l .inv .2) (used w) (new w) _ (x .write-row .kept .0) (rw (x .before .has .ensures) at (x .write-row .ensures)),
+      turn-done (l .inv .2) (used w) (new w) _ (x .write-row .kept .0) (rw (copy-is w, x .before .has .ensures) at (x .write-row .ensures)),
     )
 
 same-length : tie.Need-same-length Inv-loop μ-loop
@@ -117,6 +135,8 @@ write-rows-spec =
     Inv-loop
     μ-loop
     row-length-requires
+    file-length-requires
+    copy-size-requires
     loop-holds
     is-empty-requires
     lowest-requires
