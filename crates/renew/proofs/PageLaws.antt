@@ -1,4 +1,4 @@
--- The sender's row on a page, and the target's row lent.
+-- The target's row lent.
 use mathlib.Core.Path.{_≡_, refl, sym, _∙_, ap, ap₂}
 use mathlib.Core.List.{List, _++_}
 use Prim.Native.Nat.{ℕ, zero, suc, _+_, _-_, _≤_}
@@ -8,10 +8,9 @@ use Rattle.sets.specs.Upto.{Within}
 use Rattle.bytes.specs.Bytes.{put}
 use Rattle.bytes.proofs.CodeLaws.{part-back, part-is, part-length}
 use Rattle.blocks.specs.Blocks.{withBlock}
-use Rattle.fields.specs.Layout.{formValue, formOf, usedOf, rowLength, rowsEnd, rowBytes, withRow}
-use Rattle.fields.proofs.FieldLaws.{row-room}
+use Rattle.fields.specs.Layout.{usedOf, rowLength, rowsEnd, rowBytes, withRow}
 use Rattle.table.specs.Contracts.{Sized}
-use Rattle.table.proofs.WellFormedLaws.{header, row-in, row-part}
+use Rattle.table.proofs.WellFormedLaws.{row-in, row-part}
 
 with-row : (t : List ℕ) (i : ℕ) → 1 ≤ i → (f : List ℕ → List ℕ) → withRow t i f ≡ put (rowsEnd t (i - 1)) (f (rowBytes t i)) t
 unfolding withRow withBlock rowsEnd rowBytes
@@ -21,9 +20,6 @@ with-row t (suc k) w f = let z : suc k - 1 ≡ k = omega arith in rw z
 module _ {t : List ℕ} (z : Sized t) (i : ℕ) (w : Within (usedOf t) i) (size at : ℕ) (e : size ≡ rowLength t) (q : at ≡ rowsEnd t (i - 1)) where
   pub row-fits : at + size ≤ length t
   row-fits = omega (arith, e, q, row-in z i w)
-
-  pub size-small : formOf t ≡ formValue → (608 ≤ size) × (size ≤ 4_704)
-  size-small new = omega (arith, e, row-room t new, header (z .header) .file)
 
   pub row-cut : take ((at + size) - at) (drop at t) ≡ rowBytes t i
   row-cut = part-is t at size (rowsEnd t (i - 1)) (rowLength t) q e ∙ sym (row-part z i w)

@@ -1,59 +1,67 @@
-use mathlib.Core.Path.{sym, _∙_, ap, subst}
+use mathlib.Core.Path.{sym, _∙_, subst}
+use Prim.Native.Nat.{ℕ, _+_, _-_, _*_, _≤_}
 use native.Mathlib.Omega.{arith}
-use Prim.Native.Nat.{ℕ, _-_}
+use lib.ListN.{length}
 use Rattle.window.specs.Windows.{windowOf}
 use Rattle.windows.specs.Visits.{RightFor}
-use Rattle.renew.proofs.SendLaws.{all-sent}
+use Rattle.table.proofs.CopyLaws.{copy-inside, copy-long, copy-back}
 use borrow.Author.Needs.{needs}
 use Rattle.renew.proofs.refresh_row.Statement.{statement}
 use Rattle.renew.proofs.refresh_row.Tie as tie
 
-version-requires : tie.Need-version-requires
-version-requires c κs = search needs
+-- the copy ends within the row
+inside : (c : tie.Start) → 32 + (c .args .q - 1) * c .args .size + c .args .size ≤ length (c .args .row .now)
+inside c = copy-inside (c .args .row .now) (c .args .size) (c .args .q) (c .pre .0) (c .pre .1)
 
-version-requires-2 : tie.Need-version-requires-2
-version-requires-2 c κs = search needs
+sub-at : tie.Need-sub-at
+sub-at c = search needs
 
-minus-requires : tie.Need-minus-requires
-minus-requires c κs = search needs
+mul-at : tie.Need-mul-at
+mul-at c = omega (arith, inside (c .before .before))
 
-renew-row-requires : tie.Need-renew-row-requires
-renew-row-requires c κs = search needs
+add-at : tie.Need-add-at
+add-at c = omega (arith, inside (c .before .before))
 
-send-contents-requires : tie.Need-send-contents-requires
-send-contents-requires c κs =
-    let k = c .before .before .before in
-    let s = k .before .before .before .before .before .before .before .before in
-    let n = k .renew-row .kept .0 in
-    (omega (arith, n, s .pre .0), n ∙ s .pre .1, subst (λ (m : ℕ). RightFor (m - 608) (windowOf (s .args .source .now))) (sym n) (s .pre .2))
+add-refresh-copy : tie.Need-add-refresh-copy
+add-refresh-copy c = omega (arith, inside (c .before .before))
 
-take-window-requires : tie.Need-take-window-requires
-take-window-requires c κs = search needs
+sub-refresh-copy : tie.Need-sub-refresh-copy
+sub-refresh-copy c = search needs
+
+part-refresh-copy-start : tie.Need-part-refresh-copy-start
+part-refresh-copy-start c = search needs
+
+part-refresh-copy-end : tie.Need-part-refresh-copy-end
+part-refresh-copy-end c = inside (c .before .before)
+
+refresh-copy-requires : tie.Need-refresh-copy-requires
+refresh-copy-requires c κs =
+    let s = c .before .before .before in
+    let a = s .args in
+    let n = copy-long (a .row .now) (a .size) (a .q) (s .pre .0) (inside s) in
+    (omega (arith, n, s .pre .2), n ∙ sym (s .pre .3), subst (λ (k : ℕ). RightFor (k - 588) (windowOf (a .source .now))) (sym n) (s .pre .4))
 
 same-length : tie.Need-same-length
 same-length c = search needs
 
 returns : tie.Need-returns
 returns c =
-    let k3 = c .before .before in
-    let k2 = k3 .before .before .before .before in
-    let k1 = k2 .before .before .before .before in
-    let m = k1 .before .before in
-    let v2 = m .before in
-    let v = v2 .before .before in
-    let s = v .before .before .before in
-    all-sent (s .args .row .now) (s .args .source .now) (s .pre .0) (s .pre .1) (v .version .result) _ _ _ _ (v .version .ensures)
-    (m .minus .ensures ∙ ap (λ (n : ℕ). v .version .result - n) (v2 .version2 .ensures)) (k1 .renew-row .ensures) (k2 .send-contents .ensures) (k3 .take-window .ensures)
+    let w = c .before .before in
+    let s = w .before .before .before .before in
+    let a = s .args in
+    copy-back (a .row .now) (a .size) (a .q) (s .pre .0) (inside s) _ _ (w .refresh-copy .kept .0) (w .refresh-copy .ensures)
 
 pub refresh-row-spec : {M : Type 1} → statement M
 refresh-row-spec =
     tie.close
     (tie.spec
-    version-requires
-    version-requires-2
-    minus-requires
-    renew-row-requires
-    send-contents-requires
-    take-window-requires
+    sub-at
+    mul-at
+    add-at
+    add-refresh-copy
+    sub-refresh-copy
+    part-refresh-copy-start
+    part-refresh-copy-end
+    refresh-copy-requires
     same-length
     returns)

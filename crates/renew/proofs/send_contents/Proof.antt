@@ -43,9 +43,9 @@ sent-over-requires : tie.Need-sent-over-requires
 sent-over-requires c κs =
     let g = c .before .before .before in
     let s = g .before .before .before in (
-      records-long (s .args .row .now) (s .args .source .now) (s .pre .0) (s .pre .1),
-      right-cut (s .args .row .now) (s .args .source .now) (s .pre .0) (s .pre .1) _ (g .oldest .ensures) (s .pre .2),
-      both-long (s .args .row .now) (s .args .source .now) (s .pre .0) (s .pre .1),
+      records-long (s .args .copy .now) (s .args .source .now) (s .pre .0) (s .pre .1),
+      right-cut (s .args .copy .now) (s .args .source .now) (s .pre .0) (s .pre .1) _ (g .oldest .ensures) (s .pre .2),
+      both-long (s .args .copy .now) (s .args .source .now) (s .pre .0) (s .pre .1),
     )
 
 same-length : tie.Need-same-length
@@ -56,7 +56,7 @@ returns c =
     let k = c .before .before in
     let g = k .before .before .before .before in
     let s = g .before .before .before in
-    sent-in (s .args .row .now) (s .args .source .now) (s .pre .0) (s .pre .1) (s .args .missing) _ _ (g .oldest .ensures) (k .sent-over .ensures) (k .sent-over .kept .0)
+    sent-in (s .args .copy .now) (s .args .source .now) (s .pre .0) (s .pre .1) (s .args .missing) _ _ (g .oldest .ensures) (k .sent-over .ensures) (k .sent-over .kept .0)
 
 pub send-contents-spec : {M : Type 1} → statement M
 send-contents-spec =

@@ -45,7 +45,7 @@ returns c =
     let o = k .before .before .before .before .before in
     let g = o .before .before in
     let s = g .before .before .before in
-    took-over (s .args .row .now) (s .args .source .now) (s .pre .0) (s .pre .1) _ _ (o .set-oldest .ensures ∙ ap (λ (n : ℕ). store oldest n (s .args .row .now)) (g .oldest .ensures)) (k .copy .ensures)
+    took-over (s .args .copy .now) (s .args .source .now) (s .pre .0) (s .pre .1) _ _ (o .set-oldest .ensures ∙ ap (λ (n : ℕ). store oldest n (s .args .copy .now)) (g .oldest .ensures)) (k .copy2 .ensures)
 
 pub take-window-spec : {M : Type 1} → statement M
 take-window-spec =

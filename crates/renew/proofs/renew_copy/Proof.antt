@@ -1,6 +1,6 @@
 use borrow.Author.Needs.{needs}
-use Rattle.renew.proofs.renew_row.Statement.{statement}
-use Rattle.renew.proofs.renew_row.Tie as tie
+use Rattle.renew.proofs.renew_copy.Statement.{statement}
+use Rattle.renew.proofs.renew_copy.Tie as tie
 
 set-mark-requires : tie.Need-set-mark-requires
 set-mark-requires c κs = search needs
@@ -18,7 +18,7 @@ returns : tie.Need-returns
 returns c =
     rw (c .before .before .set-desired .ensures, c .before .before .before .before .before .before .set-version .ensures, c .before .before .before .before .before .before .before .before .before .before .set-mark .ensures)
 
-pub renew-row-spec : {M : Type 1} → statement M
-renew-row-spec =
+pub renew-copy-spec : {M : Type 1} → statement M
+renew-copy-spec =
     tie.close
     (tie.spec set-mark-requires set-version-requires set-desired-requires same-length returns)
