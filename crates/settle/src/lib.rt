@@ -10,9 +10,9 @@ ghost use mathlib.Core.Path.{_≡_};
 ghost use mathlib.Core.Bool.{true, not, cond, _&&_};
 ghost use Prim.Native.Nat.{_^_, _<_};
 ghost use lib.ListN.{take};
-ghost use Rattle.sets.specs.Upto.{count};
+ghost use Rattle.sets.specs.Upto.{Within, count};
 ghost use Rattle.sets.specs.Sets.{has};
-ghost use Rattle.fields.specs.Layout.{isEmpty, usedOf};
+ghost use Rattle.fields.specs.Layout.{isEmpty, usedOf, filesOf};
 ghost use Rattle.table.specs.WellFormed.{wellFormed};
 ghost use Rattle.table.specs.Contracts.{Listed, Ordered};
 ghost use Rattle.protocol.specs.Lists.{listQuorum};
@@ -56,11 +56,18 @@ fn on_all(kind: Kind, order: &[u8; 64], count: usize, answering: RowSet, whole: 
     settled_on(answering, no, whole, count as u8)
 }
 
-// The set that a read or a write works on: P, the coordinator's own choice cut down to the rows that answered, if questions 6 and 7
+// The set that a read or a write of file q works on: P, the coordinator's own choice cut down to the rows that answered, if questions 6 and 7
 // are yes for it; otherwise all of them. `order` starts with the used rows in chain order.
-pub fn settle(kind: Kind, t: &[u8], order: &[u8; 64], c: usize, answering: RowSet) -> Settled
-    requires { ⌜ (wellFormed (now t) ≡ true) × Ordered (now t) (now order) × (answering .bits < 2 ^ usedOf (now t)) × (has (answering .bits) c ≡ true) ⌝ }
-    ensures { λ r. ⌜ Works kind (now (t .entry)) c (answering .bits) r ⌝ }
+pub fn settle(
+    kind: Kind,
+    t: &[u8],
+    q: usize,
+    order: &[u8; 64],
+    c: usize,
+    answering: RowSet,
+) -> Settled
+    requires { ⌜ (wellFormed (now t) ≡ true) × Within (filesOf (now t)) q × Ordered (now t) (now order) × (answering .bits < 2 ^ usedOf (now t)) × (has (answering .bits) c ≡ true) ⌝ }
+    ensures { λ r. ⌜ Works kind (now (t .entry)) q c (answering .bits) r ⌝ }
 {
     let count = header::used(t);
     let row = table::row_of(t, c);
@@ -69,7 +76,7 @@ pub fn settle(kind: Kind, t: &[u8], order: &[u8; 64], c: usize, answering: RowSe
     let tried = chosen.cut(answering);
     // pointer and length of the table, each by itself: loaded as one, they would wait until the stores of the caller are done
     let lent = &t[0..t.len()];
-    let part = judged(lent, tried);
+    let part = judged(lent, q, tried);
     if part.current {
         // a choice that answered whole holds a quorum of the list that it was made over; otherwise one is counted
         if both(tried.bits == chosen.bits, part.list.same(own)) {
@@ -83,5 +90,5 @@ pub fn settle(kind: Kind, t: &[u8], order: &[u8; 64], c: usize, answering: RowSe
         // P is all that answered: it is not polled again
         return on_all(kind, order, count, answering, part);
     }
-    on_all(kind, order, count, answering, judged(lent, answering))
+    on_all(kind, order, count, answering, judged(lent, q, answering))
 }

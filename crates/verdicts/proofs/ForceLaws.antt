@@ -23,23 +23,23 @@ use Rattle.verdicts.specs.declared.Verdict.{Verdict}
 use Rattle.verdicts.specs.Judged.{Led, Judged}
 
 -- ---- a set of rows that answered, by their poll
-module _ (t : List ℕ) (r s : ℕ) (sub : (i : ℕ) → has s i ≡ true → has r i ≡ true) where
+module _ (t : List ℕ) (q r s : ℕ) (sub : (i : ℕ) → has s i ≡ true → has r i ≡ true) where
   -- each says its list; no row says none
-  said : (i : ℕ) → (1 ≤ i → has s i ≡ true) → answers t r .list i ≡ listOf t i
+  said : (i : ℕ) → (1 ≤ i → has s i ≡ true) → answers t q r .list i ≡ listOf t i
   unfolding answers polled has
   said zero m = sym (no-row-no-list t)
   said (suc k) m = rw (sub (suc k) (m (omega arith)))
 
-  no-place : isEmpty (answers t r .list 0) ≡ true
+  no-place : isEmpty (answers t q r .list 0) ≡ true
   unfolding isEmpty noList
   no-place = ap isEmpty (said 0 (λ h. absurd (omega arith)) ∙ no-row-no-list t)
 
   -- the list in force is that of the row that leads those that have one
-  pub listed-leads : (f : Force) (w : ℕ → Bool) → w ≡ listed (answers t r) (has s) → Led t (answers t r .epoch) w f
-      → (f .epoch ≡ highestEpoch (answers t r) (has s)) × (f .list ≡ inForce (answers t r) (has s))
+  pub listed-leads : (f : Force) (w : ℕ → Bool) → w ≡ listed (answers t q r) (has s) → Led t (answers t q r .epoch) w f
+      → (f .epoch ≡ highestEpoch (answers t q r) (has s)) × (f .list ≡ inForce (answers t q r) (has s))
   unfolding inForce highestEpoch
   listed-leads f w these l =
-      let p = answers t r in
+      let p = answers t q r in
       let epoch : f .epoch ≡ highestEpoch p (has s) = l .epoch ∙ ap (λ (u : ℕ → Bool). most 64 u (p .epoch)) these in
       let leader = lowest 64 (λ i. listed p (has s) i && eqb (p .epoch i) (highestEpoch p (has s))) in (
         epoch,
@@ -48,7 +48,7 @@ module _ (t : List ℕ) (r s : ℕ) (sub : (i : ℕ) → has s i ≡ true → ha
       )
 
   -- a poll of the set alone says the same of it
-  same : Agree (answers t s) (answers t r) (has s)
+  same : Agree (answers t q s) (answers t q r) (has s)
   unfolding answers polled
   same = record {
     stale = λ i m. rw (m, sub i m);
@@ -58,28 +58,28 @@ module _ (t : List ℕ) (r s : ℕ) (sub : (i : ℕ) → has s i ≡ true → ha
     list = λ i m. rw (m, sub i m);
   }
 
-  pub told-more : (v : Verdict) → Judged (answers t s) (has s) v → Judged (answers t r) (has s) v
+  pub told-more : (v : Verdict) → Judged (answers t q s) (has s) v → Judged (answers t q r) (has s) v
   unfolding answers polled has
   told-more v y = record {
     good = y .good ∙ good-same _ _ (has s) same;
     version = y .version ∙ version-same _ _ (has s) same;
     current = y .current ∙ current-same _ _ (has s) same;
     epoch = y .epoch ∙ epoch-same _ _ (has s) same;
-    list = y .list ∙ list-is (some 64 (listed (answers t s) (has s))) refl;
+    list = y .list ∙ list-is (some 64 (listed (answers t q s) (has s))) refl;
   }
     where
-      list-is : (b : Bool) → some 64 (listed (answers t s) (has s)) ≡ b → inForce (answers t s) (has s) ≡ inForce (answers t r) (has s)
+      list-is : (b : Bool) → some 64 (listed (answers t q s) (has s)) ≡ b → inForce (answers t q s) (has s) ≡ inForce (answers t q r) (has s)
       list-is true one = list-same _ _ (has s) same one
       list-is false none = lead-none _ (has s) none ∙ sym (lead-none _ (has s) (rw (← listed-same _ _ (has s) same) none))
 
   -- questions 6 and 7 are asked of it
-  module _ (kind : Kind) (order : List ℕ) (v : Verdict) (eo : order ≡ orderOf t) (y : Judged (answers t r) (has s) v) where
-    pub six-is : (not (isEmpty (v .list)) && listQuorum kind order (v .list) (has s)) ≡ quorumHeld kind (orderOf t) (answers t r) (has s)
+  module _ (kind : Kind) (order : List ℕ) (v : Verdict) (eo : order ≡ orderOf t) (y : Judged (answers t q r) (has s) v) where
+    pub six-is : (not (isEmpty (v .list)) && listQuorum kind order (v .list) (has s)) ≡ quorumHeld kind (orderOf t) (answers t q r) (has s)
     unfolding quorumHeld
     six-is =
         ap₂ (λ (o : List ℕ) (l : Laid). not (isEmpty l) && listQuorum kind o l (has s)) eo (y .list)
-        ∙ ap (λ (b : Bool). b && listQuorum kind (orderOf t) (inForce (answers t r) (has s)) (has s)) (sym (held-list (answers t r) (has s) no-place))
+        ∙ ap (λ (b : Bool). b && listQuorum kind (orderOf t) (inForce (answers t q r) (has s)) (has s)) (sym (held-list (answers t q r) (has s) no-place))
 
     pub verdict-is : (n : ℕ) → n ≡ cond (not (isEmpty (v .list)) && listQuorum kind order (v .list) (has s)) (cond (v .current) 0 7) 6
-        → n ≡ cond (quorumHeld kind (orderOf t) (answers t r) (has s)) (cond (current (answers t r) (has s)) 0 7) 6
+        → n ≡ cond (quorumHeld kind (orderOf t) (answers t q r) (has s)) (cond (current (answers t q r) (has s)) 0 7) 6
     verdict-is n en = en ∙ ap₂ (λ (b x : Bool). cond b (cond x 0 7) 6) six-is (y .current)

@@ -11,7 +11,7 @@ ghost use lib.ListN.{take};
 ghost use Rattle.sets.specs.Upto.{Within, lowest};
 ghost use Rattle.sets.specs.Sets.{has};
 ghost use Rattle.rows.specs.declared.RowSet.{RowSet};
-ghost use Rattle.fields.specs.Layout.{isEmpty, usedOf, listOf};
+ghost use Rattle.fields.specs.Layout.{isEmpty, formValue, formOf, usedOf, filesOf, listOf};
 ghost use Rattle.table.specs.Contracts.{Sized, Listed};
 ghost use Rattle.protocol.specs.Lists.{listQuorum};
 ghost use Rattle.protocol.specs.Polls.{Poll};
@@ -21,10 +21,10 @@ ghost use Rattle.polls.specs.Shows.{Shows};
 ghost use Rattle.verdicts.specs.Judged.{pollOf, Tallied, Led, Judged};
 
 // Of a set, by a poll: its good rows, their version, is it current.
-struct Tally {
-    good: RowSet,
-    version: u32,
-    current: bool,
+pub struct Tally {
+    pub good: RowSet,
+    pub version: u32,
+    pub current: bool,
 }
 
 // Of a set: the highest epoch of its rows that have a list, and the list in force, V.
@@ -93,7 +93,7 @@ fn told<'a>(
     s: RowSet,
 ) -> Verdict
     requires { ⌜ Sized (now t) × (s .bits < 2 ^ usedOf (now t)) ⌝ }
-    ensures { λ v. ⌜ (Shows (pollOf stale listed (now (versions .entry)) (now (desired .entry)) (now (epochs .entry))) (answers (now (t .entry)) (s .bits)) → Judged (answers (now (t .entry)) (s .bits)) (has (s .bits)) v) ⌝ }
+    ensures { λ v. ⌜ ((q : ℕ) → Shows (pollOf stale listed (now (versions .entry)) (now (desired .entry)) (now (epochs .entry))) (answers (now (t .entry)) q (s .bits)) → Judged (answers (now (t .entry)) q (s .bits)) (has (s .bits)) v) ⌝ }
 {
     let found = tally_of(stale, versions, desired, s);
     let force = lead(t, epochs, s.cut(listed));
@@ -108,12 +108,12 @@ fn told<'a>(
     }
 }
 
-// What a poll of a set of rows says of it.
-pub fn judged(t: &[u8], s: RowSet) -> Verdict
-    requires { ⌜ Sized (now t) × (s .bits < 2 ^ usedOf (now t)) ⌝ }
-    ensures { λ v. ⌜ Judged (answers (now (t .entry)) (s .bits)) (has (s .bits)) v ⌝ }
+// What a poll of a set of rows says of it in file q.
+pub fn judged(t: &[u8], q: usize, s: RowSet) -> Verdict
+    requires { ⌜ Sized (now t) × (formOf (now t) ≡ formValue) × Within (filesOf (now t)) q × (s .bits < 2 ^ usedOf (now t)) ⌝ }
+    ensures { λ v. ⌜ Judged (answers (now (t .entry)) q (s .bits)) (has (s .bits)) v ⌝ }
 {
-    let poll = polls::gather(t, s);
+    let poll = polls::gather(t, q, s);
     told(
         t,
         poll.stale,
@@ -123,6 +123,15 @@ pub fn judged(t: &[u8], s: RowSet) -> Verdict
         &poll.epochs,
         s,
     )
+}
+
+// The same but for the list in force, which is that of any other file.
+pub fn tallied(t: &[u8], q: usize, s: RowSet) -> Tally
+    requires { ⌜ Sized (now t) × (formOf (now t) ≡ formValue) × Within (filesOf (now t)) q × (s .bits < 2 ^ usedOf (now t)) ⌝ }
+    ensures { λ v. ⌜ Tallied (answers (now (t .entry)) q (s .bits)) (has (s .bits)) v ⌝ }
+{
+    let said = polls::gather(t, q, s);
+    tally_of(said.stale, &said.versions, &said.desired, s)
 }
 
 // Question 6: does a set hold a quorum of a list? Of an empty one none does.

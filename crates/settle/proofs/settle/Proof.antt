@@ -14,7 +14,7 @@ use Rattle.verdicts.specs.Judged.{Judged}
 use Rattle.protocol.specs.Calls.{answers}
 use Rattle.protocol.specs.Polls.{polled, ownTry}
 use Rattle.protocol.specs.Lists.{listQuorum, listChoice}
-use Rattle.table.proofs.WellFormedLaws.{sized, long, few-rows}
+use Rattle.table.proofs.WellFormedLaws.{newest, sized, long, few-rows}
 use Rattle.table.proofs.FormLaws.{formed}
 use Rattle.table.specs.Contracts.{Listed}
 use Rattle.table.specs.Chain.{orderOf}
@@ -29,14 +29,14 @@ use Rattle.settle.proofs.settle.Tie as tie
 
 -- the coordinator's row is a used one
 own-used : (c : tie.After-used) → let s = c .before .before in Within (usedOf (s .args .t .now)) (s .args .c)
-own-used c = let s = c .before .before in has-within (usedOf (s .args .t .now)) (s .args .answering .bits) (s .args .c) (s .pre .2) (s .pre .3)
+own-used c = let s = c .before .before in has-within (usedOf (s .args .t .now)) (s .args .answering .bits) (s .args .c) (s .pre .3) (s .pre .4)
 
 -- the chain order
 listed : (c : tie.After-used) → Listed (c .used .result) (c .before .before .args .order .now) (c .used .result)
-listed c = rw (c .used .ensures) (c .before .before .pre .1 .listed)
+listed c = rw (c .used .ensures) (c .before .before .pre .2 .listed)
 
 order-is : (c : tie.After-used) → take (c .used .result) (c .before .before .args .order .now) ≡ orderOf (c .before .before .args .t .now)
-order-is c = rw (c .used .ensures) (c .before .before .pre .1 .order)
+order-is c = rw (c .used .ensures) (c .before .before .pre .2 .order)
 
 -- the coordinator's own list, and its choice
 own-is : (c : tie.After-list) → c .list .result ≡ listOf (c .before .before .before .before .args .t .now) (c .before .before .before .before .args .c)
@@ -54,16 +54,16 @@ chosen-is c =
 
 -- over the list that it says it has
 chosen-said : (c : tie.After-choice) → let a = c .before .before .before .before .before .before .args in
-    has (c .choice .result .bits) ≡ listChoice (a .kind) (orderOf (a .t .now)) (answers (a .t .now) (a .answering .bits) .list (a .c)) (nameOf (a .t .now) (a .c))
+    has (c .choice .result .bits) ≡ listChoice (a .kind) (orderOf (a .t .now)) (answers (a .t .now) (a .q) (a .answering .bits) .list (a .c)) (nameOf (a .t .now) (a .c))
 unfolding answers polled
 chosen-said c =
     let s = c .before .before .before .before .before .before in
     chosen-is c
-    ∙ ap (λ (b : Bool). listChoice (s .args .kind) (orderOf (s .args .t .now)) (cond b (listOf (s .args .t .now) (s .args .c)) noList) (nameOf (s .args .t .now) (s .args .c))) (sym (s .pre .3))
+    ∙ ap (λ (b : Bool). listChoice (s .args .kind) (orderOf (s .args .t .now)) (cond b (listOf (s .args .t .now) (s .args .c)) noList) (nameOf (s .args .t .now) (s .args .c))) (sym (s .pre .4))
 
 -- P is tried first
 tried : (c : tie.After-cut) → let a = c .before .before .before .before .before .before .before .args in
-    has (c .cut .result .bits) ≡ ownTry (a .kind) (orderOf (a .t .now)) (answers (a .t .now) (a .answering .bits)) (a .c) (nameOf (a .t .now) (a .c)) (has (a .answering .bits))
+    has (c .cut .result .bits) ≡ ownTry (a .kind) (orderOf (a .t .now)) (answers (a .t .now) (a .q) (a .answering .bits)) (a .c) (nameOf (a .t .now) (a .c)) (has (a .answering .bits))
 unfolding ownTry
 tried c =
     let a = c .before .before .before .before .before .before .before .args in
@@ -74,22 +74,22 @@ tried-used : (c : tie.After-cut) → c .cut .result .bits < 2 ^ usedOf (c .befor
 tried-used c =
     let s = c .before .before .before .before .before .before .before in
     within-lt (usedOf (s .args .t .now)) (c .cut .result .bits) (few-rows (sized (s .pre .0))) (omega arith)
-    (λ i m. has-within _ (s .args .answering .bits) i (s .pre .2) (try-in (s .args .kind) (s .args .t .now) (s .args .c) (s .args .answering .bits) (c .cut .result .bits) (tried c) i m))
+    (λ i m. has-within _ (s .args .answering .bits) i (s .pre .3) (try-in (s .args .kind) (s .args .t .now) (s .args .q) (s .args .c) (s .args .answering .bits) (c .cut .result .bits) (tried c) i m))
 
 -- the whole table as a part of itself
 lent-all : (xs : List ℕ) → take (length xs - 0) xs ≡ xs
 lent-all xs = take-all (length xs - 0) xs (omega arith)
 
 -- what a poll of P says of it
-alone-part : (c : tie.After-judged) → Judged (answers (c .before .before .before .before .before .before .before .before .before .args .t .now) (c .before .before .cut .result .bits)) (has (c .before .before .cut .result .bits)) (c .judged .result)
+alone-part : (c : tie.After-judged) → Judged (answers (c .before .before .before .before .before .before .before .before .before .args .t .now) (c .before .before .before .before .before .before .before .before .before .args .q) (c .before .before .cut .result .bits)) (has (c .before .before .cut .result .bits)) (c .judged .result)
 alone-part c = rw (lent-all (c .before .before .before .before .before .before .before .before .before .args .t .now)) at (c .judged .ensures)
 
 -- and a poll of the rows that answered
-part : (c : tie.After-judged) → Judged (answers (c .before .before .before .before .before .before .before .before .before .args .t .now) (c .before .before .before .before .before .before .before .before .before .args .answering .bits)) (has (c .before .before .cut .result .bits)) (c .judged .result)
+part : (c : tie.After-judged) → Judged (answers (c .before .before .before .before .before .before .before .before .before .args .t .now) (c .before .before .before .before .before .before .before .before .before .args .q) (c .before .before .before .before .before .before .before .before .before .args .answering .bits)) (has (c .before .before .cut .result .bits)) (c .judged .result)
 part c =
     let a = c .before .before .before .before .before .before .before .before .before .args in
     let p = c .before .before in
-    alone (a .kind) (a .t .now) (a .c) (a .answering .bits) (p .cut .result .bits) (tried p) _ (alone-part c)
+    alone (a .kind) (a .t .now) (a .q) (a .c) (a .answering .bits) (p .cut .result .bits) (tried p) _ (alone-part c)
 
 -- question 6 of P, and both: is it current too?
 abbrev six : tie.After-judged → Bool
@@ -113,7 +113,7 @@ sure c =
     let whole : has (p .cut .result .bits) ≡ has (p .before .choice .result .bits) = ap has (eqb-true _ _ (and-l _ _ both)) in
     let force : j .judged .result .list ≡ listOf t (s .args .c) = c .before .before .same .ensures .0 (and-r (eqb (p .cut .result .bits) (p .before .choice .result .bits)) _ both) ∙ own-is o in
     and-i _ _ k
-    (rw (order-is u, force) (sure-held (s .args .kind) t (p .cut .result .bits) _ (listOf t (s .args .c)) (s .pre .0) (formed t (s .pre .0) .rows _ (own-used u) .only) (whole ∙ chosen-is (p .before)) (sym (alone-part j .current) ∙ k)))
+    (rw (order-is u, force) (sure-held (s .args .kind) t (s .args .q) (p .cut .result .bits) _ (listOf t (s .args .c)) (s .pre .0) (formed t (s .pre .0) .heads _ (own-used u) .only) (whole ∙ chosen-is (p .before)) (sym (alone-part j .current) ∙ k)))
 
 -- or it was counted
 counted : (c : tie.Then3) → yes (c .before .before .before .before .before .before .before .before) ≡ true
@@ -157,7 +157,7 @@ part-lent-end : tie.Need-part-lent-end
 part-lent-end c = search needs
 
 judged-requires : tie.Need-judged-requires
-judged-requires c κs = let s = c .before .before .before .before .before .before .before .before in rw (lent-all (s .args .t .now)) (sized (s .pre .0), tried-used (c .before))
+judged-requires c κs = let s = c .before .before .before .before .before .before .before .before in rw (lent-all (s .args .t .now)) (sized (s .pre .0), newest (s .args .t .now) (s .pre .0), s .pre .1, tried-used (c .before))
 
 same-requires : tie.Need-same-requires
 same-requires c κs = search needs
@@ -175,7 +175,7 @@ returns c =
     let p = j .before .before in
     let u = p .before .before .before .before .before in
     let a = u .before .before .args in
-    works-on-try (a .kind) (a .t .now) (a .c) (a .answering .bits) (p .cut .result .bits) (tried p) _ (order-is u) _ (part j) (yes j) refl
+    works-on-try (a .kind) (a .t .now) (a .q) (a .c) (a .answering .bits) (p .cut .result .bits) (tried p) _ (order-is u) _ (part j) (yes j) refl
     (sure h) _ (p .cut .result) _ refl (ap (count 64) (chosen-said (p .before))) (c .on-try .ensures)
 
 quorum-held-requires : tie.Need-quorum-held-requires
@@ -191,7 +191,7 @@ returns-2 c =
     let p = j .before .before in
     let u = p .before .before .before .before .before in
     let a = u .before .before .args in
-    works-on-try (a .kind) (a .t .now) (a .c) (a .answering .bits) (p .cut .result .bits) (tried p) _ (order-is u) _ (part j) (yes j) refl
+    works-on-try (a .kind) (a .t .now) (a .q) (a .c) (a .answering .bits) (p .cut .result .bits) (tried p) _ (order-is u) _ (part j) (yes j) refl
     (counted h) _ (p .cut .result) _ refl (ap (count 64) (chosen-said (p .before))) (c .on-try2 .ensures)
 
 on-all-requires : tie.Need-on-all-requires
@@ -204,12 +204,12 @@ returns-3 c =
     let p = j .before .before in
     let u = p .before .before .before .before .before in
     let a = u .before .before .args in
-    works-on-all (a .kind) (a .t .now) (a .c) (a .answering .bits) (p .cut .result .bits) (tried p) _ (order-is u) _ (part j) (yes j) refl
+    works-on-all (a .kind) (a .t .now) (a .q) (a .c) (a .answering .bits) (p .cut .result .bits) (tried p) _ (order-is u) _ (part j) (yes j) refl
     (failed g) _ (a .answering) _ _ refl (u .used .ensures)
-    (subst (λ (x : ℕ). Judged (answers (a .t .now) (a .answering .bits)) (has x) (j .judged .result)) (c .before .if4 .taken) (part j)) (c .on-all .ensures)
+    (subst (λ (x : ℕ). Judged (answers (a .t .now) (a .q) (a .answering .bits)) (has x) (j .judged .result)) (c .before .if4 .taken) (part j)) (c .on-all .ensures)
 
 judged-requires-2 : tie.Need-judged-requires-2
-judged-requires-2 c κs = let s = c .before .before .before .before .before .before .before .before .before .before .before .before .before in rw (lent-all (s .args .t .now)) (sized (s .pre .0), s .pre .2)
+judged-requires-2 c κs = let s = c .before .before .before .before .before .before .before .before .before .before .before .before .before in rw (lent-all (s .args .t .now)) (sized (s .pre .0), newest (s .args .t .now) (s .pre .0), s .pre .1, s .pre .3)
 
 on-all-requires-2 : tie.Need-on-all-requires-2
 on-all-requires-2 c κs = listed (c .before .before .before .before .before .before .before .before .before .before .before .before)
@@ -221,7 +221,7 @@ returns-4 c =
     let p = j .before .before in
     let u = p .before .before .before .before .before in
     let a = u .before .before .args in
-    works-on-all (a .kind) (a .t .now) (a .c) (a .answering .bits) (p .cut .result .bits) (tried p) _ (order-is u) _ (part j) (yes j) refl
+    works-on-all (a .kind) (a .t .now) (a .q) (a .c) (a .answering .bits) (p .cut .result .bits) (tried p) _ (order-is u) _ (part j) (yes j) refl
     (failed g) _ (a .answering) _ _ refl (u .used .ensures) (rw (lent-all (a .t .now)) at (c .before .judged2 .ensures)) (c .on-all2 .ensures)
 
 pub settle-spec : {M : Type 1} → statement M

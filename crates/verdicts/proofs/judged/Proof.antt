@@ -11,7 +11,7 @@ told-requires c κs = search needs
 
 returns : tie.Need-returns
 unfolding answers
-returns c = c .told .ensures (c .before .before .before .before .before .before .before .gather .ensures)
+returns c = c .told .ensures _ (c .before .before .before .before .before .before .before .gather .ensures)
 
 pub judged-spec : {M : Type 1} → statement M
 judged-spec = tie.close (tie.spec gather-requires told-requires returns)

@@ -24,13 +24,13 @@ lead-requires c κs =
 
 returns : tie.Need-returns
 unfolding cutTo listed
-returns c shown =
+returns c q shown =
     let l = c .before .before in
     let k = l .before in
     let s = k .before .before .before .args .s .bits in
     let y = k .before .tally-of .ensures _ _ _ shown in
     let these = k .cut .ensures ∙ ap {B = ℕ → Bool} (λ (m : ℕ → Bool) (i : ℕ). has s i && m i) (shown .listed) in
-    let z = listed-leads _ s s (λ i m. m) _ _ these (rw (shown .epochs) at (l .lead .ensures)) in
+    let z = listed-leads _ q s s (λ i m. m) _ _ these (rw (shown .epochs) at (l .lead .ensures)) in
     record { good = y .good; version = y .version; current = y .current; epoch = z .0; list = z .1 }
 
 pub told-spec : {M : Type 1} → statement M
