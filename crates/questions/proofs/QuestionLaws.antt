@@ -6,15 +6,16 @@ use Prim.Native.Nat.{ℕ, _+_, _*_, _^_, _≤_}
 use native.Mathlib.Omega.{arith}
 use lib.Dec.{eqb, leb}
 use borrow.Author.Tests.{leb-true, le-leb, ne-eqb}
+use Rattle.sets.specs.Upto.{Within}
 use Rattle.sets.specs.Sets.{has}
 use Rattle.bools.proofs.BoolLaws.{and-l, and-r, and-i, same-test}
-use Rattle.fields.specs.Layout.{usedOf}
+use Rattle.fields.specs.Layout.{usedOf, filesOf}
 use Rattle.table.specs.WellFormed.{onlyRows, wellFormed}
 use Rattle.asking.specs.Asking.{Question, firstNo, before}
 use Rattle.quorums.specs.declared.Kind.{Kind}
-use Rattle.protocol.specs.Calls.{Call, questions, byCoordinator, isUsed, inFile, calledBy, noted, fromSix, calledAfter, lent, outcome, resultOf}
+use Rattle.protocol.specs.Calls.{Call, questions, byCoordinator, isUsed, inGroup, inFile, calledBy, noted, fromSix, calledAfter, lent, outcome, resultOf}
 use Rattle.asking.proofs.AskingLaws.{yes-first, no-first, asked-more}
-use Rattle.protocol.proofs.QuestionLaws.{ByCoordinator, passed-first, early-is, refusal-is, called-is, when-refused}
+use Rattle.protocol.proofs.QuestionLaws.{ByCoordinator, group-is, passed-first, early-is, refusal-is, called-is, when-refused}
 use Rattle.questions.specs.Stages.{toRange, Ranged, aRead, aWrite}
 
 pub range-test : (file offset count : ℕ) (b : Bool) → (b ≡ true → (1 ≤ count) × (offset + count ≤ file)) → (1 ≤ count → offset + count ≤ file → b ≡ true)
@@ -30,79 +31,74 @@ module _ (t : List ℕ) (c r : ℕ) where
   unfolding firstNo byCoordinator
   by-answers x y z ex ey ez = rw (ex, ey, ez) refl
 
-  pub after-three : (qs : List Question) → firstNo (byCoordinator t c r []) ≡ 0 → firstNo (byCoordinator t c r qs) ≡ firstNo qs
-  unfolding byCoordinator
-  after-three qs h =
-      let a = yes-first 0 (wellFormed t) _ h in
-      let b = yes-first 1 (isUsed t c && onlyRows (usedOf t) r) _ (a .1) in
-      let d = yes-first 2 (has r c) [] (b .1) in
-      no-first 1 (wellFormed t) _ (a .0) ∙ no-first 2 (isUsed t c && onlyRows (usedOf t) r) _ (b .0) ∙ no-first 3 (has r c) qs (d .0)
-
-  module _ (offset count : ℕ) where
-    pub range-no : (n : ℕ) → n ≡ firstNo (byCoordinator t c r []) → 1 ≤ n → n ≡ firstNo (toRange t c r offset count)
+  module _ (q offset count : ℕ) where
+    pub range-no : (n : ℕ) → n ≡ firstNo (byCoordinator t c r []) → 1 ≤ n → n ≡ firstNo (toRange t q c r offset count)
     unfolding toRange byCoordinator
-    range-no n e h = e ∙ sym (asked-more (byCoordinator t c r []) (record { ask = 4; yes = inFile t offset count } ∷ []) (omega (arith, e)))
+    range-no n e h = e ∙ sym (asked-more (byCoordinator t c r []) (record { ask = 16; yes = inGroup t q } ∷ record { ask = 4; yes = inFile t offset count } ∷ []) (omega (arith, e)))
 
-    pub range-yes : (b : Bool) → firstNo (byCoordinator t c r []) ≡ 0 → b ≡ inFile t offset count → cond b 0 4 ≡ firstNo (toRange t c r offset count)
+    pub range-yes : (a b : Bool) → firstNo (byCoordinator t c r []) ≡ 0 → a ≡ inGroup t q → b ≡ inFile t offset count → cond a (cond b 0 4) 16 ≡ firstNo (toRange t q c r offset count)
     unfolding toRange firstNo
-    range-yes b h e = ap (λ (x : Bool). cond x 0 4) e ∙ sym (after-three (record { ask = 4; yes = inFile t offset count } ∷ []) h)
+    range-yes a b h d e = ap₂ (λ (x y : Bool). cond x (cond y 0 4) 16) d e ∙ sym (passed-first t c r [] h .2 _)
 
-    -- what passed 1 to 4
-    pub range-passed : firstNo (toRange t c r offset count) ≡ 0 → ByCoordinator t c r × (inFile t offset count ≡ true)
+    -- what passed them
+    pub range-passed : firstNo (toRange t q c r offset count) ≡ 0 → ByCoordinator t c r × Within (filesOf t) q × (inFile t offset count ≡ true)
     unfolding toRange
-    range-passed h = let a = passed-first t c r _ h in (a .0, yes-first 3 (inFile t offset count) [] (a .1) .0)
+    range-passed h =
+        let a = passed-first t c r _ h in
+        let b = yes-first 15 (inGroup t q) _ (a .1) in
+        (a .0, group-is t q (b .0), yes-first 3 (inFile t offset count) [] (b .1) .0)
 
-    -- and what comes after it is all that is still asked
-    pub after-range : (qs : List Question) → firstNo (toRange t c r offset count) ≡ 0
-        → firstNo (byCoordinator t c r (record { ask = 4; yes = inFile t offset count } ∷ qs)) ≡ firstNo qs
-    unfolding toRange byCoordinator
+    -- and what comes after them is all that is still asked
+    pub after-range : (qs : List Question) → firstNo (toRange t q c r offset count) ≡ 0
+        → firstNo (byCoordinator t c r (record { ask = 16; yes = inGroup t q } ∷ record { ask = 4; yes = inFile t offset count } ∷ qs)) ≡ firstNo qs
+    unfolding toRange
     after-range qs h =
-        let a = yes-first 0 (wellFormed t) _ h in
-        let b = yes-first 1 (isUsed t c && onlyRows (usedOf t) r) _ (a .1) in
-        let d = yes-first 2 (has r c) _ (b .1) in
-        let e = yes-first 3 (inFile t offset count) [] (d .1) in
-        no-first 1 (wellFormed t) _ (a .0) ∙ no-first 2 (isUsed t c && onlyRows (usedOf t) r) _ (b .0) ∙ no-first 3 (has r c) _ (d .0)
-        ∙ no-first 4 (inFile t offset count) qs (e .0)
+        let a = passed-first t c r _ h in
+        let b = yes-first 15 (inGroup t q) _ (a .1) in
+        a .2 _ ∙ no-first 16 (inGroup t q) _ (b .0) ∙ no-first 4 (inFile t offset count) qs (yes-first 3 (inFile t offset count) [] (b .1) .0)
 
-    pub before-range : (qs : List Question) (n : ℕ) → n ≡ firstNo (toRange t c r offset count) → 1 ≤ n
-        → firstNo (byCoordinator t c r (record { ask = 4; yes = inFile t offset count } ∷ qs)) ≡ n
+    pub before-range : (qs : List Question) (n : ℕ) → n ≡ firstNo (toRange t q c r offset count) → 1 ≤ n
+        → firstNo (byCoordinator t c r (record { ask = 16; yes = inGroup t q } ∷ record { ask = 4; yes = inFile t offset count } ∷ qs)) ≡ n
     unfolding toRange byCoordinator
-    before-range qs n e h = asked-more (byCoordinator t c r (record { ask = 4; yes = inFile t offset count } ∷ [])) qs (omega (arith, e)) ∙ sym e
+    before-range qs n e h =
+        asked-more (byCoordinator t c r (record { ask = 16; yes = inGroup t q } ∷ record { ask = 4; yes = inFile t offset count } ∷ [])) qs (omega (arith, e)) ∙ sym e
 
 -- ---- how many machines were called, noted from question 6 on
--- questions 1 to 5
-abbrev toFive : List ℕ → ℕ → ℕ → ℕ → ℕ → Bool → List Question
-toFive t c r offset count five = byCoordinator t c r (record { ask = 4; yes = inFile t offset count } ∷ record { ask = 5; yes = five } ∷ [])
+-- all that is asked before it
+abbrev toFive : List ℕ → ℕ → ℕ → ℕ → ℕ → ℕ → Bool → List Question
+toFive t q c r offset count five =
+    byCoordinator t c r (record { ask = 16; yes = inGroup t q } ∷ record { ask = 4; yes = inFile t offset count } ∷ record { ask = 5; yes = five } ∷ [])
 
-before-six : {k : Call} {kind : Kind} {c r offset count : ℕ} {bytes : List ℕ} {five : Bool} (t : List ℕ) → Ranged k kind c r offset count bytes five → before 6 (questions t k) ≡ toFive t c r offset count five
+before-six : {k : Call} {kind : Kind} {q c r offset count : ℕ} {bytes : List ℕ} {five : Bool} (t : List ℕ) → Ranged k kind q c r offset count bytes five
+    → before 6 (questions t k) ≡ toFive t q c r offset count five
 unfolding questions before
 before-six t aRead = early-is t _ _ _ 6 (omega arith)
 before-six t aWrite = early-is t _ _ _ 6 (omega arith)
 
-after-call : {k : Call} {kind : Kind} {c r offset count : ℕ} {bytes : List ℕ} {five : Bool} (t : List ℕ) → Ranged k kind c r offset count bytes five
-    → calledAfter t k ≡ noted bytes (fromSix (questions t k) (calledBy kind t c r))
+after-call : {k : Call} {kind : Kind} {q c r offset count : ℕ} {bytes : List ℕ} {five : Bool} (t : List ℕ) → Ranged k kind q c r offset count bytes five
+    → calledAfter t k ≡ noted bytes (fromSix (questions t k) (calledBy kind t q c r))
 unfolding calledAfter
 after-call t aRead = refl
 after-call t aWrite = refl
 
-module _ {k : Call} {kind : Kind} {c r offset count : ℕ} {bytes : List ℕ} {five : Bool} (t : List ℕ) (x : Ranged k kind c r offset count bytes five) where
-  -- the byte after the call, by the first no among 1 to 5
-  noted-is : (n : ℕ) → firstNo (toFive t c r offset count five) ≡ n → noted bytes (cond (eqb n 0) (calledBy kind t c r) 0) ≡ outcome t k .called
+module _ {k : Call} {kind : Kind} {q c r offset count : ℕ} {bytes : List ℕ} {five : Bool} (t : List ℕ) (x : Ranged k kind q c r offset count bytes five) where
+  -- the byte after the call, by the first no before 6
+  noted-is : (n : ℕ) → firstNo (toFive t q c r offset count five) ≡ n → noted bytes (cond (eqb n 0) (calledBy kind t q c r) 0) ≡ outcome t k .called
   unfolding fromSix
-  noted-is n e = sym (called-is t k ∙ after-call t x ∙ ap (λ (m : ℕ). noted bytes (cond (eqb m 0) (calledBy kind t c r) 0)) (ap firstNo (before-six t x) ∙ e))
+  noted-is n e = sym (called-is t k ∙ after-call t x ∙ ap (λ (m : ℕ). noted bytes (cond (eqb m 0) (calledBy kind t q c r) 0)) (ap firstNo (before-six t x) ∙ e))
 
-  -- 0 where 1 to 4, or 5, is no
-  pub called-early : (n : ℕ) → n ≡ firstNo (toRange t c r offset count) → 1 ≤ n → noted bytes 0 ≡ outcome t k .called
-  called-early n e h = ap (λ (b : Bool). noted bytes (cond b (calledBy kind t c r) 0)) (sym (ne-eqb n 0 (λ z. omega arith))) ∙ noted-is n (before-range t c r offset count _ n e h)
+  -- 0 where 1 to 4, 16 or 5 is no
+  pub called-early : (n : ℕ) → n ≡ firstNo (toRange t q c r offset count) → 1 ≤ n → noted bytes 0 ≡ outcome t k .called
+  called-early n e h = ap (λ (b : Bool). noted bytes (cond b (calledBy kind t q c r) 0)) (sym (ne-eqb n 0 (λ z. omega arith))) ∙ noted-is n (before-range t c r q offset count _ n e h)
 
-  module _ (p : firstNo (toRange t c r offset count) ≡ 0) where
+  module _ (p : firstNo (toRange t q c r offset count) ≡ 0) where
     pub called-long : five ≡ false → noted bytes 0 ≡ outcome t k .called
     unfolding firstNo
-    called-long d = noted-is 5 (after-range t c r offset count _ p ∙ ap (λ (b : Bool). cond b 0 5) d)
+    called-long d = noted-is 5 (after-range t c r q offset count _ p ∙ ap (λ (b : Bool). cond b 0 5) d)
 
-    pub called-by : five ≡ true → (n : ℕ) → n ≡ calledBy kind t c r → noted bytes n ≡ outcome t k .called
+    pub called-by : five ≡ true → (n : ℕ) → n ≡ calledBy kind t q c r → noted bytes n ≡ outcome t k .called
     unfolding firstNo
-    called-by l n e = ap (noted bytes) e ∙ noted-is 0 (after-range t c r offset count _ p ∙ ap (λ (b : Bool). cond b 0 5) l)
+    called-by l n e = ap (noted bytes) e ∙ noted-is 0 (after-range t c r q offset count _ p ∙ ap (λ (b : Bool). cond b 0 5) l)
 
 -- a refusal's result, and what it leaves
 pub record Refused (t : List ℕ) (k : Call) (n : ℕ) : Type 0 where

@@ -5,12 +5,13 @@ use rows::RowSet;
 ghost use mathlib.Core.Path.{_≡_};
 ghost use mathlib.Core.Bool.{_&&_};
 ghost use mathlib.Core.List.{[]};
-ghost use Prim.Native.Nat.{_+_};
+ghost use Prim.Native.Nat.{_+_, _≤_};
 ghost use lib.Dec.{leb, ltb};
+ghost use lib.ListN.{length};
 ghost use Rattle.table.specs.WellFormed.{limit};
 ghost use Rattle.table.specs.Contracts.{Ordered, orderLeft};
 ghost use Rattle.asking.specs.Asking.{firstNo, result};
-ghost use Rattle.protocol.specs.Calls.{byCoordinator, noted};
+ghost use Rattle.protocol.specs.Calls.{byCoordinator, inGroup, noted};
 ghost use Rattle.questions.specs.Stages.{toRange};
 
 // What a read or a write answers: its result, and how many machines were called.
@@ -77,20 +78,32 @@ fn in_range(file: usize, offset: usize, count: usize) -> bool
     offset <= file - count
 }
 
-// Questions 1 to 4 of a read or a write: the first no, 0 where there is none. Then `order` starts with the used rows in chain order.
+// Question 16: is this a file of the group?
+pub fn in_group(t: &[u8], q: usize) -> bool
+    requires { ⌜ 16 ≤ length (now t) ⌝ }
+    ensures { λ r. ⌜ r ≡ inGroup (now (t .entry)) q ⌝ }
+{
+    values::between(1, q, header::files(t))
+}
+
+// Questions 1 to 3, 16 and 4 of a read or a write of file q: the first no, 0 where there is none. Then `order` starts with the used rows in chain order.
 pub fn range_asked(
     t: &[u8],
+    q: usize,
     c: usize,
     answering: RowSet,
     offset: usize,
     count: usize,
     order: &mut [u8; 64],
 ) -> u32
-    ensures { λ r. ⌜ (r ≡ firstNo (toRange (now (t .entry)) c (answering .bits) offset count)) × (r ≡ 0 → Ordered (now (t .entry)) (now (order .exit))) × (now (order .exit) ≡ orderLeft (now (t .entry)) (now (order .entry))) ⌝ }
+    ensures { λ r. ⌜ (r ≡ firstNo (toRange (now (t .entry)) q c (answering .bits) offset count)) × (r ≡ 0 → Ordered (now (t .entry)) (now (order .exit))) × (now (order .exit) ≡ orderLeft (now (t .entry)) (now (order .entry))) ⌝ }
 {
     let no = coordinator_asked(t, c, answering, order);
     if no != 0 {
         return no;
+    }
+    if !in_group(t, q) {
+        return 16;
     }
     if in_range(header::file_length(t), offset, count) {
         return 0;
