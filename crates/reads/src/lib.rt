@@ -21,28 +21,29 @@ fn answer(
     count: usize,
     buffer: &mut [u8],
     fits: bool,
+    q: usize,
 ) -> Answered
-    ensures { λ x. ⌜ ((called : List ℕ) → fits ≡ eqb (length called) 1 → (let o = outcome (now (t .entry)) (read (record { c = c; r = r; offset = offset; count = count; buffer = now (buffer .entry); called = called })) in (x .result ≡ resultOf o) × (now (t .exit) ≡ o .table) × (now (buffer .exit) ≡ o .buffer) × (noted called (x .called) ≡ o .called))) ⌝ }
+    ensures { λ x. ⌜ ((called : List ℕ) → fits ≡ eqb (length called) 1 → (let o = outcome (now (t .entry)) (read (record { c = c; r = r; offset = offset; count = count; buffer = now (buffer .entry); called = called; file = q })) in (x .result ≡ resultOf o) × (now (t .exit) ≡ o .table) × (now (buffer .exit) ≡ o .buffer) × (noted called (x .called) ≡ o .called))) ⌝ }
 {
     let answering = RowSet { bits: r };
     let mut order = [0u8; 64];
-    let no = range_asked(t, c, answering, offset, count, &mut order);
+    let no = range_asked(t, q, c, answering, offset, count, &mut order);
     if no != 0 {
         return answer_of(no, 0, 0);
     }
     if !both(buffer.len() == count, fits) {
         return answer_of(5, 0, 0);
     }
-    let s = settle::settle(Kind::Read, t, &order, c, answering);
+    let s = settle::settle(Kind::Read, t, q, &order, c, answering);
     if s.refusal != 0 {
         return answer_of(s.refusal, 0, s.called);
     }
     let source = s.good.lowest();
-    fields::copy_out(table::row_of(t, source), offset, buffer);
+    fields::copy_out(table::copy_of(t, source, q), offset, buffer);
     answer_of(0, s.version, s.called)
 }
 
-// A read: the range is copied to the buffer, and how many machines were called is noted. Value: the version.
+// A read of a file: the range is copied to the buffer, and how many machines were called is noted. Value: the version.
 pub fn read(
     t: &[u8],
     c: usize,
@@ -51,11 +52,12 @@ pub fn read(
     count: usize,
     buffer: &mut [u8],
     called: &mut [u8],
+    file: u64,
 ) -> u64
-    ensures { λ x. ⌜ (let o = outcome (now (t .entry)) (read (record { c = c; r = r; offset = offset; count = count; buffer = now (buffer .entry); called = now (called .entry) })) in (x ≡ resultOf o) × (now (t .exit) ≡ o .table) × (now (buffer .exit) ≡ o .buffer) × (now (called .exit) ≡ o .called)) ⌝ }
+    ensures { λ x. ⌜ (let o = outcome (now (t .entry)) (read (record { c = c; r = r; offset = offset; count = count; buffer = now (buffer .entry); called = now (called .entry); file = file })) in (x ≡ resultOf o) × (now (t .exit) ≡ o .table) × (now (buffer .exit) ≡ o .buffer) × (now (called .exit) ≡ o .called)) ⌝ }
 {
     let fits = called.len() == 1;
-    let a = answer(t, c, r, offset, count, buffer, fits);
+    let a = answer(t, c, r, offset, count, buffer, fits, file as usize);
     questions::note(called, a.called);
     a.result
 }

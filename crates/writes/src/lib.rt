@@ -13,19 +13,27 @@ ghost use lib.ListN.{length};
 ghost use Rattle.protocol.specs.Calls.{resultOf, outcome, write, noted};
 
 // A write, all but its note of how many machines were called: `fits` says whether one byte is lent for it.
-fn answer(t: &mut [u8], c: usize, r: u64, offset: usize, patch: &[u8], fits: bool) -> Answered
-    ensures { λ x. ⌜ ((called : List ℕ) → fits ≡ eqb (length called) 1 → (let o = outcome (now (t .entry)) (write (record { c = c; r = r; offset = offset; patch = now (patch .entry); called = called })) in (x .result ≡ resultOf o) × (now (t .exit) ≡ o .table) × (noted called (x .called) ≡ o .called))) ⌝ }
+fn answer(
+    t: &mut [u8],
+    c: usize,
+    r: u64,
+    offset: usize,
+    patch: &[u8],
+    fits: bool,
+    q: usize,
+) -> Answered
+    ensures { λ x. ⌜ ((called : List ℕ) → fits ≡ eqb (length called) 1 → (let o = outcome (now (t .entry)) (write (record { c = c; r = r; offset = offset; patch = now (patch .entry); called = called; file = q })) in (x .result ≡ resultOf o) × (now (t .exit) ≡ o .table) × (noted called (x .called) ≡ o .called))) ⌝ }
 {
     let answering = RowSet { bits: r };
     let mut order = [0u8; 64];
-    let no = range_asked(t, c, answering, offset, patch.len(), &mut order);
+    let no = range_asked(t, q, c, answering, offset, patch.len(), &mut order);
     if no != 0 {
         return answer_of(no, 0, 0);
     }
     if !fits {
         return answer_of(5, 0, 0);
     }
-    let s = settle::settle(Kind::Write, t, &order, c, answering);
+    let s = settle::settle(Kind::Write, t, q, &order, c, answering);
     if s.refusal != 0 {
         return answer_of(s.refusal, 0, s.called);
     }
@@ -33,16 +41,24 @@ fn answer(t: &mut [u8], c: usize, r: u64, offset: usize, patch: &[u8], fits: boo
         return answer_of(8, 0, s.called);
     }
     let version = s.version + 1;
-    store::write_rows(t, s.rows, s.good, version, offset, patch);
+    store::write_rows(t, q, s.rows, s.good, version, offset, patch);
     answer_of(0, version, s.called)
 }
 
-// A write: the patch goes to the good rows worked on, the others are marked, and how many machines were called is noted. Value: the new version.
-pub fn write(t: &mut [u8], c: usize, r: u64, offset: usize, patch: &[u8], called: &mut [u8]) -> u64
-    ensures { λ x. ⌜ (let o = outcome (now (t .entry)) (write (record { c = c; r = r; offset = offset; patch = now (patch .entry); called = now (called .entry) })) in (x ≡ resultOf o) × (now (t .exit) ≡ o .table) × (now (patch .exit) ≡ now (patch .entry)) × (now (called .exit) ≡ o .called)) ⌝ }
+// A write of a file: the patch goes to the good rows worked on, the others are marked, and how many machines were called is noted. Value: the new version.
+pub fn write(
+    t: &mut [u8],
+    c: usize,
+    r: u64,
+    offset: usize,
+    patch: &[u8],
+    called: &mut [u8],
+    file: u64,
+) -> u64
+    ensures { λ x. ⌜ (let o = outcome (now (t .entry)) (write (record { c = c; r = r; offset = offset; patch = now (patch .entry); called = now (called .entry); file = file })) in (x ≡ resultOf o) × (now (t .exit) ≡ o .table) × (now (patch .exit) ≡ now (patch .entry)) × (now (called .exit) ≡ o .called)) ⌝ }
 {
     let fits = called.len() == 1;
-    let a = answer(t, c, r, offset, patch, fits);
+    let a = answer(t, c, r, offset, patch, fits, file as usize);
     questions::note(called, a.called);
     a.result
 }

@@ -8,9 +8,10 @@ use lib.ListN.{length}
 use borrow.Author.Needs.{needs}
 use borrow.Author.Tests.{not-true, not-false}
 use Rattle.bools.proofs.BoolLaws.{and-r}
+use Rattle.sets.specs.Upto.{Within}
 use Rattle.bytes.specs.Bytes.{part}
-use Rattle.fields.specs.Layout.{rowBytes, contents}
-use Rattle.table.proofs.WellFormedLaws.{sized}
+use Rattle.fields.specs.Layout.{filesOf, copyBytes, contents}
+use Rattle.table.proofs.WellFormedLaws.{newest, sized}
 use Rattle.asking.specs.Asking.{firstNo}
 use Rattle.protocol.specs.Calls.{Reading, lent, noted}
 use Rattle.protocol.proofs.QuestionLaws.{ByCoordinator}
@@ -23,15 +24,19 @@ use Rattle.reads.proofs.answer.Tie as tie
 
 -- the arguments of the call
 abbrev reading : tie.Start → List ℕ → Reading
-reading s called = record { c = s .args .c; r = s .args .r; offset = s .args .offset; count = s .args .count; buffer = s .args .buffer .now; called = called }
+reading s called = record { c = s .args .c; r = s .args .r; offset = s .args .offset; count = s .args .count; buffer = s .args .buffer .now; called = called; file = s .args .q }
 
--- questions 1 to 4 are passed
-passed : (c : tie.Else1) → let start = c .before .before .before .before .before in firstNo (toRange (start .args .t .now) (start .args .c) (start .args .r) (start .args .offset) (start .args .count)) ≡ 0
+-- questions 1 to 3, 16 and 4 are passed
+passed : (c : tie.Else1) → let start = c .before .before .before .before .before in firstNo (toRange (start .args .t .now) (start .args .q) (start .args .c) (start .args .r) (start .args .offset) (start .args .count)) ≡ 0
 passed c = sym (c .before .range-asked .ensures .0) ∙ (let none : c .before .range-asked .result ≡ 0 = omega arith in none)
 
 -- and 1 to 3 among them
 asked : (c : tie.Else1) → let start = c .before .before .before .before .before in ByCoordinator (start .args .t .now) (start .args .c) (start .args .r)
-asked c = let start = c .before .before .before .before .before in range-passed (start .args .t .now) (start .args .c) (start .args .r) (start .args .offset) (start .args .count) (passed c) .0
+asked c = let start = c .before .before .before .before .before in range-passed (start .args .t .now) (start .args .c) (start .args .r) (start .args .q) (start .args .offset) (start .args .count) (passed c) .0
+
+-- and 16
+grouped : (c : tie.Else1) → let start = c .before .before .before .before .before in Within (filesOf (start .args .t .now)) (start .args .q)
+grouped c = let start = c .before .before .before .before .before in range-passed (start .args .t .now) (start .args .c) (start .args .r) (start .args .q) (start .args .offset) (start .args .count) (passed c) .1
 
 -- 5, of both lent lists
 five-is : (c : tie.After-both) (called : List ℕ) → let start = c .before .before .before .before .before .before in
@@ -93,7 +98,7 @@ settle-requires : tie.Need-settle-requires
 settle-requires c κs =
     let e = c .before .before .before in
     let y = asked e in
-    (y .formed, e .before .range-asked .ensures .1 (omega arith), y .rows, y .answered)
+    (y .formed, grouped e, e .before .range-asked .ensures .1 (omega arith), y .rows, y .answered)
 
 answer-of-requires-3 : tie.Need-answer-of-requires-3
 answer-of-requires-3 c κs = search needs
@@ -116,25 +121,25 @@ returns-3 c called e =
 lowest-requires : tie.Need-lowest-requires
 lowest-requires c κs = search needs
 
-row-of-requires : tie.Need-row-of-requires
-row-of-requires c κs =
+copy-of-requires : tie.Need-copy-of-requires
+copy-of-requires c κs =
     let t3 = c .before in
     let p = t3 .before .before in
     let f = p .before .before in
     let u = f .before .before in
     let start = u .before .before .before .before .before in
-    (sized (asked u .formed), rw (c .lowest .ensures) (source-used (start .args .t .now) (reading start (0 ∷ [])) (passed u) (fitting f (0 ∷ []) (with-one f)) (p .settle .result) (p .settle .ensures) (settled-here t3)))
+    (sized (asked u .formed), newest (start .args .t .now) (asked u .formed), rw (c .lowest .ensures) (source-used (start .args .t .now) (reading start (0 ∷ [])) (passed u) (fitting f (0 ∷ []) (with-one f)) (p .settle .result) (p .settle .ensures) (settled-here t3)), grouped u)
 
 copy-out-requires : tie.Need-copy-out-requires
 copy-out-requires c κs =
-    let row = c .before in
-    let w = row .before in
+    let copy = c .before in
+    let w = copy .before in
     let t3 = w .before in
     let p = t3 .before .before in
     let f = p .before .before in
     let u = f .before .before in
     let start = u .before .before .before .before .before in
-    rw (row .row-of .ensures .0, w .lowest .ensures) (range-in (start .args .t .now) (reading start (0 ∷ [])) (passed u) (fitting f (0 ∷ []) (with-one f)) (p .settle .result) (p .settle .ensures) (settled-here t3))
+    rw (copy .copy-of .ensures .0, w .lowest .ensures) (range-in (start .args .t .now) (reading start (0 ∷ [])) (passed u) (fitting f (0 ∷ []) (with-one f)) (p .settle .result) (p .settle .ensures) (settled-here t3))
 
 answer-of-requires-4 : tie.Need-answer-of-requires-4
 answer-of-requires-4 c κs = search needs
@@ -145,8 +150,8 @@ same-length c = search needs
 returns-4 : tie.Need-returns-4
 returns-4 c called e =
     let o = c .before .before .before .before in
-    let row = o .before in
-    let w = row .before in
+    let copy = o .before in
+    let w = copy .before in
     let t3 = w .before in
     let p = t3 .before .before in
     let f = p .before .before in
@@ -154,7 +159,7 @@ returns-4 c called e =
     let start = u .before .before .before .before .before in
     let s = p .settle in
     let yes = read-done (start .args .t .now) (reading start called) (passed u) (fitting f called e) (s .result) (s .ensures) (settled-here t3) in
-    let bytes = row .row-of .ensures .0 ∙ ap (rowBytes (start .args .t .now)) (w .lowest .ensures) in (
+    let bytes = copy .copy-of .ensures .0 ∙ ap (copyBytes (start .args .t .now) (start .args .q)) (w .lowest .ensures) in (
       ap (λ (x : Answered). x .result) (c .answer-of4 .ensures) ∙ yes .0,
       yes .1,
       c .before .before .before .copy-out .ensures ∙ ap (λ x. part (start .args .offset) (length (start .args .buffer .now)) (contents x)) bytes ∙ yes .2,
@@ -175,7 +180,7 @@ answer-spec =
     answer-of-requires-3
     returns-3
     lowest-requires
-    row-of-requires
+    copy-of-requires
     copy-out-requires
     answer-of-requires-4
     same-length

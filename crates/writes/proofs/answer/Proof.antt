@@ -7,7 +7,9 @@ use borrow.Author.Needs.{needs}
 use borrow.Author.Tests.{ltb-true, not-true, not-false}
 use lib.Dec.{eqb, ltb}
 use lib.ListN.{length}
-use Rattle.table.proofs.WellFormedLaws.{sized}
+use Rattle.sets.specs.Upto.{Within}
+use Rattle.fields.specs.Layout.{filesOf}
+use Rattle.table.proofs.WellFormedLaws.{newest, sized}
 use Rattle.table.specs.WellFormed.{limit}
 use Rattle.asking.specs.Asking.{firstNo}
 use Rattle.protocol.specs.Calls.{Writing, noted}
@@ -21,15 +23,19 @@ use Rattle.writes.proofs.answer.Tie as tie
 
 -- the arguments of the call
 abbrev writing : tie.Start → List ℕ → Writing
-writing s called = record { c = s .args .c; r = s .args .r; offset = s .args .offset; patch = s .args .patch .now; called = called }
+writing s called = record { c = s .args .c; r = s .args .r; offset = s .args .offset; patch = s .args .patch .now; called = called; file = s .args .q }
 
--- questions 1 to 4 are passed
-passed : (c : tie.Else1) → let start = c .before .before .before .before .before .before in firstNo (toRange (start .args .t .now) (start .args .c) (start .args .r) (start .args .offset) (length (start .args .patch .now))) ≡ 0
+-- questions 1 to 3, 16 and 4 are passed
+passed : (c : tie.Else1) → let start = c .before .before .before .before .before .before in firstNo (toRange (start .args .t .now) (start .args .q) (start .args .c) (start .args .r) (start .args .offset) (length (start .args .patch .now))) ≡ 0
 passed c = sym (c .before .range-asked .ensures .0) ∙ (let none : c .before .range-asked .result ≡ 0 = omega arith in none)
 
 -- and 1 to 3 among them
 asked : (c : tie.Else1) → let start = c .before .before .before .before .before .before in ByCoordinator (start .args .t .now) (start .args .c) (start .args .r)
-asked c = let start = c .before .before .before .before .before .before in range-passed (start .args .t .now) (start .args .c) (start .args .r) (start .args .offset) (length (start .args .patch .now)) (passed c) .0
+asked c = let start = c .before .before .before .before .before .before in range-passed (start .args .t .now) (start .args .c) (start .args .r) (start .args .q) (start .args .offset) (length (start .args .patch .now)) (passed c) .0
+
+-- and 16
+grouped : (c : tie.Else1) → let start = c .before .before .before .before .before .before in Within (filesOf (start .args .t .now)) (start .args .q)
+grouped c = let start = c .before .before .before .before .before .before in range-passed (start .args .t .now) (start .args .c) (start .args .r) (start .args .q) (start .args .offset) (length (start .args .patch .now)) (passed c) .1
 
 -- 5 is passed
 fitting : (c : tie.Else2) → c .before .before .before .before .before .before .before .args .fits ≡ true
@@ -83,7 +89,7 @@ settle-requires : tie.Need-settle-requires
 settle-requires c κs =
     let u = c .before .before .before in
     let y = asked u in
-    (y .formed, u .before .range-asked .ensures .1 (omega arith), y .rows, y .answered)
+    (y .formed, grouped u, u .before .range-asked .ensures .1 (omega arith), y .rows, y .answered)
 
 answer-of-requires-3 : tie.Need-answer-of-requires-3
 answer-of-requires-3 c κs = search needs
@@ -141,6 +147,8 @@ write-rows-requires c κs =
     let u = f .before in
     let start = u .before .before .before .before .before .before in (
       sized (asked u .formed),
+      newest (start .args .t .now) (asked u .formed),
+      grouped u,
       works-used (start .args .t .now) (writing start (0 ∷ [])) (passed u) refl (s .settle .result) (s .settle .ensures) (settled-here (b .before)) (room l),
       patch-in (start .args .t .now) (writing start (0 ∷ [])) (passed u) refl (s .settle .result) (s .settle .ensures) (settled-here (b .before)) (room l),
       works-right (start .args .t .now) (writing start (0 ∷ [])) (passed u) refl (s .settle .result) (s .settle .ensures) (settled-here (b .before)) (room l),
