@@ -7,17 +7,20 @@ use lib.Dec.{eqb, leb}
 use mathlib.Core.List.{List}
 use Rattle.sets.specs.Upto.{Within}
 use Rattle.sets.specs.Sets.{has}
-use Rattle.fields.specs.Layout.{get, mark, version, desired, usedOf, staleOf, versionOf, desiredOf}
+use Rattle.fields.specs.Layout.{get, mark, version, desired, formValue, formOf, usedOf, fileLengthOf, filesOf, staleOf, versionOf, desiredOf}
+use Rattle.fields.proofs.FieldLaws.{copy-is}
+use Rattle.table.specs.Contracts.{Sized}
 use Rattle.table.specs.WellFormed.{between, onlyRows, wellFormed}
-use Rattle.table.proofs.WellFormedLaws.{sized, long, few-rows}
+use Rattle.table.proofs.WellFormedLaws.{newest, sized, long, few-rows}
 use Rattle.protocol.specs.Calls.{Sending}
+use Rattle.protocol.proofs.QuestionLaws.{group-is}
 use Rattle.sends.proofs.SendLaws.{named, send-answers}
 use Rattle.sends.proofs.send_asked.Statement.{statement}
 use Rattle.sends.proofs.send_asked.Tie as tie
 
 -- the arguments of the call
 abbrev sending : tie.Start → Sending
-sending s = record { f = s .args .from; t = s .args .to; r = s .args .answering .bits }
+sending s = record { f = s .args .from; t = s .args .to; r = s .args .answering .bits; file = s .args .q }
 
 formed : (c : tie.Then1) → wellFormed (c .before .before .before .args .t .now) ≡ true
 formed c = sym (c .before .well-formed .ensures) ∙ c .if1 .taken
@@ -33,6 +36,16 @@ question-3 c = sym (c .both .ensures ∙ ap₂ _&&_ (c .before .before .has .ens
 
 two : (c : tie.Then2) → let a = c .before .before .before .before .before .before .args in Within (usedOf (a .t .now)) (a .from) × Within (usedOf (a .t .now)) (a .to)
 two c = let a = c .before .before .before .before .before .before .args in named (usedOf (a .t .now)) (a .from) (a .to) (a .answering .bits) (question-2 (c .before) ∙ c .if2 .taken)
+
+-- where 16 is yes
+abbrev then-two : tie.Then4 → tie.Then2
+then-two c = c .before .before .before .before .before .before
+
+tabled : (c : tie.Then4) → let t = c .before .before .before .before .before .before .before .before .before .before .before .before .args .t .now in Sized t × (formOf t ≡ formValue)
+tabled c = let e = formed (c .before .before .before .before .before .before .before .before .before) in (sized e, newest _ e)
+
+grouped : (c : tie.Then4) → let a = c .before .before .before .before .before .before .before .before .before .before .before .before .args in Within (filesOf (a .t .now)) (a .q)
+grouped c = group-is _ _ (sym (c .before .in-group .ensures) ∙ c .if4 .taken)
 
 well-formed-requires : tie.Need-well-formed-requires
 well-formed-requires c κs = search needs
@@ -52,36 +65,56 @@ has-requires-2 c κs = search needs
 both-requires : tie.Need-both-requires
 both-requires c κs = search needs
 
-row-of-requires : tie.Need-row-of-requires
-row-of-requires c κs = (sized (formed (c .before .before .before .before .before .before .before)), two (c .before .before .before .before) .0)
+in-group-requires : tie.Need-in-group-requires
+in-group-requires c κs = long (sized (formed (c .before .before .before .before .before .before .before)))
 
-row-of-requires-2 : tie.Need-row-of-requires-2
-row-of-requires-2 c κs = (sized (formed (c .before .before .before .before .before .before .before .before)), two (c .before .before .before .before .before) .1)
+copy-of-requires : tie.Need-copy-of-requires
+copy-of-requires c κs = (tabled c .0, tabled c .1, two (then-two c) .0, grouped c)
 
-rows-asked-requires : tie.Need-rows-asked-requires
-rows-asked-requires c κs = search needs
+copy-of-requires-2 : tie.Need-copy-of-requires-2
+copy-of-requires-2 c κs = let g = c .before in (tabled g .0, tabled g .1, two (then-two g) .1, grouped g)
+
+copies-asked-requires : tie.Need-copies-asked-requires
+copies-asked-requires c κs =
+    let file = fileLengthOf (then-two (c .before .before) .before .before .before .before .before .before .args .t .now) in
+    (omega (arith, c .before .copy-of .ensures .1, copy-is file), omega (arith, c .copy-of2 .ensures .1, copy-is file))
 
 returns : tie.Need-returns
 unfolding staleOf versionOf desiredOf
 returns c =
-    let start = c .before .before .before .before .before .before .before .before .before .before .before .before .before in
-    let e = c .rows-asked .ensures ∙ ap₂ (λ (x y : List ℕ). cond (not (eqb (get mark x) 1)) (cond (eqb (get mark y) 1 && leb (get desired y) (get version x)) 0 10) 9) (c .before .before .row-of .ensures .0) (c .before .row-of2 .ensures .0) in
-    send-answers (start .args .t .now) (sending start) true true true _ (formed (c .before .before .before .before .before .before .before .before .before .before)) (question-2 (c .before .before .before .before .before .before .before .before) ∙ c .before .before .before .before .before .before .before .if2 .taken) (question-3 (c .before .before .before .before) ∙ c .before .before .before .if3 .taken) e
+    let g = c .before .before .before in
+    let h = g .before .before in
+    let n = then-two g in
+    let f = n .before .before .before in
+    let start = f .before .before .before in
+    let e = c .copies-asked .ensures ∙ ap₂ (λ (x y : List ℕ). cond (not (eqb (get mark x) 1)) (cond (eqb (get mark y) 1 && leb (get desired y) (get version x)) 0 10) 9) (c .before .before .copy-of .ensures .0) (c .before .copy-of2 .ensures .0) in
+    send-answers (start .args .t .now) (sending start) true true true true _ (formed f) (question-2 (n .before) ∙ n .if2 .taken) (question-3 (h .before) ∙ h .if3 .taken) (sym (g .before .in-group .ensures) ∙ g .if4 .taken) e
 
 returns-2 : tie.Need-returns-2
 returns-2 c =
-    let start = c .before .before .before .before .before .before .before .before .before .before in
-    send-answers (start .args .t .now) (sending start) true true false _ (formed (c .before .before .before .before .before .before .before)) (question-2 (c .before .before .before .before .before) ∙ c .before .before .before .before .if2 .taken) (question-3 (c .before) ∙ c .if3 .left) refl
+    let h = c .before .before in
+    let n = h .before .before .before .before in
+    let f = n .before .before .before in
+    let start = f .before .before .before in
+    send-answers (start .args .t .now) (sending start) true true true false _ (formed f) (question-2 (n .before) ∙ n .if2 .taken) (question-3 (h .before) ∙ h .if3 .taken) (sym (c .before .in-group .ensures) ∙ c .if4 .left) refl
 
 returns-3 : tie.Need-returns-3
 returns-3 c =
-    let start = c .before .before .before .before .before .before in
-    send-answers (start .args .t .now) (sending start) true false _ _ (formed (c .before .before .before)) (question-2 (c .before) ∙ c .if2 .left) refl refl
+    let n = c .before .before .before .before in
+    let f = n .before .before .before in
+    let start = f .before .before .before in
+    send-answers (start .args .t .now) (sending start) true true false _ _ (formed f) (question-2 (n .before) ∙ n .if2 .taken) (question-3 (c .before) ∙ c .if3 .left) refl refl
 
 returns-4 : tie.Need-returns-4
 returns-4 c =
+    let f = c .before .before .before in
+    let start = f .before .before .before in
+    send-answers (start .args .t .now) (sending start) true false _ _ _ (formed f) (question-2 (c .before) ∙ c .if2 .left) refl refl refl
+
+returns-5 : tie.Need-returns-5
+returns-5 c =
     let start = c .before .before .before in
-    send-answers (start .args .t .now) (sending start) false _ _ _ (sym (c .before .well-formed .ensures) ∙ c .if1 .left) refl refl refl
+    send-answers (start .args .t .now) (sending start) false _ _ _ _ (sym (c .before .well-formed .ensures) ∙ c .if1 .left) refl refl refl refl
 
 pub send-asked-spec : {M : Type 1} → statement M
 send-asked-spec =
@@ -93,10 +126,12 @@ send-asked-spec =
     has-requires
     has-requires-2
     both-requires
-    row-of-requires
-    row-of-requires-2
-    rows-asked-requires
+    in-group-requires
+    copy-of-requires
+    copy-of-requires-2
+    copies-asked-requires
     returns
     returns-2
     returns-3
-    returns-4)
+    returns-4
+    returns-5)

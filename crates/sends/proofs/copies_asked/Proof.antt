@@ -3,8 +3,8 @@ use mathlib.Core.Path.{_≡_, sym, _∙_, ap₂}
 use mathlib.Core.Bool.{_&&_}
 use lib.Dec.{eqb, leb}
 use Rattle.fields.specs.Layout.{get, mark, version, desired}
-use Rattle.sends.proofs.rows_asked.Statement.{statement}
-use Rattle.sends.proofs.rows_asked.Tie as tie
+use Rattle.sends.proofs.copies_asked.Statement.{statement}
+use Rattle.sends.proofs.copies_asked.Tie as tie
 
 -- question 10 by its answer
 ten : (c : tie.After-both) → let a = c .before .before .before .before .before .before .before .before .args in (eqb (get mark (a .target .now)) 1 && leb (get desired (a .target .now)) (get version (a .source .now))) ≡ c .both .result
@@ -34,8 +34,8 @@ returns-2 c = let e = ten (c .before) ∙ c .if2 .taken in let clean = sym (c .b
 returns-3 : tie.Need-returns-3
 returns-3 c = let e = ten (c .before) ∙ c .if2 .left in let clean = sym (c .before .before .before .before .before .before .is-stale .ensures) ∙ c .before .before .before .before .before .if1 .left in rw (clean, e)
 
-pub rows-asked-spec : {M : Type 1} → statement M
-rows-asked-spec =
+pub copies-asked-spec : {M : Type 1} → statement M
+copies-asked-spec =
     tie.close
     (tie.spec
     is-stale-requires
