@@ -106,6 +106,7 @@ module _ (t : List ℕ) (b : Book) (e : ℕ) where
   pub passed-seven : (a : Writing) → firstNo (before 8 (questions t (write a))) ≡ 0
       → ByCoordinator t (a .c) (a .r) × (quorumHeld Write (orderOf t) (answers t (a .file) (a .r)) (workSet Write t (a .file) (a .c) (a .r)) ≡ true) × (current (answers t (a .file) (a .r)) (workSet Write t (a .file) (a .c) (a .r)) ≡ true)
       × (firstNo (questions t (write a)) ≡ firstNo (record { ask = 8; yes = ltb (goodVersion (answers t (a .file) (a .r)) (workSet Write t (a .file) (a .c) (a .r))) limit } ∷ []))
+      × Within (filesOf t) (a .file)
   unfolding questions before
   passed-seven a h =
       let x = early-passed t (a .c) (a .r) _ 8 (omega arith) h in
@@ -114,7 +115,7 @@ module _ (t : List ℕ) (b : Book) (e : ℕ) where
       let f = yes-first 4 (eqb (length (a .called)) 1) _ (d .1) in
       let q = yes-first 5 (quorumHeld Write (orderOf t) (answers t (a .file) (a .r)) (workSet Write t (a .file) (a .c) (a .r))) _ (f .1) in
       let m = yes-first 6 (current (answers t (a .file) (a .r)) (workSet Write t (a .file) (a .c) (a .r))) [] (q .1) in
-      (x .0, q .0, m .0, x .2 ∙ no-first 16 _ _ (k .0) ∙ no-first 4 _ _ (d .0) ∙ no-first 5 _ _ (f .0) ∙ no-first 6 _ _ (q .0) ∙ no-first 7 _ _ (m .0))
+      (x .0, q .0, m .0, x .2 ∙ no-first 16 _ _ (k .0) ∙ no-first 4 _ _ (d .0) ∙ no-first 5 _ _ (f .0) ∙ no-first 6 _ _ (q .0) ∙ no-first 7 _ _ (m .0), group-is t (a .file) (k .0))
 
   pub write-full : b .writes ≡ 1_000_000 → (a : Writing) → State (a .file) t b e → firstNo (before 8 (questions t (write a))) ≡ 0 → outcome t (write a) .refusal ≡ 8
   unfolding firstNo limit
@@ -136,12 +137,6 @@ module _ (t : List ℕ) (b : Book) (e : ℕ) where
       let x = early-passed t (a .c) (a .r) _ 6 (omega arith) h in
       group-is t (a .file) (yes-first 15 (inGroup t (a .file)) _ (x .1) .0)
 
-  pub passed-group : (a : Writing) → firstNo (before 8 (questions t (write a))) ≡ 0 → Within (filesOf t) (a .file)
-  unfolding questions before
-  passed-group a h =
-      let x = early-passed t (a .c) (a .r) _ 8 (omega arith) h in
-      group-is t (a .file) (yes-first 15 (inGroup t (a .file)) _ (x .1) .0)
-
 -- ---- the books of all files
 -- a table against the book of each of its files, of which there is one
 pub record Group (t : List ℕ) (b : ℕ → Book) (e : ℕ) : Type 0 where
@@ -151,19 +146,17 @@ pub record Group (t : List ℕ) (b : ℕ → Book) (e : ℕ) : Type 0 where
 pub first-file : {t : List ℕ} {b : ℕ → Book} {e : ℕ} → Group t b e → State 1 t (b 1) e
 first-file G = G .file 1 (omega (arith, G .some))
 
+-- the state of the file that a call names
+of-file : {t : List ℕ} {b : ℕ → Book} {e : ℕ} → Group t b e → {f q : ℕ} → f ≡ q → Within (filesOf t) f → State f t (b q) e
+of-file {t} {b} {e} G {f} z v = subst (λ (x : ℕ). State f t (b x) e) z (G .file f v)
+
 pub right : (t : List ℕ) (b : ℕ → Book) (e : ℕ) → Group t b e → (q : ℕ) (k : Call) → Right q t (b q) k (outcome t k)
 unfolding Right RefusedRight
 right t b e G q (founding a) = tt
 right t b e G q (join a) = tt
 right t b e G q (read a) = λ z.
-    (λ h. read-gives t (b q) e a (of z (read-yes t a (sym (refusal-is t (read a)) ∙ h) .group)) h, λ h l. read-refused t (b q) e a (of z (read-group t (b q) e a h)) h)
-  where
-    of : a .file ≡ q → Within (filesOf t) (a .file) → State (a .file) t (b q) e
-    of z v = subst (λ (x : ℕ). State (a .file) t (b x) e) z (G .file (a .file) v)
-right t b e G q (write a) = λ z h l. write-refused t (b q) e a (of z (write-group t (b q) e a h)) h l
-  where
-    of : a .file ≡ q → Within (filesOf t) (a .file) → State (a .file) t (b q) e
-    of z v = subst (λ (x : ℕ). State (a .file) t (b x) e) z (G .file (a .file) v)
+    (λ h. read-gives t (b q) e a (of-file G z (read-yes t a (sym (refusal-is t (read a)) ∙ h) .group)) h, λ h l. read-refused t (b q) e a (of-file G z (read-group t (b q) e a h)) h)
+right t b e G q (write a) = λ z h l. write-refused t (b q) e a (of-file G z (write-group t (b q) e a h)) h l
 right t b e G q (send a) = tt
 right t b e G q (check a) = tt
 right t b e G q (carry a) = tt

@@ -20,7 +20,7 @@ use Rattle.table.proofs.FormLaws.{Formed, well-formed-of}
 use Rattle.protocol.specs.Lists.{laidNow}
 use Rattle.protocol.specs.Polls.{polled, highestEpoch, inForce, current, quorumHeld}
 use Rattle.asking.specs.Asking.{firstNo, before}
-use Rattle.protocol.specs.Calls.{Founding, Checking, Call, founding, join, read, write, send, check, carry, isUsed, byCoordinator, questions, done, outcome, answers}
+use Rattle.protocol.specs.Calls.{Founding, Checking, Call, founding, join, read, write, send, check, carry, Outcome, isUsed, byCoordinator, questions, done, outcome, answers}
 use Rattle.asking.proofs.AskingLaws.{yes-first}
 use Rattle.protocol.proofs.QuestionLaws.{ByCoordinator, passed-first, refusal-is, when-done, when-refused, join-yes, write-yes, send-yes, CheckYes, check-yes}
 use Rattle.protocol.proofs.FoundedLaws.{founds-of, founded-files}
@@ -32,7 +32,7 @@ use Rattle.history.specs.Book.{Book, opened, holdsQuorum, someHasAll, en
 use Rattle.history.specs.Demand3.{verdict, RefusedRight, Right, AllRight, Demand3}
 use Rattle.history.specs.Claims.{tableAfter, bookAfter, Reached, after, AlwaysWellFormed, eachHasAll, ChecksByBook, CheckAgrees, Asks, aRead, aWrite, BelowTheLimit, AtTheLimit}
 use Rattle.history.proofs.State.{State, whole, six-check, seven-check}
-use Rattle.history.proofs.Answers.{read-refused, read-group, write-full, passed-group, Group, first-file, right}
+use Rattle.history.proofs.Answers.{read-refused, read-group, passed-seven, write-full, Group, first-file, right}
 use Rattle.history.proofs.Next.{join-files, next-join, next-other, next-write, next-send, next-same, next-check}
 use Rattle.history.proofs.Founded.{founded-state}
 
@@ -51,9 +51,29 @@ module _ (t : List ℕ) (b : ℕ → Book) (e : ℕ) (G : Group t b e) where
       go p v (yes z) = subst (λ (x : ℕ). State x u (cond (eqb q x) (c x) (b x)) e) (sym z) (rw (eq-eqb q q refl) S)
       go p v (no d) = rw (ne-eqb q p (λ z. d (sym z))) (next-other o w p (b p) e d (G .file p v))
 
+  -- after a done check the files stay, and each file's book is checked
+  check-done : (a : Checking) → firstNo (questions t (check a)) ≡ 0
+      → (e′ : ℕ) × (filesOf (done t (check a) .table) ≡ filesOf t) × ((q : ℕ) → Within (filesOf t) q → State q (done t (check a) .table) (checked (b q) (a .r)) e′)
+  unfolding done checkTable checking checkList
+  check-done a h = go (eqb (a .r) (inForce (answers t 1 (a .r)) (has (a .r)) .members)) refl
+    where
+      y : CheckYes t a
+      y = check-yes t a h
+
+      go : (x : Bool) → eqb (a .r) (inForce (answers t 1 (a .r)) (has (a .r)) .members) ≡ x
+          → (e′ : ℕ) × (filesOf (done t (check a) .table) ≡ filesOf t) × ((q : ℕ) → Within (filesOf t) q → State q (done t (check a) .table) (checked (b q) (a .r)) e′)
+      go true z = (e, rw z, rw z (λ q v. next-same q t (b q) e (G .file q v) a y (eqb-true _ _ z)))
+      go false z =
+          let all : every (filesOf t) (λ q. current (answers t q (a .r)) (has (a .r))) ≡ true = rw z at (y .current) in
+          let room : ltb (highestEpoch (answers t 1 (a .r)) (has (a .r))) limit ≡ true = rw z at (y .room) in (
+            suc e,
+            rw z (same-files (check-leaves t a y (ltb-true _ _ room) .frame)),
+            rw z (λ q v. next-check q t (b q) e (G .file q v) a y (ltb-true _ _ room) (λ p w. every-at (filesOf t) (λ q. current (answers t q (a .r)) (has (a .r))) all p w) z),
+          )
+
   -- after a done call
   next-done : (k : Call) → firstNo (questions t k) ≡ 0 → (e′ : ℕ) × Group (done t k .table) (λ q. entered q (b q) k true) e′
-  unfolding done entered writeTable writing sendTable checkTable checking checkList
+  unfolding done entered writeTable writing sendTable
   next-done (founding a) h = let f = founds-of t a h in (0, record { some = rw (founded-files a f) (f .group .0); file = rw (founded-files a f) (founded-state a f) })
   next-done (join a) h = let y = join-yes t a h in (e, onto (join-files t a y) (λ q v. next-join q t (b q) e (G .file q v) a y))
   next-done (read a) h = (e, G)
@@ -63,20 +83,7 @@ module _ (t : List ℕ) (b : ℕ → Book) (e : ℕ) (G : Group t b e) where
   next-done (send a) h =
       let y = send-yes t a h in
       (e, named (λ q. passedOn (b q) (a .f) (a .t)) (send-only t a y) (send-formed t a y) (next-send t (b (a .file)) e a (G .file (a .file) (y .group)) y))
-  next-done (check a) h = go (eqb (a .r) (inForce (answers t 1 (a .r)) (has (a .r)) .members)) refl
-    where
-      y : CheckYes t a
-      y = check-yes t a h
-
-      go : (x : Bool) → eqb (a .r) (inForce (answers t 1 (a .r)) (has (a .r)) .members) ≡ x → (e′ : ℕ) × Group (done t (check a) .table) (λ q. checked (b q) (a .r)) e′
-      go true z = (e, rw z (onto refl (λ q v. next-same q t (b q) e (G .file q v) a y (eqb-true _ _ z))))
-      go false z =
-          let all : every (filesOf t) (λ q. current (answers t q (a .r)) (has (a .r))) ≡ true = rw z at (y .current) in
-          let room : ltb (highestEpoch (answers t 1 (a .r)) (has (a .r))) limit ≡ true = rw z at (y .room) in (
-            suc e,
-            rw z (onto (same-files (check-leaves t a y (ltb-true _ _ room) .frame)) (λ q v.
-                next-check q t (b q) e (G .file q v) a y (ltb-true _ _ room) (λ p w. every-at (filesOf t) (λ q. current (answers t q (a .r)) (has (a .r))) all p w) z)),
-          )
+  next-done (check a) h = let n = check-done a h in (n .0, onto (n .1) (n .2))
   next-done (carry a) h = (e, G)
 
   -- after any call
@@ -164,18 +171,6 @@ agreed-members b r = go (eqb r (b .inForce .members)) refl
     go true q = sym (eqb-true r (b .inForce .members) q)
     go false q = refl
 
--- a check keeps the files
-check-files : (t : List ℕ) (a : Checking) → firstNo (questions t (check a)) ≡ 0 → filesOf (done t (check a) .table) ≡ filesOf t
-unfolding done checkTable checking checkList
-check-files t a h = go (eqb (a .r) (inForce (answers t 1 (a .r)) (has (a .r)) .members)) refl
-  where
-    y : CheckYes t a
-    y = check-yes t a h
-
-    go : (x : Bool) → eqb (a .r) (inForce (answers t 1 (a .r)) (has (a .r)) .members) ≡ x → filesOf (done t (check a) .table) ≡ filesOf t
-    go true z = rw z
-    go false z = let room : ltb (highestEpoch (answers t 1 (a .r)) (has (a .r))) limit ≡ true = rw z at (y .room) in rw z (same-files (check-leaves t a y (ltb-true _ _ room) .frame))
-
 -- and by the invariant after it the rows of that list have it
 pub check-agrees : CheckAgrees
 unfolding CheckAgrees entered whole polled
@@ -185,17 +180,11 @@ check-agrees t b x a h q v = record {
   rows = listed;
 }
   where
-    e : ℕ
-    e = reached t b x .0
+    n : (e : ℕ) × (filesOf (done t (check a) .table) ≡ filesOf t) × ((q : ℕ) → Within (filesOf t) q → State q (done t (check a) .table) (checked (b q) (a .r)) e)
+    n = check-done t b (reached t b x .0) (reached t b x .1) a (sym (refusal-is t (check a)) ∙ h)
 
-    G : Group (outcome t (check a) .table) (λ p. checked (b p) (a .r)) (next t b e (reached t b x .1) (check a) .0)
-    G = rw h at (next t b e (reached t b x .1) (check a) .1)
-
-    files : filesOf (outcome t (check a) .table) ≡ filesOf t
-    files = rw (when-done t (check a) h) (check-files t a (sym (refusal-is t (check a)) ∙ h))
-
-    S : State q (outcome t (check a) .table) (checked (b q) (a .r)) (next t b e (reached t b x .1) (check a) .0)
-    S = G .file q (rw files v)
+    S : State q (outcome t (check a) .table) (checked (b q) (a .r)) (n .0)
+    S = subst (λ (o : Outcome). State q (o .table) (checked (b q) (a .r)) (n .0)) (sym (when-done t (check a) h)) (n .2 q v)
 
     used : (i : ℕ) → has (a .r) i ≡ true → Within (usedOf (outcome t (check a) .table)) i
     used i m = has-within _ (checked (b q) (a .r) .inForce .members) i (S .inv .epochs .bound) (rw (agreed-members (b q) (a .r)) m)
@@ -229,7 +218,7 @@ at-the-limit t b x q w = let l = reached t b x in record {
 }
   where
     full : (k : Call) (q r e : ℕ) → b q .writes ≡ 1_000_000 → Group t b e → Asks k Write q r → firstNo (before 8 (questions t k)) ≡ 0 → outcome t k .refusal ≡ 8
-    full k q r e w G aWrite p = write-full t (b q) e w _ (G .file q (passed-group t (b q) e _ p)) p
+    full k q r e w G aWrite p = write-full t (b q) e w _ (G .file q (passed-seven t (b q) e _ p .4)) p
 
     same : (k : Call) (q r e : ℕ) → Group t b e → Asks k Read q r → firstNo (before 6 (questions t k)) ≡ 0 → outcome t k .refusal ≡ verdict (b q) Read r
     same k q r e G aRead p = read-refused t (b q) e _ (G .file q (read-group t (b q) e _ p)) p

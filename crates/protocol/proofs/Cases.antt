@@ -6,9 +6,9 @@ use lib.ListN.{replicate}
 use Rattle.sets.specs.Upto.{upward}
 use Rattle.bytes.specs.Bytes.{bytesOf, put, zeros}
 use Rattle.fields.specs.Layout.{stride}
-use Rattle.protocol.specs.Calls.{Call, outcome}
+use Rattle.protocol.specs.Calls.{Call, founded}
 use Rattle.carrying.proofs.Computed.{early, late}
-use Rattle.protocol.proofs.Histories.{fo, rd, wr, mv, Made, Called, stepsHold}
+use Rattle.protocol.proofs.Histories.{rd, wr, mv, Made, Called, stepsHold}
 
 -- on these bytes a call has this refusal, value and buffer
 pub data Case : Type 0 where
@@ -66,14 +66,9 @@ unlisted e = set (row2 + 12) 4 e (set (row2 + 16) 8 0 pair)
 unfoldable pub nobody : List ℕ
 nobody = set (row1 + 16) 8 0 (unlisted 0)
 
--- names below 256, two bytes each
-unfoldable pub twoBytes : List ℕ → List ℕ
-twoBytes [] = []
-twoBytes (x ∷ xs) = x ∷ 0 ∷ twoBytes xs
-
 -- n rows founded, named 10, 11, ..; and with the grid mark of each put to a number
 unfoldable pub full : ℕ → List ℕ
-full n = outcome (zeros (16 + n * stride 1 1)) (fo n 1 (twoBytes (upward n 10)) 0 1) .table
+full n = founded 0 n 1 1 (upward n 10)
 
 unfoldable pub remarked : (n mark : ℕ) → List ℕ → List ℕ
 remarked zero mark t = t

@@ -9,7 +9,7 @@ use Rattle.bytes.specs.Bytes.{zeros}
 use Rattle.fields.specs.Layout.{Field, get, stride, mark, oldest, version, desired, epoch, members, records, rowBytes, copyBytes, contentsOf}
 use Rattle.protocol.specs.Calls.{outcome}
 use Rattle.protocol.proofs.Histories.{fo, jn, rdq, wrq, snq, rdc, wrc, rd, wr, ck, same}
-use Rattle.protocol.proofs.Cases.{Case, On, Notes, pair, row1, row2, row3, set, single, third, unlisted, nobody, twoBytes, full, remarked}
+use Rattle.protocol.proofs.Cases.{Case, On, Notes, pair, row1, row2, row3, set, single, third, unlisted, nobody, full, remarked}
 
 -- ---- calls
 -- a check by row 0: refused by 1, or by 2 where question 1 is passed
@@ -18,6 +18,11 @@ malformed t = On t (ck 0 0) 1 0 []
 
 unfoldable pub formed : List ℕ → Case
 formed t = On t (ck 0 0) 2 0 []
+
+-- names below 256, two bytes each
+unfoldable pub twoBytes : List ℕ → List ℕ
+twoBytes [] = []
+twoBytes (x ∷ xs) = x ∷ 0 ∷ twoBytes xs
 
 -- a founding on so many bytes
 unfoldable pub founds : (length capacity fileLength : ℕ) (names : List ℕ) (refusal value : ℕ) → Case

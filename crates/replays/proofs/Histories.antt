@@ -6,7 +6,7 @@ unfoldable pub histories : List History
 histories =
     -- the desired-version test: a read that meets only rows left behind; row bytes
     record {
-      capacity = 5;
+      capacity = 4;
       fileLength = 3;
       names = 10 ∷ 0 ∷ 20 ∷ 0 ∷ 30 ∷ 0 ∷ 40 ∷ 0 ∷ [];
       choice = 0;
