@@ -156,7 +156,6 @@ cases =
     ∷ On nobody (wr 1 3 0 (7 ∷ [])) 6 0 []
     ∷ On nobody (ck 1 3) 6 0 []
     -- ---- how many machines were called: the coordinator's own choice where the call stayed with P, also a P that is R, or lacks a row of the choice
-    ∷ Notes (full 5) (rd 1 31 0 1 (9 ∷ [])) 0 (2 ∷ [])
     ∷ Notes (full 5) (rd 4 12 0 1 (9 ∷ [])) 0 (2 ∷ [])
     ∷ Notes (full 5) (wr 2 31 0 (7 ∷ [])) 0 (3 ∷ [])
     -- all used rows where it went on to R: done, refused by 6, by a coordinator without a list
@@ -181,9 +180,7 @@ cases =
     ∷ On (full 5) (rd 1 27 0 1 (9 ∷ [])) 0 0 (0 ∷ [])
     ∷ On (remarked 5 0 (full 5)) (rd 1 27 0 1 (9 ∷ [])) 6 0 (9 ∷ [])
     ∷ On (remarked 5 0 (full 5)) (rd 1 7 0 1 (9 ∷ [])) 0 0 (0 ∷ [])
-    ∷ On (full 5) (rd 1 5 0 1 (9 ∷ [])) 6 0 (9 ∷ [])
     ∷ On (outcome (remarked 5 0 (full 5)) (ck 1 31) .table) (rd 1 27 0 1 (9 ∷ [])) 6 0 (9 ∷ [])
-    ∷ On (outcome (outcome (remarked 5 0 (full 5)) (ck 1 15) .table) (ck 1 31) .table) (rd 1 27 0 1 (9 ∷ [])) 0 0 (0 ∷ [])
     -- ---- joining: 1, then 13 (name 0, above 65,535, in use), then 14
     ∷ On pair (jn 15) 0 3 []
     ∷ On pair (jn 1) 0 3 []
@@ -213,7 +210,7 @@ cases =
     ∷ founds 637 1 1 (10 ∷ 0 ∷ []) 0 1
     ∷ founds 637 1 1 (10 ∷ 0 ∷ 20 ∷ []) 11 0
     ∷ founds 39_760 64 1 (twoBytes (upward 64 1)) 0 64
-    ∷ founds 39_760 64 1 (twoBytes (upward 65 1)) 11 0
+    ∷ founds 637 1 1 (twoBytes (upward 65 1)) 11 0
     ∷ founds 637 1 1 (0 ∷ 0 ∷ []) 11 0
     ∷ founds 1_258 2 1 (10 ∷ 0 ∷ 9 ∷ 0 ∷ []) 11 0
     ∷ founds 1_258 2 1 (10 ∷ 0 ∷ 10 ∷ 0 ∷ []) 11 0
@@ -233,7 +230,7 @@ cases =
     ∷ On (zeros 1_226) (fo 1 1 (10 ∷ 0 ∷ []) 0 2) 0 1 []
     ∷ On (zeros 4_760) (fo 1 1 (10 ∷ 0 ∷ []) 0 8) 0 1 []
     ∷ On (zeros 5_349) (fo 1 1 (10 ∷ 0 ∷ []) 0 9) 12 0 []
-    -- ---- 16 after 3 and before 4, and before 9; then nothing is noted
+    -- ---- 16 after 3 and before 4, and before 9, by which a marked sender is refused; then nothing is noted
     ∷ On pair (wrq 0 2 3 9 (7 ∷ []) (0 ∷ [])) 16 0 []
     ∷ On pair (wrq 2 2 3 9 (7 ∷ []) (0 ∷ [])) 16 0 []
     ∷ On pair (wrq 2 2 1 9 (7 ∷ []) (0 ∷ [])) 3 0 []

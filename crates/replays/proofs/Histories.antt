@@ -25,7 +25,7 @@ histories =
           Made (rd 2 15 0 3 (0 ∷ 0 ∷ 0 ∷ [])) 0 2 (9 ∷ 7 ∷ 8 ∷ []) ∷
           [];
     }
-    -- a check marks the rows that are not good
+    -- a check wants a write quorum, and marks the rows that are not good
     ∷ record {
       capacity = 4;
       fileLength = 2;
@@ -33,6 +33,8 @@ histories =
       choice = 0;
       files = 1;
       steps =
+          Made (ck 1 3) 6 0 [] ∷
+          Made (rd 1 3 0 1 (9 ∷ [])) 0 0 (0 ∷ []) ∷
           Made (ck 1 7) 0 1 [] ∷
           Made (wr 1 3 0 (4 ∷ [])) 0 1 [] ∷
           Made (ck 2 14) 0 2 [] ∷
@@ -93,38 +95,6 @@ histories =
           Copy 1 2 (0 ∷ 1 ∷ 0 ∷ 0 ∷ 1 ∷ 0 ∷ 0 ∷ 0 ∷ 0 ∷ 0 ∷ 0 ∷ 0 ∷ 0 ∷ 3 ∷ []) ∷
           Made (wr 1 3 0 []) 4 0 [] ∷
           Made (ck 1 3) 0 0 [] ∷
-          [];
-    }
-    -- a marked row is no sender
-    ∷ record {
-      capacity = 4;
-      fileLength = 1;
-      names = 10 ∷ 0 ∷ 20 ∷ 0 ∷ 30 ∷ 0 ∷ 40 ∷ 0 ∷ [];
-      choice = 0;
-      files = 1;
-      steps =
-          Made (wr 4 15 0 (1 ∷ [])) 0 1 [] ∷
-          Made (ck 2 11) 0 1 [] ∷
-          Made (wr 2 7 0 (2 ∷ [])) 0 2 [] ∷
-          Made (wr 3 15 0 (3 ∷ [])) 0 3 [] ∷
-          Head 3 (30 ∷ 0 ∷ 4 ∷ 0 ∷ 0 ∷ 0 ∷ 0 ∷ 0 ∷ 0 ∷ 0 ∷ 0 ∷ 0 ∷ 0 ∷ 0 ∷ 0 ∷ 0 ∷ 15 ∷ 0 ∷ 0 ∷ 0 ∷ 0 ∷ 0 ∷ 0 ∷ 0 ∷ 0 ∷ 0 ∷ 0 ∷ 0 ∷ 0 ∷ 0 ∷ 0 ∷ 0 ∷ []) ∷
-          Copy 1 3 (1 ∷ 1 ∷ 0 ∷ 0 ∷ 1 ∷ 0 ∷ 0 ∷ 0 ∷ 3 ∷ 0 ∷ 0 ∷ 0 ∷ 1 ∷ []) ∷
-          Head 4 (40 ∷ 0 ∷ 0 ∷ 0 ∷ 0 ∷ 0 ∷ 0 ∷ 0 ∷ 0 ∷ 0 ∷ 0 ∷ 0 ∷ 1 ∷ 0 ∷ 0 ∷ 0 ∷ 11 ∷ 0 ∷ 0 ∷ 0 ∷ 0 ∷ 0 ∷ 0 ∷ 0 ∷ 0 ∷ 0 ∷ 0 ∷ 0 ∷ 0 ∷ 0 ∷ 0 ∷ 0 ∷ []) ∷
-          Copy 1 4 (1 ∷ 0 ∷ 0 ∷ 0 ∷ 0 ∷ 0 ∷ 0 ∷ 0 ∷ 1 ∷ 0 ∷ 0 ∷ 0 ∷ 0 ∷ []) ∷
-          Made (sn 3 4 12) 9 0 [] ∷
-          [];
-    }
-    -- a check wants a write quorum
-    ∷ record {
-      capacity = 4;
-      fileLength = 1;
-      names = 10 ∷ 0 ∷ 20 ∷ 0 ∷ 30 ∷ 0 ∷ 40 ∷ 0 ∷ [];
-      choice = 0;
-      files = 1;
-      steps =
-          Made (ck 1 3) 6 0 [] ∷
-          Made (rd 1 3 0 1 (9 ∷ [])) 0 0 (0 ∷ []) ∷
-          Made (ck 1 7) 0 1 [] ∷
           [];
     }
     -- a row joins in the middle of the chain: the list that it is checked into is laid in chain order, and so is a choice made
@@ -217,20 +187,6 @@ histories =
           Made (ck 1 31) 0 2 [] ∷
           Head 3 (30 ∷ 0 ∷ 4 ∷ 0 ∷ 0 ∷ 0 ∷ 0 ∷ 0 ∷ 0 ∷ 0 ∷ 0 ∷ 0 ∷ 2 ∷ 0 ∷ 0 ∷ 0 ∷ 31 ∷ 0 ∷ 0 ∷ 0 ∷ 0 ∷ 0 ∷ 0 ∷ 0 ∷ 1 ∷ 0 ∷ 0 ∷ 0 ∷ 0 ∷ 0 ∷ 0 ∷ 0 ∷ []) ∷
           Copy 1 3 (1 ∷ 0 ∷ 0 ∷ 0 ∷ 0 ∷ 0 ∷ 0 ∷ 0 ∷ 1 ∷ 0 ∷ 0 ∷ 0 ∷ []) ∷
-          [];
-    }
-    -- a choice over five goes by the grid that the list was laid in
-    ∷ record {
-      capacity = 5;
-      fileLength = 1;
-      names = 10 ∷ 0 ∷ 20 ∷ 0 ∷ 30 ∷ 0 ∷ 40 ∷ 0 ∷ 50 ∷ 0 ∷ [];
-      choice = 0;
-      files = 1;
-      steps =
-          Made (wr 2 31 0 (5 ∷ [])) 0 1 [] ∷
-          Contents 3 (5 ∷ []) ∷
-          Contents 4 (0 ∷ []) ∷
-          Contents 5 (5 ∷ []) ∷
           [];
     }
     -- a tall table: either of two machines reads, both write; a check lays its list tall again, a list of five too
