@@ -18,7 +18,6 @@ use Rattle.fields.specs.declared.Laid.{Laid}
 use Rattle.fields.specs.Layout.{isTall, contents, copyLength, rowLength, rowBytes, inCopy, copyBytes, usedOf, filesOf, fileLengthOf, nameOf, epochOf, versionOf, withRow, withRows}
 use Rattle.table.specs.Chain.{orderOf}
 use Rattle.table.specs.WellFormed.{limit}
-use Rattle.fields.proofs.FieldLaws.{row-newest}
 use Rattle.window.specs.Windows.{Window, windowOf, added}
 use Rattle.window.specs.Claims.{Fits}
 use Rattle.table.proofs.FormLaws.{Formed, formed, header-facts, rows-room}
@@ -27,7 +26,7 @@ use Rattle.protocol.specs.Lists.{laidNow}
 use Rattle.protocol.specs.Rows.{markedCopy, sentContents, refreshedCopy, wroteCopy, checkedRow}
 use Rattle.protocol.specs.Calls.{Writing, Sending, Checking, answers, workSet}
 use Rattle.protocol.proofs.RowLaws.{copyKit, Becomes, fieldsOf, changed, marked-copy, patched-copy, refreshed-copy}
-use Rattle.table.proofs.TableLaws.{Changed, one-row, many-rows}
+use Rattle.table.proofs.TableLaws.{row-long, Changed, one-row, many-rows}
 use Rattle.protocol.proofs.PollLaws.{worked-in, version-under, epoch-under}
 use Rattle.protocol.proofs.CopyLaws.{Leaves, one-copy, CheckedRow, checked-row, OnlyCopies, only-copies, row-length, copy-long, changed-row, leaves-of, same-copy}
 use Rattle.protocol.proofs.QuestionLaws.{ByCoordinator, answered-used, WriteYes, SendYes, CheckYes}
@@ -55,7 +54,7 @@ file-low t w = omega (arith, header-facts t (w .header) .file)
 
 -- rows are as long as their table says
 row-size : (t : List ℕ) → Formed t → (i : ℕ) → Within (usedOf t) i → length (rowBytes t i) ≡ rowLength t
-row-size t w i u = row-length t w i u ∙ sym (row-newest t (w .newest))
+row-size t w i u = row-long t (usedOf t) (rows-room t w) i u
 
 -- ---- a write
 module _ (t : List ℕ) (a : Writing) (y : WriteYes t a) where

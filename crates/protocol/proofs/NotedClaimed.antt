@@ -186,13 +186,13 @@ module _ (t : List ℕ) (k : Call) (kind : Kind) (q c r : ℕ) (bytes : List ℕ
 pub refused-note : RefusedNote
 unfolding RefusedNote late
 refused-note t k kind q c r bytes x one =
-    let late = note-late t k kind q c r bytes x one in
+    let noted = note-late t k kind q c r bytes x one in
     record {
       early = λ h. note-early t k kind q c r bytes x one (h .0) (λ e. omega (arith, ltb-true 5 (outcome t k .refusal) (and-l _ _ e)));
       no-file = λ h. note-early t k kind q c r bytes x one (omega arith) (λ e. omega (arith, ltb-true (outcome t k .refusal) 9 (and-r (ltb 5 (outcome t k .refusal)) _ e)));
-      six = λ e. late (omega arith) (omega arith) ∙ ap (λ (n : ℕ). n ∷ []) (calls-all t k kind q c r bytes x (omega arith) (omega arith));
-      seven = λ e. late (omega arith) (omega arith) ∙ ap (λ (n : ℕ). n ∷ []) (calls-all t k kind q c r bytes x (omega arith) (omega arith));
-      eight = λ e. late (omega arith) (omega arith);
+      six = λ e. noted (omega arith) (omega arith) ∙ ap (λ (n : ℕ). n ∷ []) (calls-all t k kind q c r bytes x (omega arith) (omega arith));
+      seven = λ e. noted (omega arith) (omega arith) ∙ ap (λ (n : ℕ). n ∷ []) (calls-all t k kind q c r bytes x (omega arith) (omega arith));
+      eight = λ e. noted (omega arith) (omega arith);
     }
 
 -- ---- a list of another length
