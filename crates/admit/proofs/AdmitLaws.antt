@@ -12,7 +12,7 @@ use Rattle.bytes.specs.Bytes.{put}
 use Rattle.bytes.proofs.CodeLaws.{part-length, part-back, part-is}
 use Rattle.blocks.specs.Blocks.{block, withBlock}
 use Rattle.fields.specs.Layout.{store, used, first, name, link, capacityOf, usedOf, firstOf, linkOf, rowLength, rowsEnd, rowBytes, withRow}
-use Rattle.fields.proofs.FieldLaws.{length-store, contents-room}
+use Rattle.fields.proofs.FieldLaws.{length-store, head-room}
 use Rattle.table.specs.Contracts.{Sized}
 use Rattle.table.proofs.WellFormedLaws.{rows-in}
 use Rattle.table.proofs.TableLaws.{Roomy, like-length, row-long, one-row}
@@ -41,11 +41,11 @@ module _ {t : List ℕ} (s : Sized t) (room : usedOf t < capacityOf t) where
   -- the new row lies within the table, and so does a row before it
   pub row-fits : (size n : ℕ) → size ≡ rowLength t → n ≡ usedOf t → (32 ≤ size) × (16 + n * size + size ≤ length t)
   unfolding rowsEnd
-  row-fits size n es en = rw (es, en) (omega (arith, contents-room t), omega (arith, roomy, suc-mul (usedOf t) (rowLength t)))
+  row-fits size n es en = rw (es, en) (omega (arith, head-room t), omega (arith, roomy, suc-mul (usedOf t) (rowLength t)))
 
   pub link-fits : (size p : ℕ) → size ≡ rowLength t → p ≤ usedOf t → (32 ≤ size) × (16 + p * size ≤ length t)
   unfolding rowsEnd
-  link-fits size p es h = rw es (omega (arith, contents-room t), rows-in s p (omega arith))
+  link-fits size p es h = rw es (omega (arith, head-room t), rows-in s p (omega arith))
 
   -- a name and a link leave the length of rows
   width : (x next : ℕ) → rowLength (withRow t (suc (usedOf t)) (namedRow x next)) ≡ rowLength t
@@ -53,9 +53,9 @@ module _ {t : List ℕ} (s : Sized t) (room : usedOf t < capacityOf t) where
   width x next =
       let row = rowBytes t (suc (usedOf t)) in
       let l : length row ≡ rowLength t = row-long t (suc (usedOf t)) roomy (suc (usedOf t)) (omega arith) in
-      let n : length (store name x row) ≡ length row = length-store name x row (omega (arith, contents-room t)) in
+      let n : length (store name x row) ≡ length row = length-store name x row (omega (arith, head-room t)) in
       like-length (one-row t (suc (usedOf t)) (usedOf t) roomy (omega arith) (namedRow x next)
-      (length-store link next (store name x row) (omega (arith, contents-room t)) ∙ n ∙ l) .like)
+      (length-store link next (store name x row) (omega (arith, head-room t)) ∙ n ∙ l) .like)
 
   pub admitted : (p x size n start next front : ℕ) (new led counted last : List ℕ)
       → size ≡ rowLength t → n ≡ usedOf t → start ≡ firstOf t → next ≡ behind start (linkOf t) p → front ≡ cond (eqb p 0) (n + 1) start

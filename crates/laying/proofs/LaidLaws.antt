@@ -13,7 +13,7 @@ use lib.Seq.{take-at, drop-at, take-all, take-suc, length-take-le}
 use Rattle.sets.specs.Sets.{has, firstRows}
 use Rattle.sets.proofs.SetLaws.{has-first, same-members}
 use Rattle.bytes.specs.Bytes.{bytesOf, put, zeros}
-use Rattle.fields.specs.Layout.{store, form, formValue, bodyLength, stride, capacity, used, first, fileLength, name, link, members, gridMark, storeList}
+use Rattle.fields.specs.Layout.{store, form, formValue, bodyLength, stride, capacity, used, first, fileLength, fileCount, name, link, members, gridMark, storeList}
 use Rattle.bytes.proofs.ByteLaws.{length-put, length-zeros, split-zeros, bytes-zero}
 use Rattle.bytes.proofs.CodeLaws.{part-length, part-back}
 use Rattle.fields.specs.declared.Laid.{Laid}
@@ -21,15 +21,15 @@ use Rattle.protocol.specs.Calls.{foundedHeader, foundedRow, foundedRows, founde
 use Rattle.protocol.proofs.FoundedLaws.{length-header, length-rows}
 
 -- ---- the header and a row, stored into zeros
-header-computed : (c n file : ℕ) (l : List ℕ) → c % 256 ≡ c → n % 256 ≡ n
-    → store fileLength file (store first 1 (store used n (store capacity c (store form formValue (zeros 16 ++ l))))) ≡ foundedHeader c n file ++ l
-unfolding store put bytesOf zeros foundedHeader form formValue capacity used first fileLength
-header-computed c n file l e-c e-n = ap₂ (λ (x y : ℕ). formValue ∷ x ∷ y ∷ 1 ∷ (bytesOf 2 file ++ (zeros 10 ++ l))) e-c e-n
+header-computed : (c n files file : ℕ) (l : List ℕ) → c % 256 ≡ c → n % 256 ≡ n
+    → store fileCount files (store fileLength file (store first 1 (store used n (store capacity c (store form formValue (zeros 16 ++ l)))))) ≡ foundedHeader c n files file ++ l
+unfolding store put bytesOf zeros foundedHeader form formValue capacity used first fileLength fileCount
+header-computed c n files file l e-c e-n = ap₂ (λ (x y : ℕ). formValue ∷ x ∷ y ∷ 1 ∷ (bytesOf 2 file ++ (bytesOf 1 files ++ (zeros 9 ++ l)))) e-c e-n
 
-pub header-stored : (c n file rest : ℕ) → c < 256 → n < 256
-    → store fileLength file (store first 1 (store used n (store capacity c (store form formValue (zeros (16 + rest)))))) ≡ foundedHeader c n file ++ zeros rest
-header-stored c n file rest hc hn =
-    ap (λ (l : List ℕ). store fileLength file (store first 1 (store used n (store capacity c (store form formValue l))))) (split-zeros 16 rest) ∙ header-computed c n file (zeros rest) (omega arith) (omega arith)
+pub header-stored : (c n files file rest : ℕ) → c < 256 → n < 256
+    → store fileCount files (store fileLength file (store first 1 (store used n (store capacity c (store form formValue (zeros (16 + rest))))))) ≡ foundedHeader c n files file ++ zeros rest
+header-stored c n files file rest hc hn =
+    ap (λ (l : List ℕ). store fileCount files (store fileLength file (store first 1 (store used n (store capacity c (store form formValue l)))))) (split-zeros 16 rest) ∙ header-computed c n files file (zeros rest) (omega arith) (omega arith)
 
 row-computed : (n : ℕ) (all : Laid) (body i x l : ℕ) → l % 256 ≡ l → l ≡ cond (eqb i n) 0 (i + 1)
     → storeList all (store link l (store name x (zeros 32 ++ zeros body))) ≡ foundedRow n all body i x
@@ -66,42 +66,42 @@ module _ (a z b : List ℕ) (at size : ℕ) (la : length a ≡ at) (lz : length 
   middle-back new = rw (cut, take-at a (z ++ b) at la, drop-at a (z ++ b) at la, drop-at z b size lz)
 
 -- ---- the header and the first k rows stand, the rest is 0
-pub record LaidOut (c n : ℕ) (all : Laid) (file body : ℕ) (names : List ℕ) (k at : ℕ) (t : List ℕ) : Type 0 where
+pub record LaidOut (c n : ℕ) (all : Laid) (files file body : ℕ) (names : List ℕ) (k at : ℕ) (t : List ℕ) : Type 0 where
   pub place : at ≡ 16 + k * (32 + body)
-  pub bytes : t ≡ foundedHeader c n file ++ (foundedRows n all body 1 (take k names) ++ zeros ((c - k) * (32 + body)))
+  pub bytes : t ≡ foundedHeader c n files file ++ (foundedRows n all body 1 (take k names) ++ zeros ((c - k) * (32 + body)))
 
-module _ (c n : ℕ) (all : Laid) (file : ℕ) (names : List ℕ) where
+module _ (c n : ℕ) (all : Laid) (files file : ℕ) (names : List ℕ) where
   -- the table cleared, then the header stored
   pub none-laid : (body at : ℕ) (t cleared new : List ℕ) → at ≡ 16 → length t ≡ 16 + c * (32 + body) → c ≤ 64 → n ≤ 64 → cleared ≡ bytesOf (length t) 0
-      → new ≡ store fileLength file (store first 1 (store used n (store capacity c (store form formValue cleared)))) → LaidOut c n all file body names 0 at new
+      → new ≡ store fileCount files (store fileLength file (store first 1 (store used n (store capacity c (store form formValue cleared))))) → LaidOut c n all files file body names 0 at new
   unfolding foundedRows
   none-laid body at t cleared new e long hc hn clear made = record {
     place = omega (arith, zero-mul (32 + body));
     bytes = made
-        ∙ ap (λ (l : List ℕ). store fileLength file (store first 1 (store used n (store capacity c (store form formValue l))))) (clear ∙ bytes-zero (length t) ∙ ap zeros long)
-        ∙ header-stored c n file (c * (32 + body)) (omega arith) (omega arith)
-        ∙ ap (λ (m : ℕ). foundedHeader c n file ++ zeros (m * (32 + body))) (sym (sub-zero c));
+        ∙ ap (λ (l : List ℕ). store fileCount files (store fileLength file (store first 1 (store used n (store capacity c (store form formValue l)))))) (clear ∙ bytes-zero (length t) ∙ ap zeros long)
+        ∙ header-stored c n files file (c * (32 + body)) (omega arith) (omega arith)
+        ∙ ap (λ (m : ℕ). foundedHeader c n files file ++ zeros (m * (32 + body))) (sym (sub-zero c));
   }
 
-  pub all-laid : (choice k at : ℕ) (t : List ℕ) → all ≡ foundedList choice n → n ≡ length names → k ≡ length names → LaidOut c n all file (bodyLength file) names k at t → t ≡ founded choice c file names
+  pub all-laid : (choice k at : ℕ) (t : List ℕ) → all ≡ foundedList choice n → n ≡ length names → k ≡ length names → LaidOut c n all files file (bodyLength files file) names k at t → t ≡ founded choice c files file names
   unfolding founded stride
   all-laid choice k at t e-all e-n e l =
       l .bytes
-      ∙ ap (λ (m : ℕ). foundedHeader c n file ++ (foundedRows n all (bodyLength file) 1 (take k names) ++ zeros ((c - m) * stride file))) e
-      ∙ ap (λ (xs : List ℕ). foundedHeader c n file ++ (foundedRows n all (bodyLength file) 1 xs ++ zeros ((c - length names) * stride file))) (take-all k names (omega arith))
-      ∙ ap (λ (a : Laid). foundedHeader c n file ++ (foundedRows n a (bodyLength file) 1 names ++ zeros ((c - length names) * stride file))) e-all
-      ∙ ap (λ (m : ℕ). foundedHeader c m file ++ (foundedRows m (foundedList choice m) (bodyLength file) 1 names ++ zeros ((c - length names) * stride file))) e-n
+      ∙ ap (λ (m : ℕ). foundedHeader c n files file ++ (foundedRows n all (bodyLength files file) 1 (take k names) ++ zeros ((c - m) * stride files file))) e
+      ∙ ap (λ (xs : List ℕ). foundedHeader c n files file ++ (foundedRows n all (bodyLength files file) 1 xs ++ zeros ((c - length names) * stride files file))) (take-all k names (omega arith))
+      ∙ ap (λ (a : Laid). foundedHeader c n files file ++ (foundedRows n a (bodyLength files file) 1 names ++ zeros ((c - length names) * stride files file))) e-all
+      ∙ ap (λ (m : ℕ). foundedHeader c m files file ++ (foundedRows m (foundedList choice m) (bodyLength files file) 1 names ++ zeros ((c - length names) * stride files file))) e-n
 
 -- what the code knows in the turn of row k + 1
-pub record Turn (c n : ℕ) (all : Laid) (file body : ℕ) (names : List ℕ) (k at size : ℕ) (t : List ℕ) : Type 0 where
+pub record Turn (c n : ℕ) (all : Laid) (files file body : ℕ) (names : List ℕ) (k at size : ℕ) (t : List ℕ) : Type 0 where
   pub room : length names ≤ c
   pub below : k < length names
   pub wide : size ≡ 32 + body
-  pub laid : LaidOut c n all file body names k at t
+  pub laid : LaidOut c n all files file body names k at t
 
-module _ {c n : ℕ} {all : Laid} {file body : ℕ} {names : List ℕ} {k at size : ℕ} {t : List ℕ} (w : Turn c n all file body names k at size t) where
+module _ {c n : ℕ} {all : Laid} {files file body : ℕ} {names : List ℕ} {k at size : ℕ} {t : List ℕ} (w : Turn c n all files file body names k at size t) where
   done : List ℕ
-  done = foundedHeader c n file ++ foundedRows n all body 1 (take k names)
+  done = foundedHeader c n files file ++ foundedRows n all body 1 (take k names)
 
   rest : List ℕ
   rest = zeros ((c - suc k) * (32 + body))
@@ -109,8 +109,8 @@ module _ {c n : ℕ} {all : Laid} {file body : ℕ} {names : List ℕ} {k at siz
   done-long : length done ≡ at
   unfolding done
   done-long =
-      length-append (foundedHeader c n file) (foundedRows n all body 1 (take k names))
-      ∙ ap₂ (λ (x y : ℕ). x + y) (length-header c n file) (length-rows n all body 1 (take k names) ∙ ap (λ (m : ℕ). m * (32 + body)) (length-take-le k names (omega arith)))
+      length-append (foundedHeader c n files file) (foundedRows n all body 1 (take k names))
+      ∙ ap₂ (λ (x y : ℕ). x + y) (length-header c n files file) (length-rows n all body 1 (take k names) ∙ ap (λ (m : ℕ). m * (32 + body)) (length-take-le k names (omega arith)))
       ∙ sym (w .laid .place)
 
   zeros-long : length (zeros (32 + body)) ≡ size
@@ -122,8 +122,8 @@ module _ {c n : ℕ} {all : Laid} {file body : ℕ} {names : List ℕ} {k at siz
       let one : c - k ≡ suc (c - suc k) = omega arith in
       let e : (c - k) * (32 + body) ≡ (32 + body) + (c - suc k) * (32 + body) = ap (λ (m : ℕ). m * (32 + body)) one ∙ omega (arith, suc-mul (c - suc k) (32 + body)) in
       w .laid .bytes
-      ∙ ap (λ (z : List ℕ). foundedHeader c n file ++ (foundedRows n all body 1 (take k names) ++ z)) (ap zeros e ∙ split-zeros (32 + body) ((c - suc k) * (32 + body)))
-      ∙ sym (append-assoc (foundedHeader c n file) (foundedRows n all body 1 (take k names)) (zeros (32 + body) ++ zeros ((c - suc k) * (32 + body))))
+      ∙ ap (λ (z : List ℕ). foundedHeader c n files file ++ (foundedRows n all body 1 (take k names) ++ z)) (ap zeros e ∙ split-zeros (32 + body) ((c - suc k) * (32 + body)))
+      ∙ sym (append-assoc (foundedHeader c n files file) (foundedRows n all body 1 (take k names)) (zeros (32 + body) ++ zeros ((c - suc k) * (32 + body))))
 
   pub laid-fits : at + size ≤ length t
   laid-fits = omega (arith, ap length so-far, length-append done (zeros (32 + body) ++ rest), length-append (zeros (32 + body)) rest, done-long, zeros-long)
@@ -137,15 +137,15 @@ module _ {c n : ℕ} {all : Laid} {file body : ℕ} {names : List ℕ} {k at siz
       ap length (part-back at size t new new refl long) ∙ length-put t at new (omega (arith, long, laid-fits))
 
   laid-more : (new : List ℕ) → new ≡ foundedRow n all body (k + 1) (getD names k 0)
-      → LaidOut c n all file body names (k + 1) (at + size) (take at t ++ (new ++ drop ((at + size) - at) (drop at t)))
+      → LaidOut c n all files file body names (k + 1) (at + size) (take at t ++ (new ++ drop ((at + size) - at) (drop at t)))
   unfolding done rest
   laid-more new e = record {
     place = omega (arith, w .laid .place, w .wide, ap (λ (m : ℕ). m * (32 + body)) (add-one k), suc-mul k (32 + body));
     bytes = ap (λ (u : List ℕ). take at u ++ (new ++ drop ((at + size) - at) (drop at u))) so-far
         ∙ middle-back done (zeros (32 + body)) rest at size done-long zeros-long new
-        ∙ append-assoc (foundedHeader c n file) (foundedRows n all body 1 (take k names)) (new ++ zeros ((c - suc k) * (32 + body)))
-        ∙ ap (λ (x : List ℕ). foundedHeader c n file ++ x) (sym (append-assoc (foundedRows n all body 1 (take k names)) new (zeros ((c - suc k) * (32 + body)))))
-        ∙ ap₂ (λ (x : List ℕ) (m : ℕ). foundedHeader c n file ++ (x ++ zeros ((c - m) * (32 + body)))) more (sym (add-one k));
+        ∙ append-assoc (foundedHeader c n files file) (foundedRows n all body 1 (take k names)) (new ++ zeros ((c - suc k) * (32 + body)))
+        ∙ ap (λ (x : List ℕ). foundedHeader c n files file ++ x) (sym (append-assoc (foundedRows n all body 1 (take k names)) new (zeros ((c - suc k) * (32 + body)))))
+        ∙ ap₂ (λ (x : List ℕ) (m : ℕ). foundedHeader c n files file ++ (x ++ zeros ((c - m) * (32 + body)))) more (sym (add-one k));
   }
     where
       more : foundedRows n all body 1 (take k names) ++ new ≡ foundedRows n all body 1 (take (k + 1) names)
@@ -156,7 +156,7 @@ module _ {c n : ℕ} {all : Laid} {file body : ℕ} {names : List ℕ} {k at siz
 
   pub laid-turn : (new : List ℕ) (x next : ℕ) → new ≡ storeList all (store link next (store name x (take ((at + size) - at) (drop at t))))
       → x ≡ getD names k 0 → next < 256 → next ≡ cond (eqb (k + 1) n) 0 (k + 1 + 1)
-      → LaidOut c n all file body names (k + 1) (at + size) (take at t ++ (new ++ drop ((at + size) - at) (drop at t)))
+      → LaidOut c n all files file body names (k + 1) (at + size) (take at t ++ (new ++ drop ((at + size) - at) (drop at t)))
   laid-turn new x next made e-x small e-next = laid-more new
       (made ∙ ap (λ (row : List ℕ). storeList all (store link next (store name x row))) lent-zeros
       ∙ row-stored n all body (k + 1) x next small e-next ∙ ap (foundedRow n all body (k + 1)) e-x)

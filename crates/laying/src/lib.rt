@@ -28,18 +28,25 @@ fn found_row(row: &mut [u8], x: u16, next: u8, list: Laid)
     fields::set_list(row, list);
 }
 
-// A table of so many rows for a file of so many bytes, with the named rows in it; by choice 1 it is tall.
-pub fn lay_table(t: &mut [u8], capacity: usize, file: usize, names: &[u8], choice: u64)
-    requires { ⌜ (length (now t) ≡ 16 + capacity * stride file) × Within 4_096 file × (capacity ≤ 64) × (length (now names) ≡ 2 * length (namesIn (now names))) × Within capacity (length (namesIn (now names))) ⌝ }
-    ensures { λ r. ⌜ now (t .exit) ≡ founded choice capacity file (namesIn (now (names .entry))) ⌝ }
+// A table of so many rows for so many files of so many bytes, with the named rows in it; by choice 1 it is tall.
+pub fn lay_table(
+    t: &mut [u8],
+    capacity: usize,
+    files: usize,
+    file: usize,
+    names: &[u8],
+    choice: u64,
+)
+    requires { ⌜ (length (now t) ≡ 16 + capacity * stride files file) × Within 8 files × Within 4_096 file × (capacity ≤ 64) × (length (now names) ≡ 2 * length (namesIn (now names))) × Within capacity (length (namesIn (now names))) ⌝ }
+    ensures { λ r. ⌜ now (t .exit) ≡ founded choice capacity files file (namesIn (now (names .entry))) ⌝ }
 {
     let n = names.len() / 2;
     let list = lists::laid_now(choice == 1, RowSet::first(n));
-    let size = table::row_size(file);
+    let size = table::row_size(files, file);
     // the rows stand behind the header, up to the end
     let mut at = t.len() - capacity * size;
     bytes::fill(t, 0);
-    header::set_header(t, capacity as u8, n as u8, file as u16);
+    header::set_header(t, capacity as u8, n as u8, file as u16, files as u8);
     let mut i = 0;
     while i < n {
         let x = bytes::u16_at(names, 2 * i);

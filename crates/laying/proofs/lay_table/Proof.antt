@@ -14,10 +14,10 @@ use Rattle.laying.proofs.lay_table.Statement.{statement}
 use Rattle.laying.proofs.lay_table.Tie as tie
 
 abbrev Inv-loop : tie.InvT-loop
-Inv-loop t₀ capacity file names choice n list size at₀ i₀ t at i = (i ≤ n) × (length t ≡ length t₀) × LaidOut capacity n list file (bodyLength file) (namesIn names) i at t
+Inv-loop t₀ capacity files file names choice n list size at₀ i₀ t at i = (i ≤ n) × (length t ≡ length t₀) × LaidOut capacity n list files file (bodyLength files file) (namesIn names) i at t
 
 abbrev μ-loop : tie.MeasureT-loop
-μ-loop t₀ capacity file names choice n list size at₀ i₀ t at i = n - i
+μ-loop t₀ capacity files file names choice n list size at₀ i₀ t at i = n - i
 
 -- the rows fill the table behind its header
 rows-long : (c : tie.After-row-size Inv-loop μ-loop) → let a = c .before .before .before .before .before .args in 16 + a .capacity * c .row-size .result ≡ length (a .t .now)
@@ -28,14 +28,14 @@ list-is : (c : tie.After-laid-now Inv-loop μ-loop) → let a = c .before .befor
 unfolding foundedList
 list-is c =
     let s = c .before .before .before .before in
-    c .laid-now .ensures ∙ ap (laidNow (eqb (s .args .choice) 1)) (all-rows (length (s .args .names .now) / 2) (c .before .first .result .bits) (omega (arith, s .pre .2, s .pre .3, s .pre .4)) (omega arith) (c .before .first .ensures))
+    c .laid-now .ensures ∙ ap (laidNow (eqb (s .args .choice) 1)) (all-rows (length (s .args .names .now) / 2) (c .before .first .result .bits) (omega (arith, s .pre .3, s .pre .4, s .pre .5)) (omega arith) (c .before .first .ensures))
 
 turn : (l : tie.In-loop Inv-loop μ-loop) → let a = l .before .before .before .before .before .before .before .before .before .before .before .before .before .before .before .args in
-    Turn (a .capacity) (length (a .names .now) / 2) (l .before .before .before .before .before .before .before .before .before .before .before .laid-now .result) (a .file) (bodyLength (a .file)) (namesIn (a .names .now)) (l .before .loop .i) (l .before .loop .at) (l .before .before .before .before .before .before .before .before .before .before .row-size .result) (l .before .loop .t)
+    Turn (a .capacity) (length (a .names .now) / 2) (l .before .before .before .before .before .before .before .before .before .before .before .laid-now .result) (a .files) (a .file) (bodyLength (a .files) (a .file)) (namesIn (a .names .now)) (l .before .loop .i) (l .before .loop .at) (l .before .before .before .before .before .before .before .before .before .before .row-size .result) (l .before .loop .t)
 unfolding stride
 turn l =
     let p = l .before .before .before .before .before .before .before .before .before .before .before .before .before .before .before .pre in
-    record { room = p .4 .1; below = omega (arith, l .loop-test .taken, p .3); wide = l .before .before .before .before .before .before .before .before .before .before .row-size .ensures; laid = l .before .loop .inv .2 }
+    record { room = p .5 .1; below = omega (arith, l .loop-test .taken, p .4); wide = l .before .before .before .before .before .before .before .before .before .before .row-size .ensures; laid = l .before .loop .inv .2 }
 
 first-requires : tie.Need-first-requires Inv-loop μ-loop
 first-requires c κs = search needs
@@ -44,7 +44,7 @@ laid-now-requires : tie.Need-laid-now-requires Inv-loop μ-loop
 laid-now-requires c κs = search needs
 
 row-size-requires : tie.Need-row-size-requires Inv-loop μ-loop
-row-size-requires c κs = c .before .before .before .before .pre .1 .1
+row-size-requires c κs = let p = c .before .before .before .before .pre in (p .1 .1, p .2 .1)
 
 mul-at : tie.Need-mul-at Inv-loop μ-loop
 mul-at c = omega (arith, rows-long c)
@@ -64,6 +64,9 @@ cast-set-header-2 c = search needs
 cast-set-header-3 : tie.Need-cast-set-header-3 Inv-loop μ-loop
 cast-set-header-3 c = search needs
 
+cast-set-header-4 : tie.Need-cast-set-header-4 Inv-loop μ-loop
+cast-set-header-4 c = search needs
+
 set-header-requires : tie.Need-set-header-requires Inv-loop μ-loop
 set-header-requires c κs = omega (arith, c .before .before .before .fill .kept .0, c .before .before .before .before .before .before .before .before .before .before .pre .0)
 
@@ -73,7 +76,7 @@ loop-holds c =
     let s = c .before .before .before .before .before .before .before .before .before .before .before .before .before in (
       omega arith,
       refl,
-      none-laid _ _ _ _ _ _ _ (s .args .t .now) _ _ (omega (arith, rows-long (c .before .before .before .before .before .before .before .before))) (s .pre .0) (s .pre .2) (omega (arith, s .pre .2, s .pre .3, s .pre .4)) (c .before .before .before .before .before .before .fill .ensures) (c .before .before .set-header .ensures),
+      none-laid _ _ _ _ _ _ _ _ (s .args .t .now) _ _ (omega (arith, rows-long (c .before .before .before .before .before .before .before .before))) (s .pre .0) (s .pre .3) (omega (arith, s .pre .3, s .pre .4, s .pre .5)) (c .before .before .before .before .before .before .fill .ensures) (c .before .before .set-header .ensures),
     )
 
 mul-u16-at : tie.Need-mul-u16-at Inv-loop μ-loop
@@ -98,12 +101,12 @@ part-found-row-end : tie.Need-part-found-row-end Inv-loop μ-loop
 part-found-row-end c = omega (arith, laid-fits (turn (c .before)))
 
 next-row-requires : tie.Need-next-row-requires Inv-loop μ-loop
-next-row-requires c κs = let s = c .before .before .before .before .before .before .before .before .before .before .before .before .before .before .before .before .before in (omega (arith, c .before .before .loop-test .taken), omega (arith, s .pre .2, s .pre .3, s .pre .4))
+next-row-requires c κs = let s = c .before .before .before .before .before .before .before .before .before .before .before .before .before .before .before .before .before in (omega (arith, c .before .before .loop-test .taken), omega (arith, s .pre .3, s .pre .4, s .pre .5))
 
 found-row-requires : tie.Need-found-row-requires Inv-loop μ-loop
 found-row-requires c κs =
     let l = c .before .before .before in
-    omega (arith, ap length (lent-zeros (turn l)), length-zeros (32 + bodyLength (l .before .before .before .before .before .before .before .before .before .before .before .before .before .before .before .args .file)))
+    omega (arith, ap length (lent-zeros (turn l)), length-zeros (32 + (let a = l .before .before .before .before .before .before .before .before .before .before .before .before .before .before .before .args in bodyLength (a .files) (a .file))))
 
 add-at : tie.Need-add-at Inv-loop μ-loop
 add-at c = omega (arith, laid-fits (turn (c .before .before .before .before .before .before)))
@@ -128,7 +131,7 @@ returns : tie.Need-returns Inv-loop μ-loop
 returns c =
     let l = c .before .loop in
     let s = c .before .before .before .before .before .before .before .before .before .before .before .before .before .before .before in
-    all-laid _ _ _ _ _ _ _ _ _ (list-is (c .before .before .before .before .before .before .before .before .before .before .before)) (omega (arith, s .pre .3)) (omega (arith, s .pre .3)) (l .inv .2)
+    all-laid _ _ _ _ _ _ _ _ _ _ (list-is (c .before .before .before .before .before .before .before .before .before .before .before)) (omega (arith, s .pre .4)) (omega (arith, s .pre .4)) (l .inv .2)
 
 pub lay-table-spec : {M : Type 1} → statement M
 lay-table-spec =
@@ -145,6 +148,7 @@ lay-table-spec =
     cast-set-header
     cast-set-header-2
     cast-set-header-3
+    cast-set-header-4
     set-header-requires
     loop-holds
     mul-u16-at
