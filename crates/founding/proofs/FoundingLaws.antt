@@ -46,7 +46,7 @@ module _ (t : List ℕ) (a : Founding) where
   Eleven = NamesRight && leb (a .choice) 1
 
   abbrev pub Twelve : Bool
-  Twelve = between 1 (a .capacity) 64 && leb (length (namesIn (a .names))) (a .capacity) && between 1 (a .fileLength) 4_096 && eqb (length t) (16 + a .capacity * stride (a .fileLength))
+  Twelve = between 1 (a .capacity) 64 && leb (length (namesIn (a .names))) (a .capacity) && between 1 (a .fileLength) 4_096 && between 1 (a .files) 8 && eqb (length t) (16 + a .capacity * stride (a .files) (a .fileLength))
 
   pub found-answers : (x y : Bool) → Eleven ≡ x → Twelve ≡ y → cond x (cond y 0 12) 11 ≡ firstNo (questions t (founding a))
   unfolding questions firstNo
@@ -60,10 +60,11 @@ module _ (t : List ℕ) (a : Founding) where
     all-yes : firstNo (questions t (founding a)) ≡ 0
     all-yes = sym (found-answers true true eleven twelve)
 
-    pub found-fits : (length t ≡ 16 + a .capacity * stride (a .fileLength)) × Within 4_096 (a .fileLength) × (a .capacity ≤ 64) × (length (a .names) ≡ 2 * length (namesIn (a .names))) × Within (a .capacity) (length (namesIn (a .names)))
+    pub found-fits : (length t ≡ 16 + a .capacity * stride (a .files) (a .fileLength)) × Within 8 (a .files) × Within 4_096 (a .fileLength) × (a .capacity ≤ 64) × (length (a .names) ≡ 2 * length (namesIn (a .names))) × Within (a .capacity) (length (namesIn (a .names)))
     found-fits =
         let f = founds-of t a all-yes in (
-          eqb-true (length t) (16 + a .capacity * stride (a .fileLength)) (and-r (between 1 (a .capacity) 64 && leb (length (namesIn (a .names))) (a .capacity) && between 1 (a .fileLength) 4_096) _ twelve),
+          eqb-true (length t) (16 + a .capacity * stride (a .files) (a .fileLength)) (and-r (between 1 (a .capacity) 64 && leb (length (namesIn (a .names))) (a .capacity) && between 1 (a .fileLength) 4_096 && between 1 (a .files) 8) _ twelve),
+          f .group,
           f .bytes,
           f .most,
           two-each eleven,
@@ -71,7 +72,7 @@ module _ (t : List ℕ) (a : Founding) where
         )
 
     pub found-done : (0 * 2 ^ 32 + length (namesIn (a .names)) ≡ resultOf (outcome t (founding a)))
-        × (founded (a .choice) (a .capacity) (a .fileLength) (namesIn (a .names)) ≡ outcome t (founding a) .table)
+        × (founded (a .choice) (a .capacity) (a .files) (a .fileLength) (namesIn (a .names)) ≡ outcome t (founding a) .table)
     unfolding done resultOf
     found-done =
         let o = when-done t (founding a) (refusal-is t (founding a) ∙ all-yes) in

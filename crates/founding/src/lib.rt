@@ -43,28 +43,36 @@ fn names_right(names: &[u8]) -> bool
 }
 
 // Question 12: is there a row for each of n names, and is the table as long as it must be?
-fn sizes_right(bytes: usize, capacity: usize, file: usize, n: usize) -> bool
-    ensures { λ r. ⌜ r ≡ (between 1 capacity 64 && leb n capacity && between 1 file 4_096 && eqb bytes (16 + capacity * stride file)) ⌝ }
+fn sizes_right(bytes: usize, capacity: usize, files: usize, file: usize, n: usize) -> bool
+    ensures { λ r. ⌜ r ≡ (between 1 capacity 64 && leb n capacity && between 1 file 4_096 && between 1 files 8 && eqb bytes (16 + capacity * stride files file)) ⌝ }
 {
     let seated = both(between(1, capacity, 64), n <= capacity);
-    if !both(seated, between(1, file, 4_096)) {
+    let long = both(seated, between(1, file, 4_096));
+    if !both(long, between(1, files, 8)) {
         return false;
     }
-    bytes == header::HEADER + capacity * table::row_size(file)
+    bytes == header::HEADER + capacity * table::row_size(files, file)
 }
 
-// A founding: a table of so many rows for a file of so many bytes, with the named machines in it; choice 0 wide, 1 tall. Value: how many.
-pub fn found(t: &mut [u8], capacity: usize, file: usize, names: &[u8], choice: u64) -> u64
-    ensures { λ x. ⌜ (let o = outcome (now (t .entry)) (founding (record { capacity = capacity; fileLength = file; names = now (names .entry); choice = choice })) in (x ≡ resultOf o) × (now (t .exit) ≡ o .table) × (now (names .exit) ≡ now (names .entry))) ⌝ }
+// A founding: a table of so many rows for so many files of so many bytes, with the named machines in it; choice 0 wide, 1 tall. Value: how many.
+pub fn found(
+    t: &mut [u8],
+    capacity: usize,
+    file: usize,
+    names: &[u8],
+    choice: u64,
+    files: usize,
+) -> u64
+    ensures { λ x. ⌜ (let o = outcome (now (t .entry)) (founding (record { capacity = capacity; fileLength = file; names = now (names .entry); choice = choice; files = files })) in (x ≡ resultOf o) × (now (t .exit) ≡ o .table) × (now (names .exit) ≡ now (names .entry))) ⌝ }
 {
     // question 11
     if !both(names_right(names), choice <= 1) {
         return result(11, 0);
     }
     let n = names.len() / 2;
-    if !sizes_right(t.len(), capacity, file, n) {
+    if !sizes_right(t.len(), capacity, files, file, n) {
         return result(12, 0);
     }
-    laying::lay_table(t, capacity, file, names, choice);
+    laying::lay_table(t, capacity, files, file, names, choice);
     result(0, n as u32)
 }

@@ -16,7 +16,7 @@ use Rattle.founding.proofs.found.Tie as tie
 
 -- the arguments of the call
 abbrev asked : tie.Start → Founding
-asked s = record { capacity = s .args .capacity; fileLength = s .args .file; names = s .args .names .now; choice = s .args .choice }
+asked s = record { capacity = s .args .capacity; fileLength = s .args .file; names = s .args .names .now; choice = s .args .choice; files = s .args .files }
 
 -- question 11 by its answer
 named : (c : tie.After-both) → let start = c .before .before .before .before in Eleven (start .args .t .now) (asked start) ≡ c .both .result
@@ -33,7 +33,7 @@ half c = let start = c .before .before .before .before .before in omega (arith, 
 sized : (c : tie.After-sizes-right) → let start = c .before .before .before .before .before .before in Twelve (start .args .t .now) (asked start) ≡ c .sizes-right .result
 sized c =
     let start = c .before .before .before .before .before .before in
-    sym (c .sizes-right .ensures ∙ ap (λ (n : ℕ). between 1 (start .args .capacity) 64 && leb n (start .args .capacity) && between 1 (start .args .file) 4_096 && eqb (length (start .args .t .now)) (16 + start .args .capacity * stride (start .args .file))) (half (c .before)))
+    sym (c .sizes-right .ensures ∙ ap (λ (n : ℕ). between 1 (start .args .capacity) 64 && leb n (start .args .capacity) && between 1 (start .args .file) 4_096 && between 1 (start .args .files) 8 && eqb (length (start .args .t .now)) (16 + start .args .capacity * stride (start .args .files) (start .args .file))) (half (c .before)))
 
 twelve : (c : tie.Else2) → let start = c .before .before .before .before .before .before .before in Twelve (start .args .t .now) (asked start) ≡ true
 twelve c = sized (c .before) ∙ not-false _ (c .if2 .left)
@@ -72,7 +72,7 @@ cast-result : tie.Need-cast-result
 cast-result c =
     let start = c .before .before .before .before .before .before .before .before .before .before .before in
     let f = found-fits (start .args .t .now) (asked start) (eleven (c .before .before .before .before .before .before)) (twelve (c .before .before .before .before)) in
-    record { fits = omega (arith, f .2, f .3, f .4) }
+    record { fits = omega (arith, f .3, f .4, f .5) }
 
 result-requires-3 : tie.Need-result-requires-3
 result-requires-3 c κs = search needs

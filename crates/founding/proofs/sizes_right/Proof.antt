@@ -13,22 +13,26 @@ use Rattle.table.proofs.FormLaws.{between-is}
 use Rattle.founding.proofs.sizes_right.Statement.{statement}
 use Rattle.founding.proofs.sizes_right.Tie as tie
 
-seated : (c : tie.After-both2) → let a = c .before .before .before .before .args in (between 1 (a .capacity) 64 && leb (a .n) (a .capacity) && between 1 (a .file) 4_096) ≡ c .both2 .result
-seated c = sym (c .both2 .ensures ∙ ap₂ _&&_ (c .before .before .both .ensures ∙ ap₂ _&&_ (c .before .before .before .between .ensures) (λ i. leb (c .before .before .before .before .args .n) (c .before .before .before .before .args .capacity))) (c .before .between2 .ensures))
+seated : (c : tie.After-both3) → let a = c .before .before .before .before .before .before .args in (between 1 (a .capacity) 64 && leb (a .n) (a .capacity) && between 1 (a .file) 4_096 && between 1 (a .files) 8) ≡ c .both3 .result
+seated c =
+    let a = c .before .before .before .before .before .before .args in
+    sym (c .both3 .ensures ∙ ap₂ _&&_ (c .before .before .both2 .ensures ∙ ap₂ _&&_ (c .before .before .before .before .both .ensures ∙ ap₂ _&&_ (c .before .before .before .before .before .between .ensures) (λ i. leb (a .n) (a .capacity))) (c .before .before .before .between2 .ensures)) (c .before .between3 .ensures))
 
-right : (c : tie.Else1) → let a = c .before .before .before .before .before .args in (between 1 (a .capacity) 64 && leb (a .n) (a .capacity) && between 1 (a .file) 4_096) ≡ true
+right : (c : tie.Else1) → let a = c .before .before .before .before .before .before .before .args in (between 1 (a .capacity) 64 && leb (a .n) (a .capacity) && between 1 (a .file) 4_096 && between 1 (a .files) 8) ≡ true
 right c = seated (c .before) ∙ not-false _ (c .if1 .left)
 
-small : (c : tie.Else1) → let a = c .before .before .before .before .before .args in (a .capacity ≤ 64) × (a .file ≤ 4_096)
+small : (c : tie.Else1) → let a = c .before .before .before .before .before .before .before .args in (a .capacity ≤ 64) × (a .files ≤ 8) × (a .file ≤ 4_096)
 small c =
-    let a = c .before .before .before .before .before .args in (
-      between-is 1 (a .capacity) 64 (and-l _ _ (and-l (between 1 (a .capacity) 64 && leb (a .n) (a .capacity)) _ (right c))) .1,
-      between-is 1 (a .file) 4_096 (and-r (between 1 (a .capacity) 64 && leb (a .n) (a .capacity)) _ (right c)) .1,
+    let a = c .before .before .before .before .before .before .before .args in
+    let rows : (between 1 (a .capacity) 64 && leb (a .n) (a .capacity) && between 1 (a .file) 4_096) ≡ true = and-l _ _ (right c) in (
+      between-is 1 (a .capacity) 64 (and-l _ _ (and-l (between 1 (a .capacity) 64 && leb (a .n) (a .capacity)) _ rows)) .1,
+      between-is 1 (a .files) 8 (and-r (between 1 (a .capacity) 64 && leb (a .n) (a .capacity) && between 1 (a .file) 4_096) _ (right c)) .1,
+      between-is 1 (a .file) 4_096 (and-r (between 1 (a .capacity) 64 && leb (a .n) (a .capacity)) _ rows) .1,
     )
 
-product : (c : tie.After-row-size) → c .before .before .before .before .before .before .args .capacity * c .row-size .result ≤ 64 * widest
+product : (c : tie.After-row-size) → c .before .before .before .before .before .before .before .before .args .capacity * c .row-size .result ≤ 64 * widest
 unfolding stride strideIn bodyLength
-product c = rw (c .row-size .ensures) (rows-small formValue (small (c .before) .0) (small (c .before) .1))
+product c = rw (c .row-size .ensures) (rows-small formValue (small (c .before) .0) (small (c .before) .1) (small (c .before) .2))
 
 between-requires : tie.Need-between-requires
 between-requires c κs = search needs
@@ -42,11 +46,17 @@ between-requires-2 c κs = search needs
 both-requires-2 : tie.Need-both-requires-2
 both-requires-2 c κs = search needs
 
+between-requires-3 : tie.Need-between-requires-3
+between-requires-3 c κs = search needs
+
+both-requires-3 : tie.Need-both-requires-3
+both-requires-3 c κs = search needs
+
 returns : tie.Need-returns
 returns c = let e = seated (c .before) ∙ not-true _ (c .if1 .taken) in rw e
 
 row-size-requires : tie.Need-row-size-requires
-row-size-requires c κs = small c .1
+row-size-requires c κs = (small c .1, small c .2)
 
 mul-result : tie.Need-mul-result
 mul-result c = omega (arith, product c)
@@ -65,6 +75,8 @@ sizes-right-spec =
     both-requires
     between-requires-2
     both-requires-2
+    between-requires-3
+    both-requires-3
     returns
     row-size-requires
     mul-result
