@@ -81,7 +81,7 @@ pub const GRID_MARK_AT: usize = 24;
 // before files came
 const FORMER_MARK_AT: usize = 3;
 
-const FORMER_OLDEST_AT: usize = 25;
+pub const FORMER_OLDEST_AT: usize = 25;
 
 pub fn name(row: &[u8]) -> u16
     requires { ⌜ 32 ≤ length (now row) ⌝ }

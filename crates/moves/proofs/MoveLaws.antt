@@ -3,19 +3,18 @@ use mathlib.Core.Path.{_≡_, refl, sym, _∙_, ap, ap₂}
 use mathlib.Core.Bool.{Bool, true, false, not, cond, _&&_, _||_}
 use mathlib.Core.Logic.{⊎-elim}
 use mathlib.Core.List.{List, [], _++_, append-nil, append-assoc}
-use Prim.Native.Nat.{ℕ, zero, suc, _+_, _-_, _*_, _^_, _≤_, _<_}
+use Prim.Native.Nat.{ℕ, suc, _+_, _-_, _*_, _^_, _≤_, _<_}
 use native.Mathlib.Nat.{mul-le-mul-right}
 use native.Mathlib.Numerals.{add-one}
 use native.Mathlib.Omega.{arith}
 use lib.Dec.{eqb}
-use lib.ListN.{length, take, drop, length-append, length-drop, length-take}
+use lib.ListN.{length, take, drop, length-append, length-drop}
 use lib.Seq.{take-append-add, take-all, take-at, drop-at, drop-length, length-take-le}
-use Rattle.sets.specs.Upto.{Within}
 use Rattle.bytes.specs.Bytes.{bytesOf, part, put, zeros}
-use Rattle.bytes.proofs.ByteLaws.{length-bytes, length-part, part-front, part-part, bytes-zero, length-zeros}
+use Rattle.bytes.proofs.ByteLaws.{length-bytes, length-part, part-front, part-part, bytes-zero}
 use Rattle.blocks.specs.Blocks.{block, inTurn}
-use Rattle.fields.specs.Layout.{store, oldest, bodyIn, strideIn, formOf, capacityOf, usedOf, fileLengthOf, rowLength, rowsEnd, rowBytes}
-use Rattle.fields.proofs.FieldLaws.{body-in, contents-room, rows-small}
+use Rattle.fields.specs.Layout.{store, formerOldest, bodyIn, strideIn, formOf, capacityOf, usedOf, fileLengthOf, filesOf, rowLength, rowsEnd, rowBytes}
+use Rattle.fields.proofs.FieldLaws.{body-in, rows-small}
 use Rattle.table.specs.WellFormed.{ownForm}
 use Rattle.table.specs.Contracts.{Sized}
 use Rattle.table.proofs.WellFormedLaws.{header, length-is}
@@ -28,19 +27,19 @@ use Rattle.carrying.proofs.CarryLaws.{rowTo, row-to-long}
 use Rattle.carrying.proofs.Formed.{over-is}
 
 -- ---- a row
-pub row-made : (new row x y : List ℕ) (end : ℕ) → 32 ≤ end → end ≤ length row → end ≤ length new → x ≡ store oldest 0 (take (end - 0) row)
+pub row-made : (new row x y : List ℕ) (end : ℕ) → 32 ≤ end → end ≤ length row → end ≤ length new → x ≡ store formerOldest 0 (take (end - 0) row)
     → y ≡ bytesOf (length (take (length (x ++ drop (end - 0) new) - end) (drop end (x ++ drop (end - 0) new)))) 0
-    → take end (x ++ drop (end - 0) new) ++ (y ++ drop (length (x ++ drop (end - 0) new) - end) (drop end (x ++ drop (end - 0) new))) ≡ store oldest 0 (part 0 end row) ++ zeros (length new - end)
+    → take end (x ++ drop (end - 0) new) ++ (y ++ drop (length (x ++ drop (end - 0) new) - end) (drop end (x ++ drop (end - 0) new))) ≡ store formerOldest 0 (part 0 end row) ++ zeros (length new - end)
 unfolding part
 row-made new row x y end h hr hn ex ey =
     let z : end - 0 ≡ end = omega arith in
-    let ex′ : x ≡ store oldest 0 (take end row) = rw z at ex in
+    let ex′ : x ≡ store formerOldest 0 (take end row) = rw z at ex in
     let lx : length x ≡ end = ap length ex′ ∙ cleared-long (take end row) (omega (arith, length-take-le end row hr)) ∙ length-take-le end row hr in
     made new row x y end lx ex′ hn (rw z at ey) z
   where
-    made : (new row x y : List ℕ) (end : ℕ) → length x ≡ end → x ≡ store oldest 0 (take end row) → end ≤ length new
+    made : (new row x y : List ℕ) (end : ℕ) → length x ≡ end → x ≡ store formerOldest 0 (take end row) → end ≤ length new
         → y ≡ bytesOf (length (take (length (x ++ drop end new) - end) (drop end (x ++ drop end new)))) 0 → end - 0 ≡ end
-        → take end (x ++ drop (end - 0) new) ++ (y ++ drop (length (x ++ drop (end - 0) new) - end) (drop end (x ++ drop (end - 0) new))) ≡ store oldest 0 (take end row) ++ zeros (length new - end)
+        → take end (x ++ drop (end - 0) new) ++ (y ++ drop (length (x ++ drop (end - 0) new) - end) (drop end (x ++ drop (end - 0) new))) ≡ store formerOldest 0 (take end row) ++ zeros (length new - end)
     made new row x y end lx ex hn ey z =
         let d : drop end (x ++ drop end new) ≡ drop end new = drop-at x (drop end new) end lx in
         let ld : length (drop end new) ≡ length new - end = length-drop end new in
@@ -70,9 +69,11 @@ length-part-at a n xs h = length-part a n xs h
 -- ---- one row more: row k + 1 of t goes from there to there, in rows of these lengths
 pub record Turn (t : List ℕ) (form k size width end from to : ℕ) (dest : List ℕ) : Type 0 where
   pub sized : Sized t
+  pub former : formOf t < 4
+  pub low : form < 4
   pub below : k < capacityOf t
   pub size-is : size ≡ rowLength t
-  pub width-is : width ≡ strideIn form (fileLengthOf t)
+  pub width-is : width ≡ strideIn form 1 (fileLengthOf t)
   pub end-is : end ≡ 32 + fileLengthOf t
   pub from-is : from ≡ rowsEnd t k
   pub to-is : to ≡ 16 + k * width
@@ -85,11 +86,11 @@ module _ {t : List ℕ} {form k size width end from to : ℕ} {dest : List ℕ} 
 
   pub to-fits : to + width ≤ length dest
   unfolding carriedLength
-  to-fits = omega (arith, x .room, x .to-is, ap (λ (w : ℕ). k * w) (x .width-is), x .width-is, mul-le-mul-right {m = suc k} {n = capacityOf t} (strideIn form (fileLengthOf t)) (x .below))
+  to-fits = omega (arith, x .room, x .to-is, ap (λ (w : ℕ). k * w) (x .width-is), x .width-is, mul-le-mul-right {m = suc k} {n = capacityOf t} (strideIn form 1 (fileLengthOf t)) (x .below))
 
   pub end-fits : (32 ≤ end) × (end ≤ size) × (end ≤ width)
-  unfolding strideIn
-  end-fits = omega (arith, x .end-is, x .size-is, x .width-is, contents-room t, body-in form (fileLengthOf t))
+  unfolding rowLength strideIn
+  end-fits = omega (arith, x .end-is, x .size-is, x .width-is, body-in (formOf t) (filesOf t) (fileLengthOf t) (x .former), body-in form 1 (fileLengthOf t) (x .low))
 
   slice : take ((from + size) - from) (drop from t) ≡ rowBytes t (suc k)
   unfolding rowBytes block part rowsEnd
@@ -101,15 +102,15 @@ module _ {t : List ℕ} {form k size width end from to : ℕ} {dest : List ℕ} 
   pub to-long : length (take ((to + width) - to) (drop to dest)) ≡ width
   to-long = let c : (to + width) - to ≡ width = omega arith in rw c (length-part-at to width dest to-fits)
 
-  module _ (new : List ℕ) (en : new ≡ store oldest 0 (part 0 end (take ((from + size) - from) (drop from t))) ++ zeros (length (take ((to + width) - to) (drop to dest)) - end)) where
+  module _ (new : List ℕ) (en : new ≡ store formerOldest 0 (part 0 end (take ((from + size) - from) (drop from t))) ++ zeros (length (take ((to + width) - to) (drop to dest)) - end)) where
     new-is : new ≡ rowTo form t (suc k)
     unfolding carriedRow strideIn
     new-is =
-        let n : length (take ((to + width) - to) (drop to dest)) - end ≡ bodyIn form (fileLengthOf t) - fileLengthOf t = omega (arith, to-long, x .width-is, x .end-is) in
-        en ∙ ap₂ (λ (a : List ℕ) (b : ℕ). store oldest 0 a ++ zeros b) (ap₂ (λ (m : ℕ) (l : List ℕ). part 0 m l) (x .end-is) slice) n
+        let n : length (take ((to + width) - to) (drop to dest)) - end ≡ bodyIn form 1 (fileLengthOf t) - fileLengthOf t = omega (arith, to-long, x .width-is, x .end-is) in
+        en ∙ ap₂ (λ (a : List ℕ) (b : ℕ). store formerOldest 0 a ++ zeros b) (ap₂ (λ (m : ℕ) (l : List ℕ). part 0 m l) (x .end-is) slice) n
 
     new-long : length new ≡ width
-    new-long = ap length new-is ∙ row-to-long (x .sized) form (suc k) (omega (arith, x .below)) ∙ sym (x .width-is)
+    new-long = ap length new-is ∙ row-to-long (x .sized) (x .former) form (x .low) (suc k) (omega (arith, x .below)) ∙ sym (x .width-is)
 
     pub row-turn : (head : List ℕ) → take to dest ≡ head ++ inTurn k (rowTo form t) → take (to + width) (take to dest ++ (new ++ drop ((to + width) - to) (drop to dest))) ≡ head ++ inTurn (k + 1) (rowTo form t)
     unfolding inTurn
@@ -126,7 +127,7 @@ module _ {t : List ℕ} {form k size width end from to : ℕ} {dest : List ℕ} 
         length-append (take to dest) (new ++ drop ((to + width) - to) (drop to dest))
         ∙ omega (arith, length-take-le to dest (omega (arith, to-fits)), length-append new (drop ((to + width) - to) (drop to dest)), new-long, length-drop ((to + width) - to) (drop to dest), length-drop to dest, to-fits)
 
-pub to-end : (t : List ℕ) (form to k width : ℕ) (dest : List ℕ) → to ≡ 16 + k * width → k ≡ capacityOf t → width ≡ strideIn form (fileLengthOf t) → length dest ≡ carriedLength form t → length dest ≤ to
+pub to-end : (t : List ℕ) (form to k width : ℕ) (dest : List ℕ) → to ≡ 16 + k * width → k ≡ capacityOf t → width ≡ strideIn form 1 (fileLengthOf t) → length dest ≡ carriedLength form t → length dest ≤ to
 unfolding carriedLength
 to-end t form to k width dest et ek ew el = omega (arith, ap₂ (λ (a b : ℕ). a * b) ek ew)
 
@@ -173,15 +174,16 @@ both-ways false b = refl
 pub rough : (a b p r : Bool) → p ≡ b → r ≡ (a && not p) → (not a || b) ≡ not r
 rough a b p r e q = both-ways a b ∙ ap not (ap (λ (x : Bool). a && not x) (sym e) ∙ sym q)
 
-pub form-small : (f to : ℕ) → goesOver f to ≡ true → to ≤ 3
-form-small f to e = ⊎-elim (λ w. omega (arith, w .1)) (λ w. omega (arith, w .1)) (over-is f to e)
+pub forms-small : (f to : ℕ) → goesOver f to ≡ true → (f < 4) × (to < 4)
+forms-small f to e = ⊎-elim (λ w. omega (arith, w .0, w .1)) (λ w. omega (arith, w .0, w .1)) (over-is f to e)
 
-pub end-long : (t : List ℕ) (form c w file : ℕ) → c ≡ capacityOf t → w ≡ strideIn form file → file ≡ fileLengthOf t → 16 + c * w ≡ carriedLength form t
+pub end-long : (t : List ℕ) (form c w file : ℕ) → c ≡ capacityOf t → w ≡ strideIn form 1 file → file ≡ fileLengthOf t → 16 + c * w ≡ carriedLength form t
 unfolding carriedLength
-end-long t form c w file ec ew ef = ap₂ (λ (a b : ℕ). 16 + a * b) ec (ew ∙ ap (strideIn form) ef)
+end-long t form c w file ec ew ef = ap₂ (λ (a b : ℕ). 16 + a * b) ec (ew ∙ ap (strideIn form 1) ef)
 
-pub end-small : (t : List ℕ) → Sized t → (form c w file : ℕ) → c ≡ capacityOf t → w ≡ strideIn form file → file ≡ fileLengthOf t → c * w ≤ 301_056
+pub end-small : (t : List ℕ) → Sized t → (form c w file : ℕ) → c ≡ capacityOf t → w ≡ strideIn form 1 file → file ≡ fileLengthOf t → c * w ≤ 2_400_256
 end-small t s form c w file ec ew ef =
     let h = header (s .header) in
-    let p : c * w ≡ capacityOf t * strideIn form (fileLengthOf t) = ap₂ (λ (a b : ℕ). a * b) ec (ew ∙ ap (strideIn form) ef) in
-    omega (arith, p, rows-small form {k = capacityOf t} {file = fileLengthOf t} (h .capacity .1) (h .file .1))
+    let one : 1 ≤ 8 = omega arith in
+    let p : c * w ≡ capacityOf t * strideIn form 1 (fileLengthOf t) = ap₂ (λ (a b : ℕ). a * b) ec (ew ∙ ap (strideIn form 1) ef) in
+    omega (arith, p, rows-small form {k = capacityOf t} {files = 1} {file = fileLengthOf t} (h .capacity .1) one (h .file .1))

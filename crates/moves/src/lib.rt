@@ -5,10 +5,10 @@ use bools::both;
 use values::between;
 ghost use mathlib.Core.Path.{_≡_};
 ghost use mathlib.Core.List.{_++_};
-ghost use Prim.Native.Nat.{_+_, _-_, _*_, _≤_};
+ghost use Prim.Native.Nat.{_+_, _-_, _*_, _≤_, _<_};
 ghost use lib.ListN.{length, take};
 ghost use Rattle.bytes.specs.Bytes.{bytesOf, part, zeros};
-ghost use Rattle.fields.specs.Layout.{store, oldest};
+ghost use Rattle.fields.specs.Layout.{store, formerOldest, formOf};
 ghost use Rattle.table.specs.Contracts.{Sized};
 ghost use Rattle.carrying.specs.Moves.{goesOver, allPlain, carried, carriedLength};
 ghost use Rattle.protocol.specs.Calls.{resultOf, outcome, carry};
@@ -41,16 +41,16 @@ fn all_plain(t: &[u8]) -> bool
 // Head and contents of a row, without an oldest record.
 fn carry_front(front: &mut [u8], row: &[u8])
     requires { ⌜ (length (now front) ≡ length (now row)) × (32 ≤ length (now row)) ⌝ }
-    ensures { λ r. ⌜ now (front .exit) ≡ store oldest 0 (now (row .entry)) ⌝ }
+    ensures { λ r. ⌜ now (front .exit) ≡ store formerOldest 0 (now (row .entry)) ⌝ }
 {
     copying::copy(front, row);
-    fields::set_oldest(front, 0);
+    bytes::store_at(front, fields::FORMER_OLDEST_AT, 1, 0);
 }
 
 // A row of the new table: head and contents, which end there, then zeros.
 fn carry_row(new: &mut [u8], row: &[u8], end: usize)
     requires { ⌜ (32 ≤ end) × (end ≤ length (now row)) × (end ≤ length (now new)) ⌝ }
-    ensures { λ r. ⌜ now (new .exit) ≡ store oldest 0 (part 0 end (now (row .entry))) ++ zeros (length (now (new .entry)) - end) ⌝ }
+    ensures { λ r. ⌜ now (new .exit) ≡ store formerOldest 0 (part 0 end (now (row .entry))) ++ zeros (length (now (new .entry)) - end) ⌝ }
 {
     carry_front(&mut new[0..end], &row[0..end]);
     bytes::fill(&mut new[end..], 0);
@@ -67,13 +67,13 @@ fn carry_head(dest: &mut [u8], t: &[u8], form: u8)
 
 // The table of that form.
 fn carry_table(dest: &mut [u8], t: &[u8], form: u8)
-    requires { ⌜ Sized (now t) × (length (now dest) ≡ carriedLength form (now t)) ⌝ }
+    requires { ⌜ Sized (now t) × (length (now dest) ≡ carriedLength form (now t)) × (formOf (now t) < 4) × (form < 4) ⌝ }
     ensures { λ r. ⌜ now (dest .exit) ≡ carried form (now (t .entry)) ⌝ }
 {
     let file = header::file_length(t);
     let capacity = header::capacity(t);
     let size = table::row_length(t);
-    let width = table::size_in(form, file);
+    let width = table::size_in(form, 1, file);
     let end = fields::HEAD + file;
     carry_head(dest, t, form);
     let mut from = header::HEADER;
@@ -102,7 +102,7 @@ pub fn carry(t: &[u8], form: u64, dest: &mut [u8]) -> u64
         return result(12, 0);
     }
     let to = form as u8;
-    let width = table::size_in(to, header::file_length(t));
+    let width = table::size_in(to, 1, header::file_length(t));
     let end = header::HEADER + header::capacity(t) * width;
     if dest.len() != end {
         return result(12, 0);

@@ -1,4 +1,4 @@
-use mathlib.Core.Bool.{Bool, true, false, not, _&&_, _||_}
+use mathlib.Core.Bool.{true, false, not, _||_}
 use mathlib.Core.Path.{_≡_, refl, sym, _∙_, ap}
 use Prim.Native.Nat.{ℕ}
 use native.Mathlib.Omega.{arith}
@@ -12,7 +12,7 @@ use Rattle.table.specs.WellFormed.{ownForm}
 use Rattle.table.proofs.WellFormedLaws.{own-sized, header, long, few-rows}
 use Rattle.carrying.specs.Moves.{goesOver, allPlain, carriedLength}
 use Rattle.protocol.specs.Calls.{Carrying}
-use Rattle.moves.proofs.MoveLaws.{carry-answers, carry-no, carry-done, rough, form-small, end-long, end-small}
+use Rattle.moves.proofs.MoveLaws.{carry-answers, carry-no, carry-done, rough, forms-small, end-long, end-small}
 use Rattle.moves.proofs.carry.Statement.{statement}
 use Rattle.moves.proofs.carry.Tie as tie
 
@@ -87,13 +87,13 @@ returns-3 c =
     (c .result3 .ensures ∙ no .0, no .1, no .2)
 
 cast-to : tie.Need-cast-to
-cast-to c = let m = form-small _ _ (over c) in search needs
+cast-to c = let m = forms-small _ _ (over c) .1 in omega (arith, m)
 
 file-length-requires : tie.Need-file-length-requires
 file-length-requires c κs = long (own-sized (own1 (c .before .before .before .before .before .before)))
 
 size-in-requires : tie.Need-size-in-requires
-size-in-requires c κs = omega (arith, c .file-length .ensures, header (own-sized (own1 (c .before .before .before .before .before .before .before)) .header) .file)
+size-in-requires c κs = (omega arith, omega (arith, c .file-length .ensures, header (own-sized (own1 (c .before .before .before .before .before .before .before)) .header) .file))
 
 capacity-requires : tie.Need-capacity-requires
 capacity-requires c κs = long (own-sized (own1 (c .before .before .before .before .before .before .before .before)))
@@ -120,7 +120,7 @@ same-here : (c : tie.Else4) → length (c .before .before .before .before .befor
 same-here c = let k = c .before in let s = c .before .before .before .before .before .before .before .before .before .before .before .before .before .before in c .if4 .left ∙ end-long (s .args .t .now) (s .args .form) _ _ _ (k .capacity .ensures) (k .before .size-in .ensures) (k .before .before .file-length .ensures)
 
 carry-table-requires : tie.Need-carry-table-requires
-carry-table-requires c κs = let q = c .before in (own-sized (own1 (q .before .before .before .before .before .before .before .before .before .before)), same-here q)
+carry-table-requires c κs = let q = c .before in let f = forms-small _ _ (over (q .before .before .before .before)) in (own-sized (own1 (q .before .before .before .before .before .before .before .before .before .before)), same-here q, f .0, f .1)
 
 used-requires : tie.Need-used-requires
 used-requires c κs = long (own-sized (own1 (c .before .before .before .before .before .before .before .before .before .before .before .before .before .before)))

@@ -1,5 +1,5 @@
 use mathlib.Core.Path.{_∙_, ap}
-use Rattle.fields.specs.Layout.{store, oldest}
+use Rattle.fields.specs.Layout.{store, formerOldest}
 use borrow.Author.Needs.{needs}
 use Rattle.moves.proofs.carry_front.Statement.{statement}
 use Rattle.moves.proofs.carry_front.Tie as tie
@@ -7,14 +7,15 @@ use Rattle.moves.proofs.carry_front.Tie as tie
 copy-requires : tie.Need-copy-requires
 copy-requires c κs = search needs
 
-set-oldest-requires : tie.Need-set-oldest-requires
-set-oldest-requires c κs = search needs
+store-at-requires : tie.Need-store-at-requires
+store-at-requires c κs = search needs
 
 same-length : tie.Need-same-length
 same-length c = search needs
 
 returns : tie.Need-returns
-returns c = c .before .before .set-oldest .ensures ∙ ap (store oldest 0) (c .before .before .before .before .before .before .copy .ensures)
+unfolding store formerOldest
+returns c = c .before .before .store-at .ensures ∙ ap (store formerOldest 0) (c .before .before .before .before .before .before .copy .ensures)
 
 pub carry-front-spec : {M : Type 1} → statement M
-carry-front-spec = tie.close (tie.spec copy-requires set-oldest-requires same-length returns)
+carry-front-spec = tie.close (tie.spec copy-requires store-at-requires same-length returns)

@@ -1,11 +1,11 @@
 use mathlib.Core.Path.{_≡_, refl, sym, _∙_, ap}
 use mathlib.Core.List.{_++_, append-nil}
-use Prim.Native.Nat.{ℕ, _+_, _-_, _*_, _≤_, _<_}
+use Prim.Native.Nat.{ℕ, _+_, _-_, _*_, _≤_}
 use native.Mathlib.Omega.{arith}
 use borrow.Author.Needs.{needs}
 use lib.ListN.{length, take}
 use Rattle.bytes.specs.Bytes.{bytesOf, part}
-use Rattle.fields.specs.Layout.{strideIn, capacityOf, fileLengthOf, rowLength, rowsEnd}
+use Rattle.fields.specs.Layout.{strideIn, capacityOf, rowsEnd}
 use Rattle.table.proofs.WellFormedLaws.{header, long}
 use Rattle.carrying.specs.Moves.{carriedLength}
 use Rattle.blocks.specs.Blocks.{inTurn}
@@ -32,9 +32,11 @@ turn l =
     let loop = l .before .loop in
     record {
       sized = start .pre .0;
+      former = start .pre .2;
+      low = start .pre .3;
       below = omega (arith, l .loop-test .taken, l .before .before .before .before .before .before .before .before .capacity .ensures);
       size-is = l .before .before .before .before .before .before .before .row-length .ensures;
-      width-is = l .before .before .before .before .before .before .size-in .ensures ∙ ap (strideIn (start .args .form)) (file .file-length .ensures);
+      width-is = l .before .before .before .before .before .before .size-in .ensures ∙ ap (strideIn (start .args .form) 1) (file .file-length .ensures);
       end-is = ap (λ (n : ℕ). 32 + n) (file .file-length .ensures);
       from-is = loop .inv .1;
       to-is = loop .inv .2;
@@ -51,7 +53,7 @@ row-length-requires : tie.Need-row-length-requires Inv-loop μ-loop
 row-length-requires c κs = let p = c .before .before .before .before .pre .0 in (long p, p .header)
 
 size-in-requires : tie.Need-size-in-requires Inv-loop μ-loop
-size-in-requires c κs = omega (arith, c .before .before .file-length .ensures, header (c .before .before .before .before .before .pre .0 .header) .file)
+size-in-requires c κs = (omega arith, omega (arith, c .before .before .file-length .ensures, header (c .before .before .before .before .before .pre .0 .header) .file))
 
 add-end : tie.Need-add-end Inv-loop μ-loop
 add-end c = omega (arith, c .before .before .before .file-length .ensures, header (c .before .before .before .before .before .before .pre .0 .header) .file)
@@ -126,7 +128,7 @@ returns c =
     let l = c .before .loop in
     let s = c .before .before .before .before .before .before .before .before .before .before .before .before in
     let e : l .k ≡ capacityOf (s .args .t .now) = omega (arith, l .inv .0, c .loop-test .left, c .before .before .before .before .before .before .before .before .capacity .ensures) in
-    let w = c .before .before .before .before .before .before .size-in .ensures ∙ ap (strideIn (s .args .form)) (c .before .before .before .before .before .before .before .before .before .file-length .ensures) in
+    let w = c .before .before .before .before .before .before .size-in .ensures ∙ ap (strideIn (s .args .form) 1) (c .before .before .before .before .before .before .before .before .before .file-length .ensures) in
     all-carried _ _ (s .args .form) _ _ e (to-end (s .args .t .now) (s .args .form) _ _ _ (l .dest) (l .inv .2) e w (l .inv .3 ∙ c .before .before .before .before .carry-head .kept .0 ∙ s .pre .1)) (l .inv .4)
 
 pub carry-table-spec : {M : Type 1} → statement M
