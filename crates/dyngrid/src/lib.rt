@@ -8,9 +8,9 @@ ghost use Rattle.protocol.specs.Calls.{founding, join, read, write, send, check
 // The number of this interface: it rises with every change of a signature, so that header and archive can be compared.
 #[no_mangle]
 pub extern "C" fn grid_interface() -> u64
-    ensures { λ r. ⌜ r ≡ 7 ⌝ }
+    ensures { λ r. ⌜ r ≡ 8 ⌝ }
 {
-    7
+    8
 }
 
 #[no_mangle]
@@ -20,10 +20,13 @@ pub extern "C" fn grid_found(
     file: u64,
     names: &[u8],
     choice: u64,
+    files: u64,
 ) -> u64
-    ensures { λ r. ⌜ (let o = outcome (now (table .entry)) (founding (record { capacity = capacity; fileLength = file; names = now (names .entry); choice = choice })) in (r ≡ resultOf o) × (now (table .exit) ≡ o .table) × (now (names .exit) ≡ now (names .entry))) ⌝ }
+    ensures { λ r. ⌜ (let o = outcome (now (table .entry)) (founding (record { capacity = capacity; fileLength = file; names = now (names .entry); choice = choice; files = files })) in (r ≡ resultOf o) × (now (table .exit) ≡ o .table) × (now (names .exit) ≡ now (names .entry))) ⌝ }
 {
-    founding::found(table, capacity as usize, file as usize, names, choice)
+    let rows = capacity as usize;
+    let long = file as usize;
+    founding::found(table, rows, long, names, choice, files as usize)
 }
 
 #[no_mangle]
@@ -42,13 +45,14 @@ pub extern "C" fn grid_read(
     length: u64,
     buffer: &mut [u8],
     called: &mut [u8],
+    file: u64,
 ) -> u64
-    ensures { λ r. ⌜ (let o = outcome (now (table .entry)) (read (record { c = coordinator; r = answering; offset = offset; count = length; buffer = now (buffer .entry); called = now (called .entry) })) in (r ≡ resultOf o) × (now (table .exit) ≡ o .table) × (now (buffer .exit) ≡ o .buffer) × (now (called .exit) ≡ o .called)) ⌝ }
+    ensures { λ r. ⌜ (let o = outcome (now (table .entry)) (read (record { c = coordinator; r = answering; offset = offset; count = length; buffer = now (buffer .entry); called = now (called .entry); file = file })) in (r ≡ resultOf o) × (now (table .exit) ≡ o .table) × (now (buffer .exit) ≡ o .buffer) × (now (called .exit) ≡ o .called)) ⌝ }
 {
     let reader = coordinator as usize;
     let from = offset as usize;
     let count = length as usize;
-    reads::read(table, reader, answering, from, count, buffer, called)
+    reads::read(table, reader, answering, from, count, buffer, called, file)
 }
 
 #[no_mangle]
@@ -59,19 +63,20 @@ pub extern "C" fn grid_write(
     offset: u64,
     patch: &[u8],
     called: &mut [u8],
+    file: u64,
 ) -> u64
-    ensures { λ r. ⌜ (let o = outcome (now (table .entry)) (write (record { c = coordinator; r = answering; offset = offset; patch = now (patch .entry); called = now (called .entry) })) in (r ≡ resultOf o) × (now (table .exit) ≡ o .table) × (now (patch .exit) ≡ now (patch .entry)) × (now (called .exit) ≡ o .called)) ⌝ }
+    ensures { λ r. ⌜ (let o = outcome (now (table .entry)) (write (record { c = coordinator; r = answering; offset = offset; patch = now (patch .entry); called = now (called .entry); file = file })) in (r ≡ resultOf o) × (now (table .exit) ≡ o .table) × (now (patch .exit) ≡ now (patch .entry)) × (now (called .exit) ≡ o .called)) ⌝ }
 {
     let writer = coordinator as usize;
     let to = offset as usize;
-    writes::write(table, writer, answering, to, patch, called)
+    writes::write(table, writer, answering, to, patch, called, file)
 }
 
 #[no_mangle]
-pub extern "C" fn grid_send(table: &mut [u8], from: u64, to: u64, answering: u64) -> u64
-    ensures { λ r. ⌜ (let o = outcome (now (table .entry)) (send (record { f = from; t = to; r = answering })) in (r ≡ resultOf o) × (now (table .exit) ≡ o .table)) ⌝ }
+pub extern "C" fn grid_send(table: &mut [u8], from: u64, to: u64, answering: u64, file: u64) -> u64
+    ensures { λ r. ⌜ (let o = outcome (now (table .entry)) (send (record { f = from; t = to; r = answering; file = file })) in (r ≡ resultOf o) × (now (table .exit) ≡ o .table)) ⌝ }
 {
-    sends::send(table, from as usize, to as usize, answering)
+    sends::send(table, from as usize, to as usize, answering, file)
 }
 
 #[no_mangle]

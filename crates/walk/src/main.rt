@@ -14,35 +14,35 @@ fn line(step: u64, call: &[u8], result: u64) {
 
 // Rows in answering sets count from the right: row 1 is the last digit.
 fn main() {
-    let mut table = [0u8; 2464];
+    let mut table = [0u8; 2512];
     let mut byte = [0u8; 1];
     let mut called = [0u8; 1];
-    founding::found(&mut table, 4, 4, b"\x01\x00\x02\x00\x03\x00\x04\x00", 0);
+    founding::found(&mut table, 4, 4, b"\x01\x00\x02\x00\x03\x00\x04\x00", 0, 1);
     line(
         1,
         b"write",
-        writes::write(&mut table, 1, 0b0111, 0, b"a", &mut called),
+        writes::write(&mut table, 1, 0b0111, 0, b"a", &mut called, 1),
     );
     line(
         2,
         b"read",
-        reads::read(&table, 4, 0b1100, 0, 1, &mut byte, &mut called),
+        reads::read(&table, 4, 0b1100, 0, 1, &mut byte, &mut called, 1),
     );
     line(
         3,
         b"write",
-        writes::write(&mut table, 2, 0b1011, 0, b"b", &mut called),
+        writes::write(&mut table, 2, 0b1011, 0, b"b", &mut called, 1),
     );
     line(
         4,
         b"read",
-        reads::read(&table, 4, 0b1100, 0, 1, &mut byte, &mut called),
+        reads::read(&table, 4, 0b1100, 0, 1, &mut byte, &mut called, 1),
     );
-    line(5, b"send", sends::send(&mut table, 3, 4, 0b1100));
+    line(5, b"send", sends::send(&mut table, 3, 4, 0b1100, 1));
     line(6, b"check", checks::check(&mut table, 1, 0b1011));
     line(
         7,
         b"write",
-        writes::write(&mut table, 3, 0b0100, 0, b"c", &mut called),
+        writes::write(&mut table, 3, 0b0100, 0, b"c", &mut called, 1),
     );
 }
