@@ -6,7 +6,7 @@ use Prim.Native.Nat.{ℕ, suc, _-_, _≤_, _<_}
 use Prim.Native.String.{String}
 use native.Mathlib.Decide.{decLe}
 use native.Mathlib.Omega.{arith}
-use borrow.Author.Tests.{leb-true, eqb-true}
+use borrow.Author.Tests.{leb-true, eqb-true, eqb-false, not-true}
 use lib.Dec.{T, eqb, leb}
 use lib.ListN.{length, List·getD-eq-default}
 use lib.Text.{eqt, eqt-refl}
@@ -14,10 +14,9 @@ use Rattle.bools.proofs.BoolLaws.{or-e, clash}
 use Rattle.sets.specs.Upto.{every}
 use Rattle.sets.proofs.UptoLaws.{every-at}
 use Rattle.asking.specs.Asking.{firstNo}
-use Rattle.telling.specs.Text.{inBytes, decimal, spaces, padded}
+use Rattle.telling.specs.Text.{inBytes, decimal, spaces, padded, lastOf}
 use Rattle.telling.specs.Notices.{words, word, shownName, noReason, reasons, reason, heading, sentence, inPapers, noticeQuestions, noticed}
 use Rattle.telling.specs.Claims.{NamesShown, OwnReasons, OthersHaveNone, SentencesShown, NoticesShown, RefusalsShown}
-use Rattle.telling.proofs.TextLaws.{lastOf}
 
 -- ---- whole sentences, notices and refusals
 pub sentences-shown : SentencesShown
@@ -76,7 +75,7 @@ pub reason-room : (n : ℕ) → length (inBytes (reason n)) ≤ 107
 reason-room n = leb-true _ 107 (each-reason (λ s. leb (length (inBytes s)) 107) reasons-room n)
 
 reasons-stop : every 21 (λ k. eqb (lastOf (inBytes (reason (k - 1)))) 46) ≡ true
-unfolding every inBytes reason reasons noReason
+unfolding every inBytes lastOf reason reasons noReason
 reasons-stop = refl
 
 pub reason-stop : (n : ℕ) → lastOf (inBytes (reason n)) ≡ 46
@@ -88,6 +87,14 @@ words-room = refl
 
 pub word-room : (n : ℕ) → length (inBytes (word n)) ≤ 8
 word-room n = leb-true _ 8 (each-word (λ s. leb (length (inBytes s)) 8) words-room n)
+
+-- no word ends in a space
+words-last : every 11 (λ k. not (eqb (lastOf (inBytes (word (k - 1)))) 32)) ≡ true
+unfolding every inBytes lastOf word words
+words-last = refl
+
+pub word-last : (n : ℕ) → lastOf (inBytes (word n)) ≡ 32 → ⊥
+word-last n = eqb-false _ 32 (not-true _ (each-word (λ s. not (eqb (lastOf (inBytes s)) 32)) words-last n))
 
 -- ---- no two numbers have one reason
 differ : every 20 (λ m. every 21 (λ k. eqb (k - 1) m || not (eqt (reason (k - 1)) (reason m)))) ≡ true

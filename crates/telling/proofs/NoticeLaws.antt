@@ -2,18 +2,18 @@
 use mathlib.Core.Path.{_≡_, refl, _∙_}
 use mathlib.Core.Bool.{Bool, true, false, cond, _||_}
 use mathlib.Core.List.{List}
-use Prim.Native.Nat.{ℕ, _+_, _-_, _≤_, _<_}
+use Prim.Native.Nat.{ℕ, _+_, _≤_, _<_}
 use native.Mathlib.Omega.{arith}
 use lib.Dec.{eqb}
-use lib.ListN.{length, getD, length-append, List·getD-append}
+use lib.ListN.{length, length-append}
 use borrow.Author.Tests.{eq-eqb, ne-eqb, eqb-true, eqb-false, le-leb}
 use Rattle.sets.specs.Upto.{Within}
 use Rattle.bytes.specs.Bytes.{part}
 use Rattle.asking.specs.Asking.{firstNo}
-use Rattle.telling.specs.Text.{inBytes, decimal, padded}
+use Rattle.telling.specs.Text.{inBytes, decimal, padded, lastOf}
 use Rattle.telling.specs.Notices.{word, shownName, reason, heading, sentence, figuresIn, inPapers, noticeQuestions, Noticed, noticed}
 use Rattle.telling.specs.Claims.{ReadsOff, SentenceFits, SentenceTold, RefusalLeaves}
-use Rattle.telling.proofs.TextLaws.{shown-decimal, length-padded, take-padded, drop-padded, lastOf, has-last, last-behind}
+use Rattle.telling.proofs.TextLaws.{shown-decimal, length-padded, take-padded, drop-padded, has-last, last-behind}
 use Rattle.telling.proofs.Computed.{reason-room, reason-stop, word-room}
 
 -- ---- each way out
@@ -84,17 +84,13 @@ module _ (call name number : ℕ) where
       ∙ omega (arith, length-heading call (shownName call name) number, length-append (inBytes (word call)) (inBytes (reason number)))
 
   -- its last byte is that of the reason
-  sentence-last : lastOf (sentence call name number) ≡ 46
+  pub sentence-stop : lastOf (sentence call name number) ≡ 46
   unfolding sentence
-  sentence-last =
+  sentence-stop =
       let stop = reason-stop number in
       let some = has-last (inBytes (reason number)) (λ z. omega arith) in
       last-behind (heading call (shownName call name) number) _ (omega (arith, length-append (inBytes (word call)) (inBytes (reason number))))
       ∙ last-behind (inBytes (word call)) (inBytes (reason number)) some ∙ stop
-
-  sentence-stop : getD (padded 160 (sentence call name number)) (length (sentence call name number) - 1) 0 ≡ 46
-  unfolding padded
-  sentence-stop = List·getD-append (sentence call name number) _ 0 _ (omega (arith, sentence-length)) ∙ sentence-last
 
 pub sentence-fits : SentenceFits
 unfolding SentenceFits

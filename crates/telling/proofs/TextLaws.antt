@@ -6,7 +6,7 @@ use native.Mathlib.Nat.{sub-zero, pow-suc}
 use native.Mathlib.Omega.{arith}
 use lib.ListN.{length, getD, take, drop, length-append, length-replicate}
 use lib.Seq.{take-at, drop-at, getD-append-add}
-use Rattle.telling.specs.Text.{decimal, shown, spaces, padded}
+use Rattle.telling.specs.Text.{decimal, shown, spaces, padded, lastOf}
 
 -- ---- figures
 pub length-decimal : (k v : ℕ) → length (decimal k v) ≡ k
@@ -53,16 +53,15 @@ module _ (n : ℕ) (s : List ℕ) where
   drop-padded = drop-at s (spaces (n - length s)) (length s) refl
 
 -- ---- the last byte of a text
-abbrev pub lastOf : List ℕ → ℕ
-lastOf s = getD s (length s - 1) 0
-
 -- a text whose last byte is not 0 has one
 pub has-last : (s : List ℕ) → (lastOf s ≡ 0 → ⊥) → 1 ≤ length s
+unfolding lastOf
 has-last [] d = absurd (d refl)
 has-last (x ∷ s) d = omega arith
 
 -- it is that of the text behind
 pub last-behind : (p q : List ℕ) → 1 ≤ length q → lastOf (p ++ q) ≡ lastOf q
+unfolding lastOf
 last-behind p q h =
     let e : length (p ++ q) - 1 ≡ length p + (length q - 1) = omega (arith, length-append p q) in
     ap (λ (n : ℕ). getD (p ++ q) n 0) e ∙ getD-append-add p q (length q - 1) 0

@@ -3,9 +3,9 @@ use mathlib.Core.Path.{_≡_}
 use mathlib.Core.List.{List, [], _++_}
 use mathlib.Core.Logic.{_⊎_}
 use Prim.Native.Nat.{ℕ, _-_, _^_, _≤_, _<_}
-use lib.ListN.{length, getD, take, drop, replicate}
+use lib.ListN.{length, take, drop, replicate}
 use Rattle.sets.specs.Upto.{Within}
-use Rattle.telling.specs.Text.{inBytes, spaces}
+use Rattle.telling.specs.Text.{inBytes, spaces, lastOf}
 use Rattle.telling.specs.Notices.{shownName, noReason, reason, sentence, figuresIn, Noticed, noticed}
 
 -- ---- what a sentence tells
@@ -47,7 +47,7 @@ pub record Tells (s : List ℕ) (o : Noticed) : Type 0 where
   pub long : length (o .buffer) ≡ 160
   pub text : take (o .value) (o .buffer) ≡ s
   pub rest : drop (o .value) (o .buffer) ≡ spaces (160 - o .value)
-  pub stop : getD (o .buffer) (o .value - 1) 0 ≡ 46
+  pub stop : lastOf s ≡ 46
 
 unfoldable pub SentenceTold : Type 0
 SentenceTold = (call name number : ℕ) (buffer : List ℕ) → Within 10 call → length buffer ≡ 160 → Tells (sentence call name number) (noticed call name number buffer)

@@ -3,7 +3,7 @@ use mathlib.Core.List.{List, [], _∷_, _++_}
 use Prim.Native.Nat.{ℕ, zero, suc, _+_, _-_, _*_, _/_, _%_}
 use Prim.Native.Char.{code}
 use Prim.Native.String.{String, [] as end, _∷_ as _before_}
-use lib.ListN.{length, replicate}
+use lib.ListN.{length, getD, replicate}
 
 -- the bytes of a text in ASCII
 unfoldable pub inBytes : String → List ℕ
@@ -27,3 +27,7 @@ spaces n = replicate n 32
 -- a text and spaces behind it, n bytes together
 unfoldable pub padded : ℕ → List ℕ → List ℕ
 padded n text = text ++ spaces (n - length text)
+
+-- the last byte of a text, 0 where it has none
+unfoldable pub lastOf : List ℕ → ℕ
+lastOf text = getD text (length text - 1) 0
