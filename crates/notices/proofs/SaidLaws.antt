@@ -12,7 +12,7 @@ use lib.Seq.{take-all, getD-append-add}
 use Rattle.bytes.specs.Bytes.{put}
 use Rattle.bytes.proofs.ByteLaws.{put-more}
 use Rattle.telling.specs.Text.{inBytes, decimal, spaces, padded, lastOf}
-use Rattle.telling.specs.Notices.{word, shownName, reason, heading, sentence}
+use Rattle.telling.specs.Notices.{word, showsName, shownName, reason, heading, sentence}
 use Rattle.telling.proofs.TextLaws.{length-padded, length-spaces, drop-spaces}
 use Rattle.telling.proofs.NoticeLaws.{length-heading, sentence-length}
 use Rattle.notices.specs.Ends.{Ends}
@@ -43,10 +43,14 @@ module _ (m n : ℕ) (text s : List ℕ) (is : text ≡ padded m s) where
       go (no h) (yes g) = absurd (ends .last (omega arith) (back (n - 1) (omega arith) (omega (arith, ends .within))))
       go (no h) (no g) = omega arith
 
+-- all bytes of an array that a text was padded to
+pub whole : (n : ℕ) (s xs : List ℕ) → length s ≤ n → xs ≡ padded n s → take n xs ≡ padded n s
+whole n s xs h e = ap (take n) e ∙ take-all n (padded n s) (omega (arith, length-padded n s h))
+
 -- ---- the name that a call shows
 module _ (call name : ℕ) where
   pub one-shown : (call ≡ 2) ⊎ (call ≡ 3) ⊎ (call ≡ 5) ⊎ (call ≡ 7) → name ≡ shownName call name
-  unfolding shownName
+  unfolding shownName showsName
   one-shown (inl e) = rw e
   one-shown (inr (inl e)) = rw e
   one-shown (inr (inr (inl e))) = rw e
@@ -61,7 +65,7 @@ module _ (call name : ℕ) where
       go (no d) = one-shown (inr (inl (omega arith)))
 
   pub none-shown : (call ≡ 2 → ⊥) → (call ≡ 3 → ⊥) → (call ≡ 5 → ⊥) → (call ≡ 7 → ⊥) → 0 ≡ shownName call name
-  unfolding shownName
+  unfolding shownName showsName
   none-shown a b c d = rw (ne-eqb call 2 a, ne-eqb call 3 b, ne-eqb call 5 c, ne-eqb call 7 d)
 
 -- ---- the pieces one behind the other
@@ -95,7 +99,3 @@ module _ (call name number : ℕ) where
   told-by b v h x y =
       let long = length-heading call (shownName call name) number in
       (omega (arith, sentence-length call name number, x .0, y .0), y .1 ∙ rw (x .1, x .0, h, v, b, ← long) (pieces (heading call (shownName call name) number) w r))
-
--- all bytes of an array that a text was padded to
-pub whole : (n : ℕ) (s xs : List ℕ) → length s ≤ n → xs ≡ padded n s → take n xs ≡ padded n s
-whole n s xs h e = ap (take n) e ∙ take-all n (padded n s) (omega (arith, length-padded n s h))

@@ -8,7 +8,7 @@ ghost use lib.ListN.{length};
 ghost use Rattle.bytes.specs.Bytes.{put};
 ghost use Rattle.asking.specs.Asking.{result};
 ghost use Rattle.telling.specs.Text.{decimal, padded, lastOf};
-ghost use Rattle.telling.specs.Notices.{shownName, heading, noticed};
+ghost use Rattle.telling.specs.Notices.{shownName, heading, sentence, noticed};
 ghost use Rattle.notices.specs.Ends.{Ends};
 
 // Where a text ends that has spaces behind it.
@@ -79,7 +79,21 @@ fn shown_name(call: u64, name: u16) -> u16
     }
 }
 
-// The sentence for a call that was refused, put into a buffer of 160 bytes. Value: its length.
+// The sentence, in a buffer of 160 bytes, with spaces behind it; its length.
+fn tell(buffer: &mut [u8], call: u64, name: u16, number: u32) -> usize
+    requires { ⌜ length (now buffer) ≡ 160 ⌝ }
+    ensures { λ r. ⌜ (let s = sentence call name number in (r ≡ length s) × (now (buffer .exit) ≡ padded 160 s)) ⌝ }
+{
+    let spaces = [b' '; 160];
+    copying::copy(buffer, &spaces[0..160]);
+    say_heading(buffer, call, shown_name(call, name), number);
+    let word = wordings::call_word(call);
+    let behind = say(buffer, 45, &word[0..8]);
+    let reason = wordings::wording(number);
+    say(buffer, behind, &reason[0..107])
+}
+
+// The refusal of a call by a number, told in a lent buffer of 160 bytes. Value: the sentence's length.
 pub fn notice(call: u64, name: u16, number: u32, buffer: &mut [u8]) -> u64
     ensures { λ x. ⌜ (let o = noticed call name number (now (buffer .entry)) in (x ≡ result (o .refusal) (o .value)) × (now (buffer .exit) ≡ o .buffer)) ⌝ }
 {
@@ -89,12 +103,5 @@ pub fn notice(call: u64, name: u16, number: u32, buffer: &mut [u8]) -> u64
     if buffer.len() != 160 {
         return result(5, 0);
     }
-    let spaces = [b' '; 160];
-    copying::copy(buffer, &spaces[0..160]);
-    say_heading(buffer, call, shown_name(call, name), number);
-    let word = wordings::call_word(call);
-    let behind = say(buffer, 45, &word[0..8]);
-    let reason = wordings::wording(number);
-    let end = say(buffer, behind, &reason[0..107]);
-    result(0, end as u32)
+    result(0, tell(buffer, call, name, number) as u32)
 }

@@ -13,26 +13,27 @@ use lib.Text.{eqt, eqt-refl}
 use Rattle.bools.proofs.BoolLaws.{or-e, clash}
 use Rattle.sets.specs.Upto.{every}
 use Rattle.sets.proofs.UptoLaws.{every-at}
+use Rattle.bytes.specs.Bytes.{part}
 use Rattle.asking.specs.Asking.{firstNo}
-use Rattle.telling.specs.Text.{inBytes, decimal, spaces, padded, lastOf}
-use Rattle.telling.specs.Notices.{words, word, shownName, noReason, reasons, reason, heading, sentence, inPapers, noticeQuestions, noticed}
+use Rattle.telling.specs.Text.{inBytes, decimal, shown, spaces, padded, lastOf}
+use Rattle.telling.specs.Notices.{words, word, showsName, shownName, noReason, reasons, reason, heading, sentence, figuresIn, inPapers, noticeQuestions, noticed}
 use Rattle.telling.specs.Claims.{NamesShown, OwnReasons, OthersHaveNone, SentencesShown, NoticesShown, RefusalsShown}
 
 -- ---- whole sentences, notices and refusals
 pub sentences-shown : SentencesShown
-unfolding SentencesShown sentence heading shownName words word reasons reason noReason inBytes decimal
+unfolding SentencesShown sentence heading showsName shownName words word reasons reason noReason inBytes decimal
 sentences-shown = (refl, refl, refl, refl, refl)
 
 pub notices-shown : NoticesShown
-unfolding NoticesShown noticed noticeQuestions inPapers firstNo sentence heading shownName words word reasons reason noReason inBytes decimal spaces padded
-notices-shown = (refl, refl)
+unfolding NoticesShown noticed noticeQuestions inPapers firstNo sentence heading showsName shownName words word reasons reason noReason inBytes decimal spaces padded figuresIn shown part
+notices-shown = (refl, refl, refl)
 
 pub refusals-shown : RefusalsShown
 unfolding RefusalsShown noticed noticeQuestions inPapers firstNo
 refusals-shown = (refl, refl, refl, refl, refl, refl, refl)
 
 pub names-shown : NamesShown
-unfolding NamesShown shownName
+unfolding NamesShown showsName shownName
 names-shown name = (refl, refl, refl, refl, refl, refl, refl, refl, refl, refl)
 
 -- ---- words and reasons: only as many numbers as are listed have one of their own
@@ -45,7 +46,7 @@ pub no-word : (call : ℕ) → 10 < call → word call ≡ ""
 unfolding word words
 no-word call h = List·getD-eq-default words "" h
 
--- a test of those of 0 to m is one of all, where the others have that of 0
+-- what a test finds of the texts of 0 to m it finds of all, where every other number has the text of 0
 each-passes : (test : String → Bool) (m : ℕ) (text : ℕ → String) → ((n : ℕ) → m < n → text n ≡ text 0) → every (suc m) (λ k. test (text (k - 1))) ≡ true
     → (n : ℕ) → test (text n) ≡ true
 each-passes test m text others all n = go (decLe n m)

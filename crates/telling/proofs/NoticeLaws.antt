@@ -1,6 +1,6 @@
 -- What a sentence tells and where it ends; the call by the answers to its questions.
 use mathlib.Core.Path.{_≡_, refl, _∙_}
-use mathlib.Core.Bool.{Bool, true, false, cond, _||_}
+use mathlib.Core.Bool.{Bool, true, false, cond}
 use mathlib.Core.List.{List}
 use Prim.Native.Nat.{ℕ, _+_, _≤_, _<_}
 use native.Mathlib.Omega.{arith}
@@ -11,7 +11,7 @@ use Rattle.sets.specs.Upto.{Within}
 use Rattle.bytes.specs.Bytes.{part}
 use Rattle.asking.specs.Asking.{firstNo}
 use Rattle.telling.specs.Text.{inBytes, decimal, padded, lastOf}
-use Rattle.telling.specs.Notices.{word, shownName, reason, heading, sentence, figuresIn, inPapers, noticeQuestions, Noticed, noticed}
+use Rattle.telling.specs.Notices.{word, showsName, shownName, reason, heading, sentence, figuresIn, inPapers, noticeQuestions, Noticed, noticed}
 use Rattle.telling.specs.Claims.{ReadsOff, SentenceFits, SentenceTold, RefusalLeaves}
 use Rattle.telling.proofs.TextLaws.{shown-decimal, length-padded, take-padded, drop-padded, has-last, last-behind}
 use Rattle.telling.proofs.Computed.{reason-room, reason-stop, word-room}
@@ -59,7 +59,7 @@ module _ (call name number : ℕ) where
 
   name-small : name < 65_536 → shownName call name < 65_536
   unfolding shownName
-  name-small h = go (eqb call 2 || eqb call 3 || eqb call 5 || eqb call 7)
+  name-small h = go (showsName call)
     where
       go : (b : Bool) → cond b name 0 < 65_536
       go true = h

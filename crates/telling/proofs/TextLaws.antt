@@ -53,13 +53,13 @@ module _ (n : ℕ) (s : List ℕ) where
   drop-padded = drop-at s (spaces (n - length s)) (length s) refl
 
 -- ---- the last byte of a text
--- a text whose last byte is not 0 has one
+-- a text whose last byte is not 0 is not empty
 pub has-last : (s : List ℕ) → (lastOf s ≡ 0 → ⊥) → 1 ≤ length s
 unfolding lastOf
 has-last [] d = absurd (d refl)
 has-last (x ∷ s) d = omega arith
 
--- it is that of the text behind
+-- of two texts it is that of the second
 pub last-behind : (p q : List ℕ) → 1 ≤ length q → lastOf (p ++ q) ≡ lastOf q
 unfolding lastOf
 last-behind p q h =

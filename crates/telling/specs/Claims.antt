@@ -1,6 +1,6 @@
 -- What is claimed of notices, as statements; the proofs are in proofs/.
 use mathlib.Core.Path.{_≡_}
-use mathlib.Core.List.{List, [], _++_}
+use mathlib.Core.List.{List, []}
 use mathlib.Core.Logic.{_⊎_}
 use Prim.Native.Nat.{ℕ, _-_, _^_, _≤_, _<_}
 use lib.ListN.{length, take, drop, replicate}
@@ -61,18 +61,20 @@ RefusalLeaves = (call name number : ℕ) (buffer : List ℕ) → 1 ≤ noticed c
 -- whole sentences: with a name, a send's without, a joining's, and numbers with no refusal behind them
 unfoldable pub SentencesShown : Type 0
 SentencesShown = (sentence 3 17 6 ≡ inBytes "Call 03 by machine 00017, number 0000000006: write refused: too few machines answered, or not the right ones; switch on more of them and try again.")
-    × (sentence 4 17 9 ≡ inBytes "Call 04 by machine 00000, number 0000000009: send refused: the machine that should send is behind itself and waits for results; send from another one.")
+    × (sentence 4 17 9 ≡ inBytes "Call 04 by machine 00000, number 0000000009: send refused: the machine that should send is itself behind and waits for results; send from another one.")
     × (sentence 6 40 13 ≡ inBytes "Call 06 by machine 00000, number 0000000013: joining refused: the new machine's name is 0, or another machine has it; give it a name of its own.")
     × (sentence 7 65_535 0 ≡ inBytes "Call 07 by machine 65535, number 0000000000: round: no refusal has this number; 0 stands for a call that was done.")
     × (sentence 10 1 4_294_967_295 ≡ inBytes "Call 10 by machine 00000, number 4294967295: notice: no refusal has this number; 0 stands for a call that was done.")
 
--- a whole buffer that held 9s; and the longest sentence, which leaves no space
+-- a whole buffer that held 9s; the longest sentence, which leaves no space; and what is read off one
 unfoldable pub NoticesShown : Type 0
 NoticesShown =
     (noticed 2 17 16 (replicate 160 9)
-    ≡ record { refusal = 0; value = 132; buffer = inBytes "Call 02 by machine 00017, number 0000000016: read refused: the tournament has no file of that number; its files are numbered from 1." ++ spaces 28 })
+    ≡ record { refusal = 0; value = 132; buffer = inBytes "Call 02 by machine 00017, number 0000000016: read refused: the tournament has no file of that number; its files are numbered from 1.                            " })
     × (noticed 1 0 10 (replicate 160 9)
     ≡ record { refusal = 0; value = 160; buffer = inBytes "Call 01 by machine 00000, number 0000000010: founding refused: the receiver waits for no results, or for newer ones than the sender has: then send from another." })
+    × (figuresIn (inBytes "Call 07 by machine 65535, number 4294967295: round: no refusal has this number; 0 stands for a call that was done.")
+    ≡ record { call = 7; name = 65_535; number = 4_294_967_295 })
 
 -- refused calls: each question from both sides (calls 1 and 10 are above), and 4 before 5
 unfoldable pub RefusalsShown : Type 0

@@ -29,8 +29,11 @@ unfoldable pub word : ℕ → String
 word call = getD words call ""
 
 -- "all but read, write, check and round show name 0, even if another is given"
+unfoldable pub showsName : ℕ → Bool
+showsName call = eqb call 2 || eqb call 3 || eqb call 5 || eqb call 7
+
 unfoldable pub shownName : ℕ → ℕ → ℕ
-shownName call name = cond (eqb call 2 || eqb call 3 || eqb call 5 || eqb call 7) name 0
+shownName call name = cond (showsName call) name 0
 
 -- "a number with no refusal behind it gets a sentence that .. says so"
 unfoldable pub noReason : String
@@ -48,7 +51,7 @@ reasons =
     ∷ " refused: too few machines answered, or not the right ones; switch on more of them and try again."
     ∷ " refused: no machine that answered is known to have all the latest results; wait for one that has them."
     ∷ " refused: the count of writes, or of new lists of machines, has reached 1,000,000; start a new table."
-    ∷ " refused: the machine that should send is behind itself and waits for results; send from another one."
+    ∷ " refused: the machine that should send is itself behind and waits for results; send from another one."
     ∷ " refused: the receiver waits for no results, or for newer ones than the sender has: then send from another."
     ∷ " refused: it takes 1 to 64 machine names, each above the one before, none 0; and 0 for wide or 1 for tall."
     ∷ " refused: the room for machines, the files, their length, the two forms or the space lent do not fit."

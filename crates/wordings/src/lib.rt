@@ -44,7 +44,7 @@ pub fn wording(number: u32) -> [u8; 107]
         8 =>
             *b" refused: the count of writes, or of new lists of machines, has reached 1,000,000; start a new table.      ",
         9 =>
-            *b" refused: the machine that should send is behind itself and waits for results; send from another one.      ",
+            *b" refused: the machine that should send is itself behind and waits for results; send from another one.      ",
         10 =>
             *b" refused: the receiver waits for no results, or for newer ones than the sender has: then send from another.",
         11 =>
