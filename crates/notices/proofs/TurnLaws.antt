@@ -7,11 +7,9 @@ use native.Mathlib.Omega.{arith}
 use lib.ListN.{length, getD, drop, set}
 use lib.Seq.{set-split, drop-at, length-take-le}
 use Rattle.telling.specs.Text.{decimal}
+use Rattle.notices.specs.Ends.{Behind}
 
--- ---- end_of: behind the first n bytes are spaces
-abbrev pub Behind : List ℕ → ℕ → Type 0
-Behind text n = (i : ℕ) → n ≤ i → i < length text → getD text i 0 ≡ 32
-
+-- ---- end_of: a space less
 pub end-turn : (text : List ℕ) (n : ℕ) → 0 < n → getD text (n - 1) 0 ≡ 32 → Behind text n → Behind text (n - 1)
 end-turn text n some e behind i l h = go (decLt i n)
   where

@@ -76,7 +76,7 @@ NoticesShown =
     × (figuresIn (inBytes "Call 07 by machine 65535, number 4294967295: round: no refusal has this number; 0 stands for a call that was done.")
     ≡ record { call = 7; name = 65_535; number = 4_294_967_295 })
 
--- refused calls: each question from both sides (calls 1 and 10 are above), and 4 before 5
+-- refused calls: the numbers beside 1 to 10 and one of more than 32 bits, the lengths beside 160 and none, and 4 before 5
 unfoldable pub RefusalsShown : Type 0
 RefusalsShown = (noticed 0 17 6 (replicate 160 9) ≡ record { refusal = 4; value = 0; buffer = replicate 160 9 })
     × (noticed 11 17 6 (replicate 160 9) ≡ record { refusal = 4; value = 0; buffer = replicate 160 9 })

@@ -9,7 +9,7 @@ use Rattle.bytes.specs.Bytes.{part}
 use Rattle.asking.specs.Asking.{Question, firstNo}
 use Rattle.telling.specs.Text.{inBytes, decimal, shown, padded}
 
--- "Calls are numbered from 1 in docs/": the words for calls 1 to 10, behind one for no call
+-- "Calls are numbered from 1 in docs/": the words of calls 1 to 10, behind an empty one for 0
 unfoldable pub words : List String
 words =
     ""
@@ -39,7 +39,8 @@ shownName call name = cond (showsName call) name 0
 unfoldable pub noReason : String
 noReason = ": no refusal has this number; 0 stands for a call that was done."
 
--- "the refused number's own reason", true of every call that the number can refuse, and where there is room what to do next: those of 1 to 20, behind one for 0
+-- "the refused number's own reason": those of 1 to 20, behind the one for 0. Each is true of every call that the number can refuse, and says what to do next
+-- where there is room
 unfoldable pub reasons : List String
 reasons =
     noReason

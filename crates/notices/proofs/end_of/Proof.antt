@@ -2,7 +2,8 @@ use Prim.Native.Nat.{_≤_}
 use native.Mathlib.Omega.{arith}
 use borrow.Author.Needs.{needs}
 use lib.ListN.{length}
-use Rattle.notices.proofs.TurnLaws.{Behind, end-turn}
+use Rattle.notices.specs.Ends.{Behind}
+use Rattle.notices.proofs.TurnLaws.{end-turn}
 use Rattle.notices.proofs.end_of.Statement.{statement}
 use Rattle.notices.proofs.end_of.Tie as tie
 

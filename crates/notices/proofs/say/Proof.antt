@@ -1,11 +1,11 @@
 use mathlib.Core.Path.{_≡_, sym, _∙_, ap}
 use Prim.Native.Nat.{ℕ, _+_, _-_}
 use native.Mathlib.Omega.{arith}
+use borrow.Author.Needs.{needs}
 use lib.ListN.{length, take}
 use Rattle.bytes.proofs.CodeLaws.{part-back}
 use Rattle.telling.proofs.TextLaws.{take-padded}
 use Rattle.notices.proofs.SaidLaws.{ends-at}
-use borrow.Author.Needs.{needs}
 use Rattle.notices.proofs.say.Statement.{statement}
 use Rattle.notices.proofs.say.Tie as tie
 
