@@ -3,6 +3,7 @@ ghost use mathlib.Core.Path.{_≡_};
 ghost use Rattle.asking.specs.Asking.{result};
 ghost use Rattle.charting.specs.Charts.{charted};
 ghost use Rattle.choices.specs.Choosing.{chosen};
+ghost use Rattle.telling.specs.Notices.{noticed};
 ghost use Rattle.protocol.specs.Calls.{founding, join, read, write, send, check, carry, resultOf, outcome};
 
 // The number of this interface: it rises with every change of a signature, so that header and archive can be compared.
@@ -107,4 +108,12 @@ pub extern "C" fn grid_choice(table: &[u8], coordinator: u64, kind: u64, set: &m
     ensures { λ r. ⌜ (let o = chosen (now (table .entry)) coordinator kind (now (set .entry)) in (r ≡ result (o .refusal) (o .value)) × (now (table .exit) ≡ now (table .entry)) × (now (set .exit) ≡ o .set)) ⌝ }
 {
     choices::choice(table, coordinator as usize, kind, set)
+}
+
+// A refusal told in one sentence.
+#[no_mangle]
+pub extern "C" fn grid_notice(call: u64, name: u16, number: u32, buffer: &mut [u8]) -> u64
+    ensures { λ r. ⌜ (let o = noticed call name number (now (buffer .entry)) in (r ≡ result (o .refusal) (o .value)) × (now (buffer .exit) ≡ o .buffer)) ⌝ }
+{
+    notices::notice(call, name, number, buffer)
 }

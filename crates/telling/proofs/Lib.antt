@@ -1,0 +1,3 @@
+pub mod TextLaws
+pub mod Computed
+pub mod NoticeLaws

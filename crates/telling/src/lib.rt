@@ -1,0 +1,1 @@
+// Notices of refused calls in plain words: definitions and laws.
