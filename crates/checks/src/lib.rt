@@ -6,19 +6,23 @@ use questions::below_limit;
 use questions::coordinator_asked;
 use quorums::Kind;
 use rows::RowSet;
-use verdicts::asked;
+use verdicts::Tally;
 use verdicts::judged;
+use verdicts::quorum_held;
+use verdicts::tallied;
 ghost use mathlib.Core.Path.{_≡_};
-ghost use mathlib.Core.Bool.{true, not, cond, _&&_, _||_};
-ghost use Prim.Native.Nat.{ℕ};
+ghost use mathlib.Core.Bool.{true, not, _&&_, _||_};
+ghost use Prim.Native.Nat.{ℕ, _^_, _<_};
 ghost use lib.ListN.{take};
 ghost use Rattle.sets.specs.Upto.{some};
 ghost use Rattle.sets.specs.Sets.{has};
 ghost use Rattle.quorums.specs.declared.Kind.the-variants.{Write};
-ghost use Rattle.fields.specs.Layout.{isEmpty};
-ghost use Rattle.table.specs.Contracts.{Listed};
+ghost use Rattle.fields.specs.Layout.{isEmpty, formValue, formOf, usedOf};
+ghost use Rattle.table.specs.Contracts.{Sized, Listed};
 ghost use Rattle.protocol.specs.Lists.{listQuorum};
-ghost use Rattle.protocol.specs.Calls.{resultOf, outcome, check};
+ghost use Rattle.protocol.specs.Calls.{answers, resultOf, outcome, check};
+ghost use Rattle.verdicts.specs.Judged.{Tallied};
+ghost use Rattle.checks.specs.Surveyed.{Surveyed};
 
 // Has a set every member of a list that has one? Then it holds a quorum of that.
 fn has_whole(s: RowSet, list: Laid) -> bool
@@ -28,22 +32,48 @@ fn has_whole(s: RowSet, list: Laid) -> bool
     both(!members.is_empty(), members.outside(s).is_empty())
 }
 
-// Questions 6 and 7 of a set: the first no, 0 where there is none. Question 6 is not asked where its answer is known.
-fn asked_unless(
-    known: bool,
-    order: &[u8; 64],
-    count: usize,
-    list: Laid,
-    s: RowSet,
-    current: bool,
-) -> u32
+// Question 6 of a set; it is not asked where its answer is known.
+fn held_unless(known: bool, order: &[u8; 64], count: usize, list: Laid, s: RowSet) -> bool
     requires { ⌜ Listed count (now order) count ⌝ }
-    ensures { λ r. ⌜ r ≡ cond (known || (not (isEmpty list) && listQuorum Write (take count (now (order .entry))) list (has (s .bits)))) (cond current 0 7) 6 ⌝ }
+    ensures { λ r. ⌜ r ≡ (known || (not (isEmpty list) && listQuorum Write (take count (now (order .entry))) list (has (s .bits)))) ⌝ }
 {
-    if !known {
-        return asked(Kind::Write, order, count, list, s, current);
+    if known {
+        return true;
     }
-    if current { 0 } else { 7 }
+    quorum_held(Kind::Write, order, count, list, s)
+}
+
+// What is found of a set in each file: its good rows and their version; and is it current for every file? Place q − 1 is for file q.
+struct Survey {
+    goods: [u64; 8],
+    versions: [u32; 8],
+    current: bool,
+}
+
+// `first` is what is found in file 1.
+fn look_through(t: &[u8], s: RowSet, first: Tally) -> Survey
+    requires { ⌜ Sized (now t) × (formOf (now t) ≡ formValue) × (s .bits < 2 ^ usedOf (now t)) × Tallied (answers (now t) 1 (s .bits)) (has (s .bits)) first ⌝ }
+    ensures { λ r. ⌜ Surveyed (now (t .entry)) (s .bits) r ⌝ }
+{
+    let files = header::files(t);
+    let mut goods = [0u64; 8];
+    let mut versions = [0u32; 8];
+    goods[0] = first.good.bits;
+    versions[0] = first.version;
+    let mut all = first.current;
+    let mut k = 1;
+    while k < files {
+        let found = tallied(t, k + 1, s);
+        goods[k] = found.good.bits;
+        versions[k] = found.version;
+        all = both(all, found.current);
+        k += 1;
+    }
+    Survey {
+        goods: goods,
+        versions: versions,
+        current: all,
+    }
 }
 
 // An epoch check: the rows that answered become the list of a new epoch, unless they are the list in force.
@@ -57,16 +87,26 @@ pub fn check(t: &mut [u8], c: usize, r: u64) -> u64
     if no != 0 {
         return result(no, 0);
     }
-    let v = judged(t, answering);
+    // lists and epochs are the same whatever the file
+    let v = judged(t, 1, answering);
     // a whole list holds a quorum of itself
     if v.list.members == r {
         return result(0, v.epoch);
     }
     let whole = has_whole(answering, v.list);
     let count = header::used(t);
-    let later = asked_unless(whole, &order, count, v.list, answering, v.current);
-    if later != 0 {
-        return result(later, 0);
+    if !held_unless(whole, &order, count, v.list, answering) {
+        return result(6, 0);
+    }
+    let good = v.good;
+    let first = Tally {
+        good: good,
+        version: v.version,
+        current: v.current,
+    };
+    let found = look_through(t, answering, first);
+    if !found.current {
+        return result(7, 0);
     }
     if !below_limit(v.epoch) {
         return result(8, 0);
@@ -74,6 +114,8 @@ pub fn check(t: &mut [u8], c: usize, r: u64) -> u64
     let epoch = v.epoch + 1;
     let tall = v.list.is_tall();
     let list = lists::laid_now(tall, answering);
-    enroll::check_rows(t, answering, v.good, v.version, epoch, list);
+    let goods = found.goods;
+    let versions = found.versions;
+    enroll::check_rows(t, answering, &goods, &versions, epoch, list);
     result(0, epoch)
 }
