@@ -16,9 +16,9 @@ fn found(capacity: usize, names: &[u16], shape: Shape) -> Table {
 /// The table that README.md and docs/RELAY.md show: 25 has joined, 30 was away, 40 lacks two writes.
 fn shown_in_the_pages() -> Table {
     let mut table = found(6, &[10, 20, 30, 40], Shape::Wide);
-    table.write(1, rows(&[1, 2, 3]), 0, b"1-0").expect("a quorum answers");
+    table.file_mut(1).write(1, rows(&[1, 2, 3]), 0, b"1-0").expect("a quorum answers");
     table.check(1, rows(&[1, 2, 4])).expect("a quorum answers");
-    table.write(1, rows(&[1, 2]), 0, b"0-1").expect("a quorum answers");
+    table.file_mut(1).write(1, rows(&[1, 2]), 0, b"0-1").expect("a quorum answers");
     table.join(25).expect("room");
     table
 }
@@ -40,11 +40,11 @@ fn look_at(table: &Table) {
     assert_eq!(views.len(), table.used());
     for (row, view) in (1..).zip(&views) {
         assert_eq!((view.row, table.row(row), table.row_named(view.name)), (row, Some(*view), Some(*view)));
-        assert_eq!(table.window(row).len(), view.patches);
+        assert_eq!(table.file(1).window(row).len(), view.patches);
     }
-    let sends = table.sends();
+    let sends = table.file(1).sends();
     assert!(sends.is_sorted_by_key(|&(from, to)| (to, from)));
-    assert!(table.sends_from_newest().iter().all(|send| sends.contains(send)));
+    assert!(table.file(1).sends_from_newest().iter().all(|send| sends.contains(send)));
     assert!(table.to_string().lines().count() >= 2 + views.len());
 }
 
@@ -98,8 +98,8 @@ fn rows_by_number_and_by_name() {
 #[test]
 fn sends_of_a_known_table() {
     let mut table = shown_in_the_pages();
-    assert_eq!(table.sends(), [(1, 4), (2, 4), (3, 4)], "row 4 desires 1, which row 3 has");
-    assert_eq!(table.sends_from_newest(), [(1, 4)]);
+    assert_eq!(table.file(1).sends(), [(1, 4), (2, 4), (3, 4)], "row 4 desires 1, which row 3 has");
+    assert_eq!(table.file(1).sends_from_newest(), [(1, 4)]);
     // Of the rows 3 and 4 alone, and of 4 and the new one.
     let among = |answering: &[usize]| {
         let answered = answering.iter().map(|&row| (row, table.row_bytes(row).expect("in use")));
@@ -108,27 +108,27 @@ fn sends_of_a_known_table() {
     assert_eq!((among(&[3, 4]), among(&[4, 5])), (vec![(3, 4)], vec![]));
     // The newest is not the lowest row, and two have it.
     table.check(1, table.rows()).expect("a quorum answers");
-    assert_eq!(table.sends(), [3, 4, 5].map(|to| [(1, to), (2, to)]).as_flattened());
-    table.send(2, 5, table.rows()).expect("row 5 is stale");
-    assert_eq!(table.sends_from_newest(), [(1, 3), (1, 4)]);
+    assert_eq!(table.file(1).sends(), [3, 4, 5].map(|to| [(1, to), (2, to)]).as_flattened());
+    table.file_mut(1).send(2, 5, table.rows()).expect("row 5 is stale");
+    assert_eq!(table.file(1).sends_from_newest(), [(1, 3), (1, 4)]);
     let mut bytes = table.into_bytes();
     bytes[16 + 4] = 9; // row 1 has version 9
     bytes[16 + 4 * ROW + 4] = 10; // and row 5 version 10
     let table = Table::from_bytes(bytes).expect("well formed");
-    assert_eq!(table.sends_from_newest(), [(5, 3), (5, 4)]);
-    assert_eq!(table.sends(), [3, 4].map(|to| [(1, to), (2, to), (5, to)]).as_flattened());
+    assert_eq!(table.file(1).sends_from_newest(), [(5, 3), (5, 4)]);
+    assert_eq!(table.file(1).sends(), [3, 4].map(|to| [(1, to), (2, to), (5, to)]).as_flattened());
 }
 
 /// A row that is behind without a mark: a check by the list in force leaves it so, a write with it in its set marks it.
 #[test]
 fn a_row_behind_is_no_receiver_until_it_is_marked() {
     let mut table = found(4, &[10, 20, 30, 40], Shape::Wide);
-    table.write(4, table.rows(), 0, b"1-0").expect("a quorum answers");
+    table.file_mut(1).write(4, table.rows(), 0, b"1-0").expect("a quorum answers");
     assert_eq!(table.check(4, table.rows()), Ok(0));
     assert!(table.to_string().contains("   40    4        0        0  in force  behind\n"), "{table}");
-    assert_eq!((table.row(4).map(|row| row.stale), table.sends()), (Some(false), vec![]));
-    table.write(4, rows(&[1, 2, 4]), 0, b"0-1").expect("a quorum answers");
-    assert_eq!((table.row(4).map(|row| row.desired), table.sends()), (Some(2), vec![(1, 4), (2, 4)]));
+    assert_eq!((table.row(4).map(|row| row.stale), table.file(1).sends()), (Some(false), vec![]));
+    table.file_mut(1).write(4, rows(&[1, 2, 4]), 0, b"0-1").expect("a quorum answers");
+    assert_eq!((table.row(4).map(|row| row.desired), table.file(1).sends()), (Some(2), vec![(1, 4), (2, 4)]));
 }
 
 /// Random numbers, the same for each seed.
@@ -161,24 +161,24 @@ fn sends_are_those_that_would_be_done() {
             match random.below(8) {
                 0 => _ = table.join(random.below(600) as u16),
                 1 | 2 => _ = table.check(by, up | rows(&[by])),
-                3 => _ = table.send(1 + random.below(table.used()), by, table.rows()),
-                _ => _ = table.write(by, up | rows(&[by]), 0, &[step]),
+                3 => _ = table.file_mut(1).send(1 + random.below(table.used()), by, table.rows()),
+                _ => _ = table.file_mut(1).write(by, up | rows(&[by]), 0, &[step]),
             }
             let at = format!("seed {seed}, step {step}:\n{table}");
-            let sends = table.sends();
+            let sends = table.file(1).sends();
             listed += sends.len();
             for (from, to) in table.views().flat_map(|to| table.views().map(move |from| (from, to))) {
                 let by_the_rows = !from.stale && to.stale && to.desired <= from.version;
                 let send = (from.row, to.row);
                 assert_eq!(sends.contains(&send), by_the_rows, "{send:?}, {at}");
                 assert_eq!(
-                    table.clone().send(from.row, to.row, table.rows()).is_ok(),
+                    table.clone().file_mut(1).send(from.row, to.row, table.rows()).is_ok(),
                     by_the_rows,
                     "{send:?}, {at}"
                 );
             }
             let mut after = table.clone();
-            for (from, to) in table.sends_from_newest().into_iter().rev() {
+            for (from, to) in table.file(1).sends_from_newest().into_iter().rev() {
                 let version = table.row(from).map(|from| from.version);
                 let newest = sends
                     .iter()
@@ -187,9 +187,9 @@ fn sends_are_those_that_would_be_done() {
                     .map(|from| from.map(|from| from.version))
                     .max();
                 assert_eq!(newest, Some(version), "to {to}, {at}");
-                assert_eq!(after.send(from, to, after.rows()).ok(), version, "{at}");
+                assert_eq!(after.file_mut(1).send(from, to, after.rows()).ok(), version, "{at}");
             }
-            assert_eq!(after.sends(), [], "{at}");
+            assert_eq!(after.file(1).sends(), [], "{at}");
             look_at(&table);
         }
     }
@@ -247,7 +247,7 @@ fn the_table_in_the_pages() {
 fn a_table_that_a_check_left_malformed_is_shown_as_damaged() {
     let table = damaged();
     look_at(&table);
-    assert_eq!((table.sends(), table.sends_from_newest()), (vec![], vec![]));
+    assert_eq!((table.file(1).sends(), table.file(1).sends_from_newest()), (vec![], vec![]));
     assert_eq!(table.row(4).map(|row| (row.epoch, row.list)), Some((1, rows(&[4]))));
     assert_eq!(
         table.to_string(),
@@ -370,21 +370,25 @@ fn what_is_drawn_is_the_grid_of_the_library() {
         for (column, &whole) in columns.iter().enumerate() {
             let without = all - whole;
             if let Some(by) = without.iter().next() {
-                let refused = table.read(by, without, 0, &mut [0]).expect_err("a column is missing");
+                let refused = table.file(1).read(by, without, 0, &mut [0]).expect_err("a column is missing");
                 assert_eq!(refused.refusal, Refusal::NoQuorum, "without column {column} of\n{shown}");
             }
             // One of each other column; without one of the whole column it is enough for a read only.
             let others = columns.iter().enumerate().filter(|(other, _)| *other != column);
             let few: Rows = others.filter_map(|(_, rows)| rows.iter().next()).collect();
             let by = (whole | few).iter().next().expect("not empty");
-            assert!(table.clone().write(by, whole | few, 0, &[1]).is_ok(), "column {column} of\n{shown}");
+            assert!(
+                table.clone().file_mut(1).write(by, whole | few, 0, &[1]).is_ok(),
+                "column {column} of\n{shown}"
+            );
             let part = (whole | few) - rows(&[whole.iter().next().expect("not empty")]);
             if let (true, Some(by)) =
                 (whole.len() > 1 && columns.iter().all(|rows| rows.len() > 1), part.iter().next())
             {
-                let refused = table.clone().write(by, part, 0, &[1]).expect_err("no whole column");
+                let refused =
+                    table.clone().file_mut(1).write(by, part, 0, &[1]).expect_err("no whole column");
                 assert_eq!(refused.refusal, Refusal::NoQuorum, "column {column} of\n{shown}");
-                assert!(table.read(by, part, 0, &mut [0]).is_ok(), "column {column} of\n{shown}");
+                assert!(table.file(1).read(by, part, 0, &mut [0]).is_ok(), "column {column} of\n{shown}");
             }
         }
     }

@@ -27,7 +27,12 @@ fn contents(table: &Table, number: usize) -> &[u8] {
 
 /// The window of a row as numbers and bytes of its own.
 fn window(table: &Table, row: usize) -> Vec<(u32, usize, Vec<u8>)> {
-    table.window(row).iter().map(|patch| (patch.version, patch.offset, patch.bytes.to_vec())).collect()
+    table
+        .file(1)
+        .window(row)
+        .iter()
+        .map(|patch| (patch.version, patch.offset, patch.bytes.to_vec()))
+        .collect()
 }
 
 /// The table after a call, and the ranges of a row that it changed, which must say all and no more than they should.
@@ -83,11 +88,11 @@ fn windows_hold_the_latest_patches() {
                 0 => _ = table.join(random.below(600) as u16),
                 1 | 2 => _ = table.check(by, up | rows(&[by])),
                 3 | 4 => {
-                    for (from, to) in table.sends_from_newest() {
+                    for (from, to) in table.file(1).sends_from_newest() {
                         let [sender, receiver] = [from, to].map(|row| table.row(row).expect("in use"));
                         let reached = sender.reaches_back_to() <= receiver.version;
                         (by_window, whole) = (by_window + u32::from(reached), whole + u32::from(!reached));
-                        table.send(from, to, table.rows()).expect("it would be done");
+                        table.file_mut(1).send(from, to, table.rows()).expect("it would be done");
                         kept[to - 1] = kept[from - 1].clone();
                         assert_eq!(contents(&table, from), contents(&table, to), "seed {seed}, step {step}");
                     }
@@ -100,7 +105,7 @@ fn windows_hold_the_latest_patches() {
                     };
                     let offset = random.below(64 - length + 1);
                     let patch: Vec<u8> = (0..length).map(|_| random.below(256) as u8).collect();
-                    if let Ok(done) = table.write(by, up | rows(&[by]), offset, &patch) {
+                    if let Ok(done) = table.file_mut(1).write(by, up | rows(&[by]), offset, &patch) {
                         let written = table.views().filter(|row| row.version == done.version);
                         for row in written.map(|row| row.row) {
                             let kept = &mut kept[row - 1];
@@ -138,7 +143,7 @@ fn windows_hold_the_latest_patches() {
 fn behind(patches: usize) -> Table {
     let mut table = four(4096);
     for write in 0..patches {
-        table.write(1, rows(&[1, 2, 3]), 200 * write, b"1-0").expect("a quorum answers");
+        table.file_mut(1).write(1, rows(&[1, 2, 3]), 200 * write, b"1-0").expect("a quorum answers");
     }
     table.check(1, rows(&[1, 2, 4])).expect("a quorum answers");
     let [sender, receiver] = [1, 4].map(|row| table.row(row).expect("in use"));
@@ -151,8 +156,9 @@ fn behind(patches: usize) -> Table {
 fn what_a_send_changes() {
     for patches in [1, 2, 15, 16, 17] {
         let table = behind(patches);
-        let (after, ranges) =
-            changed(&table, 4, |table| _ = table.send(1, 4, rows(&[1, 4])).expect("row 4 is marked"));
+        let (after, ranges) = changed(&table, 4, |table| {
+            _ = table.file_mut(1).send(1, 4, rows(&[1, 4])).expect("row 4 is marked")
+        });
         assert_eq!(row(&after, 4)[HEAD..], row(&after, 1)[HEAD..]);
         let in_file = ranges.iter().filter(|range| (HEAD..HEAD + 4096).contains(&range.start));
         assert_eq!(in_file.map(Range::len).collect::<Vec<_>>(), vec![3; patches]);
@@ -174,9 +180,10 @@ fn a_send_by_window_does_not_look_at_the_senders_file() {
         without_file[HEAD..HEAD + 4096].fill(0);
         let answered = [(1, &without_file[..]), (4, row(&table, 4))];
         let mut gathered = Table::assemble(&table.frame(), answered).expect("rows of the table");
-        assert_eq!(gathered.send(1, 4, rows(&[1, 4])), Ok(patches as u32));
-        let (after, _) =
-            changed(&table, 4, |table| _ = table.send(1, 4, rows(&[1, 4])).expect("row 4 is marked"));
+        assert_eq!(gathered.file_mut(1).send(1, 4, rows(&[1, 4])), Ok(patches as u32));
+        let (after, _) = changed(&table, 4, |table| {
+            _ = table.file_mut(1).send(1, 4, rows(&[1, 4])).expect("row 4 is marked")
+        });
         let reaches = table.row(1).expect("in use").reaches_back_to() == 0;
         assert_eq!(reaches, patches <= PLACES);
         assert_eq!(gathered.row_bytes(4) == after.row_bytes(4), reaches, "{patches} patches behind");
@@ -200,7 +207,7 @@ fn ranges_of_rows_that_come_and_go() {
     let longer = four(5);
     assert_eq!(longer.changed_ranges(&founded, 1), [0..length + 1]);
     for row in [0, 5, 64, 65, usize::MAX] {
-        assert!(founded.window(row).is_empty() && founded.changed_ranges(&longer, row).is_empty());
+        assert!(founded.file(1).window(row).is_empty() && founded.changed_ranges(&longer, row).is_empty());
     }
 }
 
@@ -209,8 +216,9 @@ fn ranges_of_rows_that_come_and_go() {
 fn ranges_near_to_each_other_are_one() {
     let founded = Table::found(1, 16, &[10], Shape::Wide).expect("a plain founding");
     let written = |patch: &[u8]| {
-        let (_, ranges) =
-            changed(&founded, 1, |table| _ = table.write(1, rows(&[1]), 0, patch).expect("one is enough"));
+        let (_, ranges) = changed(&founded, 1, |table| {
+            _ = table.file_mut(1).write(1, rows(&[1]), 0, patch).expect("one is enough")
+        });
         ranges.into_iter().filter(|range| (HEAD..HEAD + 16).contains(&range.start)).collect::<Vec<_>>()
     };
     assert_eq!(written(&[1, 0, 0, 0, 1, 0, 0, 0, 0, 1]), [32..37, 41..42]);
