@@ -1,6 +1,9 @@
 //! Several files on the same machines: each goes on as if it were alone, but that they share epochs, lists and checks.
 
+mod random;
+
 use dyngrid::{raw, Done, Refusal, Refused, Rows, Shape, Table};
+use random::Random;
 
 const HEADER: usize = 16;
 const HEAD: usize = 32;
@@ -19,18 +22,6 @@ fn row(table: &Table, row: usize) -> &[u8] {
 
 fn copy(table: &Table, file: usize, number: usize) -> &[u8] {
     &row(table, number)[table.file(file).range().expect("a file of the group")]
-}
-
-/// Random numbers, the same for each seed.
-struct Random(u64);
-
-impl Random {
-    fn below(&mut self, limit: usize) -> usize {
-        self.0 ^= self.0 << 13;
-        self.0 ^= self.0 >> 7;
-        self.0 ^= self.0 << 17;
-        (self.0 >> 16) as usize % limit
-    }
 }
 
 /// A call on a file. A send tells its version, and that nobody was called.
@@ -99,7 +90,7 @@ fn gathered(table: &Table, file: usize, answering: Rows) -> Table {
 fn each_file_goes_on_as_if_it_were_alone() {
     let (mut blocked, mut checked, mut done) = (0, 0, 0);
     for seed in 1..=80_u64 {
-        let mut random = Random(seed.wrapping_mul(0x9e37_79b9_7f4a_7c15));
+        let mut random = Random::new(seed);
         let (machines, files) = (3 + random.below(4), 1 + random.below(8));
         let names: Vec<u16> = (1..=machines as u16).map(|rank| 40 * rank).collect();
         let shape = [Shape::Wide, Shape::Tall][random.below(2)];

@@ -1,6 +1,9 @@
 //! What a table tells of its rows, which sends it says would be done, and how it is shown.
 
+mod random;
+
 use dyngrid::{Kind, NotAssembled, Patch, Refusal, RowView, Rows, Shape, Table};
+use random::Random;
 
 /// Behind the head of a row come its copies, here of files of 16 bytes.
 const HEAD: usize = 32;
@@ -169,25 +172,13 @@ fn a_row_behind_is_no_receiver_until_it_is_marked() {
     assert_eq!((desired(&table), table.file(1).sends()), (Some((true, 2)), vec![(1, 4), (2, 4)]));
 }
 
-/// Random numbers, the same for each seed.
-struct Random(u64);
-
-impl Random {
-    fn below(&mut self, limit: usize) -> usize {
-        self.0 ^= self.0 << 13;
-        self.0 ^= self.0 >> 7;
-        self.0 ^= self.0 << 17;
-        (self.0 >> 16) as usize % limit
-    }
-}
-
 /// In histories with joinings, wide and tall: a send is listed exactly if the copies say so (9 and 10 of the scope), and exactly if it
 /// is done; the short form leaves none to be done.
 #[test]
 fn sends_are_those_that_would_be_done() {
     let mut listed = 0;
     for seed in 1..=60_u64 {
-        let mut random = Random(seed.wrapping_mul(0x9e37_79b9_7f4a_7c15));
+        let mut random = Random::new(seed);
         let (machines, files) = (1 + random.below(12), 1 + random.below(3));
         let names: Vec<u16> = (1..=machines as u16).map(|rank| 40 * rank).collect();
         let shape = [Shape::Wide, Shape::Tall][random.below(2)];

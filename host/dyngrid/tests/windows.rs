@@ -1,6 +1,12 @@
-//! The windows of rows, and what is shipped after a call, byte by byte.
+//! The windows of copies, and what is shipped after a call, byte by byte.
+
+// Lists of one range are meant as such.
+#![allow(clippy::single_range_in_vec_init)]
+
+mod random;
 
 use dyngrid::{CopyView, Rows, Shape, Table};
+use random::Random;
 use std::ops::Range;
 
 /// Where the contents of a row's only copy begin: behind the head of the row, and that of the copy.
@@ -61,25 +67,13 @@ fn bytes_in(ranges: &[Range<usize>]) -> usize {
     ranges.iter().map(Range::len).sum()
 }
 
-/// Random numbers, the same for each seed.
-struct Random(u64);
-
-impl Random {
-    fn below(&mut self, limit: usize) -> usize {
-        self.0 ^= self.0 << 13;
-        self.0 ^= self.0 >> 7;
-        self.0 ^= self.0 << 17;
-        (self.0 >> 16) as usize % limit
-    }
-}
-
 /// In histories the windows hold what was written: a plain list of patches for each row goes along. Rows of one version have one
 /// window and one file, and a send leaves the file that a whole one would.
 #[test]
 fn windows_hold_the_latest_patches() {
     let (mut by_window, mut whole, mut full, mut emptied) = (0, 0, 0, 0);
     for seed in 1..=150_u64 {
-        let mut random = Random(seed.wrapping_mul(0x9e37_79b9_7f4a_7c15));
+        let mut random = Random::new(seed);
         let machines = 4 + random.below(3);
         let names: Vec<u16> = (1..=machines as u16).map(|rank| 40 * rank).collect();
         let shape = [Shape::Wide, Shape::Tall][random.below(2)];
