@@ -161,6 +161,16 @@ impl<'a> FileMut<'a> {
     }
 
     /// The same file, to read it and to look at its copies.
+    ///
+    /// ```
+    /// use dyngrid::{Rows, Shape, Table};
+    ///
+    /// let mut table = Table::found(4, 16, &[10, 20, 30, 40], Shape::Wide)?;
+    /// let mut file = table.file_mut(1);
+    /// file.write(1, Rows::of(&[1, 2, 3])?, 0, b"1-0")?;
+    /// assert_eq!(file.as_file().copy(2).map(|copy| copy.version), Some(1));
+    /// # Ok::<(), dyngrid::Refusal>(())
+    /// ```
     pub fn as_file(&self) -> File<'_> {
         self.table.file(self.number)
     }

@@ -348,7 +348,15 @@ fn moves_are_refused_by_number() {
                     _ => 12 << 32,
                 };
                 assert_eq!(result, expected, "table {which} to form {form} and {length} bytes");
-                assert!((result >> 32 == 0) != to.iter().all(|&byte| byte == 0xa5));
+                if !goes || expected >> 32 != 0 {
+                    assert!(to.iter().all(|&byte| byte == 0xa5), "a refusal leaves the buffer");
+                } else if form == 3 {
+                    assert_eq!(to, up(table).as_bytes(), "whatever the buffer held");
+                } else {
+                    let form = if form == 1 { OlderForm::One } else { OlderForm::Two };
+                    let table = Form3Table::from_bytes(table.to_vec()).expect("of form 3");
+                    assert_eq!(Ok(to), table.carry_down(form), "whatever the buffer held");
+                }
             }
         }
     }
