@@ -4,7 +4,7 @@
 #include <string.h>
 #include "dyngrid.h"
 
-enum { MACHINES = 4, FILE_BYTES = 16, TABLE_BYTES = GRID_HEADER + MACHINES * (GRID_ROW_HEADER + FILE_BYTES + GRID_RECORDS) };
+enum { MACHINES = 4, FILE_BYTES = 16, FILES = 1, TABLE_BYTES = GRID_TABLE_BYTES(MACHINES, FILE_BYTES, FILES) };
 /* Where the first row has the mark of its list's grid. */
 enum { GRID_MARK = GRID_HEADER + 24 };
 
@@ -28,6 +28,7 @@ static const char *meaning(uint32_t refusal)
     case GRID_NAME_NOT_FREE: return "the name is 0 or in use: join with another one";
     case GRID_NO_ROOM: return "every row of the table is in use: found a larger table";
     case GRID_NOT_FORM_1: return "form 1 cannot hold the table: move it to form 2";
+    case GRID_NO_SUCH_FILE: return "there is no such file: files count from 1";
     case GRID_NO_CHART: return "a chart is of 1 to 9 machines with a grid mark that so many can have";
     default: return "no such refusal";
     }
@@ -71,7 +72,7 @@ int main(void)
         fprintf(stderr, "libdyngrid.a and dyngrid.h are of two versions: take both from one checkout\n");
         return 1;
     }
-    if (!report("found", grid_found(table, sizeof table, MACHINES, FILE_BYTES, names, sizeof names, GRID_WIDE)))
+    if (!report("found", grid_found(table, sizeof table, MACHINES, FILE_BYTES, names, sizeof names, GRID_WIDE, FILES)))
         return 1;
 
     /* Machine 10, row 1, imports a score while row 4 is away. The machines that it calls first are up, and it is one of them. */
@@ -80,20 +81,24 @@ int main(void)
     if (grid_set(chosen) != three)
         return 1;
     if (!report("write by row 1", grid_write(table, sizeof table, 1, three, 0, (const uint8_t *)score, sizeof score,
-                                             called, sizeof called)))
+                                             called, sizeof called, 1)))
         return 1;
     printf("machines called: %u\n", (unsigned)called[0]);
 
     /* Row 4 is back and reads with row 3: one machine of each column of the grid. */
     if (!report("read by row 4", grid_read(table, sizeof table, 4, two, 0, sizeof got, got, sizeof got,
-                                           called, sizeof called)))
+                                           called, sizeof called, 1)))
         return 1;
     printf("machines called: %u\n", (unsigned)called[0]);
     printf("score: %s\n", (const char *)got);
 
     /* Alone it is refused: an old score would look like any other. */
     report("read by row 4 alone", grid_read(table, sizeof table, 4, grid_row(4), 0, sizeof got, got, sizeof got,
-                                            called, sizeof called));
+                                            called, sizeof called, 1));
+
+    /* The table has one file. */
+    report("read of a second file", grid_read(table, sizeof table, 4, two, 0, sizeof got, got, sizeof got,
+                                              called, sizeof called, 2));
 
     /* The smallest sets of machines that are enough for a write. */
     uint64_t chart = grid_chart(MACHINES, table[GRID_MARK], sets, sizeof sets);

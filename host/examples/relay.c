@@ -1,13 +1,14 @@
-/* Machines that each hold their own row: ask whom to call, gather the rows that answer, make a call on them, ship the bytes that
-   changed. As examples/relay.rs, in C; docs/RELAY.md tells the steps. */
+/* Machines that each hold their own row, with a copy of two files: ask whom to call, gather what a call looks at of the rows that
+   answer, make the call, ship the bytes that changed. As examples/relay.rs, in C; docs/RELAY.md tells the steps. */
 #include <stdio.h>
 #include <string.h>
 #include "dyngrid.h"
 
-enum { MACHINES = 4, FILE_BYTES = 16 };
-enum { ROW_BYTES = GRID_ROW_HEADER + FILE_BYTES + GRID_RECORDS, TABLE_BYTES = GRID_HEADER + MACHINES * ROW_BYTES };
-/* A row begins with its name and link. */
-enum { NAME_AND_LINK = 3 };
+enum { MACHINES = 4, FILE_BYTES = 16, FILES = 2, ENTRY = 3 };
+enum { RESULTS = 1, CLOCKS = 2, EVERY_FILE = 0 };
+enum { ROW_BYTES = GRID_ROW_BYTES(FILE_BYTES, FILES), TABLE_BYTES = GRID_TABLE_BYTES(MACHINES, FILE_BYTES, FILES) };
+/* A row begins with its name and link; a copy has its stale mark first, and its version in bytes 4 to 7. */
+enum { NAME_AND_LINK = 3, STALE = 0, VERSION = 4 };
 
 /* Header, names and links, and zeros: what all calls must agree on. */
 static uint8_t frame[TABLE_BYTES];
@@ -24,108 +25,135 @@ static int has(uint64_t set, unsigned row)
     return (set & grid_row(row)) != 0;
 }
 
-/* Puts a table together: the frame, and behind name and link the rows that answered. The others stay zero there. */
-static void assemble(uint8_t *table, uint64_t answering)
+static const uint8_t *copy_of(unsigned row, unsigned file)
+{
+    return machines[row - 1] + grid_copy(FILE_BYTES, file);
+}
+
+/* Puts a table together: the frame, and behind name and link the rows that answered. The others stay zero there. For a read, write
+   or send a machine gives its head and its copy of that file; copies of other files stay zero too. For a check it gives all. */
+static void assemble(uint8_t *table, uint64_t answering, unsigned file)
 {
     memcpy(table, frame, TABLE_BYTES);
-    for (unsigned row = 1; row <= MACHINES; row++)
-        if (has(answering, row))
-            memcpy(table + row_at(row) + NAME_AND_LINK, machines[row - 1] + NAME_AND_LINK, ROW_BYTES - NAME_AND_LINK);
+    for (unsigned row = 1; row <= MACHINES; row++) {
+        if (!has(answering, row))
+            continue;
+        uint8_t *bytes = table + row_at(row);
+        memcpy(bytes + NAME_AND_LINK, machines[row - 1] + NAME_AND_LINK, GRID_ROW_HEADER - NAME_AND_LINK);
+        for (unsigned each = 1; each <= FILES; each++)
+            if (file == EVERY_FILE || file == each)
+                memcpy(bytes + grid_copy(FILE_BYTES, each), copy_of(row, each), GRID_COPY_BYTES(FILE_BYTES));
+    }
 }
 
 /* Ships what a call changed in each row, and nothing else, to all machines concerned or to none: here they are at hand. Tells which
-   rows changed, and returns in how many bytes. */
-static unsigned ship(const uint8_t *table, const uint8_t *before, uint64_t *changed)
+   rows changed, and in how many bytes. */
+static void ship(const uint8_t *table, const uint8_t *before)
 {
+    uint64_t changed = 0;
     unsigned bytes = 0;
-    *changed = 0;
     for (unsigned row = 1; row <= MACHINES; row++)
         for (size_t at = 0; at < ROW_BYTES; at++)
             if (table[row_at(row) + at] != before[row_at(row) + at]) {
                 machines[row - 1][at] = table[row_at(row) + at];
-                *changed |= grid_row(row);
+                changed |= grid_row(row);
                 bytes++;
             }
-    return bytes;
+    printf(", rows 0x%x change in %u bytes\n", (unsigned)changed, bytes);
 }
 
 /* The machines that a coordinator calls first, and itself. Of the rows it needs its own only. */
 static uint64_t whom(unsigned coordinator, uint64_t kind)
 {
     uint8_t table[TABLE_BYTES], set[GRID_SET_BYTES] = {0};
-    assemble(table, grid_row(coordinator));
+    assemble(table, grid_row(coordinator), EVERY_FILE);
     if (grid_refusal(grid_choice(table, sizeof table, coordinator, kind, set, sizeof set)) != GRID_DONE)
         return 0;
     return grid_set(set) | grid_row(coordinator);
 }
 
-/* Too few answered, or none of them is current? */
+/* Were too few called? Then all are. */
 static int wants_more(uint64_t result)
 {
     return grid_refusal(result) == GRID_NO_QUORUM || grid_refusal(result) == GRID_NOT_CURRENT;
 }
 
-/* Writes a score: the machines of the choice are called, and then all. Those that are up answer. */
-static uint64_t write_score(unsigned coordinator, uint64_t up, const char *score)
+static void print_call(const char *call, unsigned coordinator, unsigned file, uint64_t result)
+{
+    printf("%s by row %u of file %u: refusal %u, value %u", call, coordinator, file, (unsigned)grid_refusal(result),
+           (unsigned)grid_value(result));
+}
+
+/* Writes an entry: the machines of the choice are called, and then all. Those that are up answer. */
+static uint64_t write_entry(unsigned coordinator, uint64_t up, unsigned file, const char *entry)
 {
     uint8_t table[TABLE_BYTES], before[TABLE_BYTES], called[1];
     const uint64_t asked[2] = {whom(coordinator, GRID_WRITE) & up, up};
     uint64_t result = 0;
     for (int round = 0; round < 2; round++) {
-        assemble(before, asked[round]);
+        assemble(before, asked[round], file);
         memcpy(table, before, sizeof table);
-        result = grid_write(table, sizeof table, coordinator, asked[round], 0, (const uint8_t *)score, strlen(score), called,
-                            sizeof called);
+        result = grid_write(table, sizeof table, coordinator, asked[round], 0, (const uint8_t *)entry, ENTRY, called,
+                            sizeof called, file);
         if (!wants_more(result))
             break;
     }
-    uint64_t changed;
-    const unsigned bytes = ship(table, before, &changed);
-    printf("write by row %u: refusal %u, version %u, %u machines called, rows 0x%x change in %u bytes\n", coordinator,
-           (unsigned)grid_refusal(result), (unsigned)grid_value(result), (unsigned)called[0], (unsigned)changed, bytes);
+    print_call("write", coordinator, file, result);
+    printf(", %u machines called", (unsigned)called[0]);
+    ship(table, before);
     return result;
 }
 
-/* Reads a score of three bytes in the same way; a read changes nothing. */
-static uint64_t read_score(unsigned coordinator, uint64_t up, uint8_t *score)
+/* Reads an entry in the same way; a read changes nothing. */
+static uint64_t read_entry(unsigned coordinator, uint64_t up, unsigned file, uint8_t *entry)
 {
     uint8_t table[TABLE_BYTES], called[1];
     const uint64_t asked[2] = {whom(coordinator, GRID_READ) & up, up};
     uint64_t result = 0;
     for (int round = 0; round < 2; round++) {
-        assemble(table, asked[round]);
-        result = grid_read(table, sizeof table, coordinator, asked[round], 0, 3, score, 3, called, sizeof called);
+        assemble(table, asked[round], file);
+        result = grid_read(table, sizeof table, coordinator, asked[round], 0, ENTRY, entry, ENTRY, called, sizeof called, file);
         if (!wants_more(result))
             break;
     }
-    printf("read by row %u: refusal %u, version %u, %u machines called, %.3s\n", coordinator, (unsigned)grid_refusal(result),
-           (unsigned)grid_value(result), (unsigned)called[0], (const char *)score);
+    print_call("read", coordinator, file, result);
+    printf(", %u machines called, %.3s\n", (unsigned)called[0], (const char *)entry);
     return result;
 }
 
 /* The version of a machine's copy. */
-static uint32_t version_of(unsigned row)
+static uint32_t version_of(unsigned row, unsigned file)
 {
-    const uint8_t *bytes = machines[row - 1] + 4;
+    const uint8_t *bytes = copy_of(row, file) + VERSION;
     return bytes[0] | (uint32_t)bytes[1] << 8 | (uint32_t)bytes[2] << 16 | (uint32_t)bytes[3] << 24;
 }
 
-/* The receiver makes the send itself. The sender gives its row without the file, unless its window does not reach back. */
-static uint64_t send_row(unsigned from, unsigned to)
+/* The receiver makes the send itself. The sender gives head and copy without the contents, unless its window does not reach back. */
+static uint64_t send_copy(unsigned from, unsigned to, unsigned file)
 {
     uint8_t table[TABLE_BYTES], before[TABLE_BYTES];
     const uint64_t ends = grid_row(from) | grid_row(to);
-    const int by_window = version_of(from) - version_of(to) <= grid_patches(machines[from - 1], FILE_BYTES);
-    assemble(before, ends);
+    const int by_window = version_of(from, file) - version_of(to, file) <= grid_patches(copy_of(from, file), FILE_BYTES);
+    assemble(before, ends, file);
     if (by_window)
-        memset(before + row_at(from) + GRID_ROW_HEADER, 0, FILE_BYTES);
+        memset(before + row_at(from) + grid_copy(FILE_BYTES, file) + GRID_COPY_HEADER, 0, FILE_BYTES);
     memcpy(table, before, sizeof table);
-    const uint64_t result = grid_send(table, sizeof table, from, to, ends);
-    uint64_t changed;
-    const unsigned bytes = ship(table, before, &changed);
-    printf("send %s from row %u to row %u: refusal %u, version %u, rows 0x%x change in %u bytes\n",
-           by_window ? "of patches" : "of the file", from, to, (unsigned)grid_refusal(result), (unsigned)grid_value(result),
-           (unsigned)changed, bytes);
+    const uint64_t result = grid_send(table, sizeof table, from, to, ends, file);
+    print_call(by_window ? "send of patches" : "send of the contents", from, file, result);
+    printf(", to row %u", to);
+    ship(table, before);
+    return result;
+}
+
+/* A check serves all files, and looks at the copies of all. */
+static uint64_t check(unsigned coordinator, uint64_t up)
+{
+    uint8_t table[TABLE_BYTES], before[TABLE_BYTES];
+    assemble(before, up, EVERY_FILE);
+    memcpy(table, before, sizeof table);
+    const uint64_t result = grid_check(table, sizeof table, coordinator, up);
+    printf("check by row %u: refusal %u, epoch %u", coordinator, (unsigned)grid_refusal(result), (unsigned)grid_value(result));
+    ship(table, before);
     return result;
 }
 
@@ -134,13 +162,15 @@ int main(void)
     static uint8_t founded[TABLE_BYTES];
     const uint8_t names[2 * MACHINES] = {10, 0, 20, 0, 30, 0, 40, 0};
     const uint64_t all = grid_row(1) | grid_row(2) | grid_row(3) | grid_row(4);
-    uint8_t score[3];
+    const uint64_t two = grid_row(3) | grid_row(4), but_two = all & ~grid_row(2), but_three = all & ~grid_row(3);
+    uint8_t entry[ENTRY];
 
     if (!grid_interface_agrees()) {
         fprintf(stderr, "libdyngrid.a and dyngrid.h are of two versions: take both from one checkout\n");
         return 1;
     }
-    if (grid_refusal(grid_found(founded, sizeof founded, MACHINES, FILE_BYTES, names, sizeof names, GRID_WIDE)) != GRID_DONE)
+    if (grid_refusal(grid_found(founded, sizeof founded, MACHINES, FILE_BYTES, names, sizeof names, GRID_WIDE, FILES)) !=
+        GRID_DONE)
         return 1;
     /* Each machine gets its row; the relay keeps header, names and links. */
     memcpy(frame, founded, GRID_HEADER);
@@ -150,22 +180,31 @@ int main(void)
     }
 
     /* All are up: the choice of row 4, {1, 2, 3}, is enough, and row 4 itself is not written. */
-    if (write_score(4, all, "1-0") != 1 || machines[3][GRID_ROW_HEADER] != 0)
+    if (write_entry(4, all, RESULTS, "1-0") != 1 || version_of(4, RESULTS) != 0)
         return 1;
-    if (read_score(4, grid_row(3) | grid_row(4), score) != 1 || memcmp(score, "1-0", 3) != 0)
+    if (read_entry(4, two, RESULTS, entry) != 1 || memcmp(entry, "1-0", ENTRY) != 0)
         return 1;
-    /* Row 3 is away: all are called, and row 4 is marked as stale. */
-    if (write_score(4, all & ~grid_row(3), "0-1") != 2 || machines[3][3] != 1)
+    /* Row 3 is away: all are called, and the results of row 4 are marked as stale. Its clock sheet is not. */
+    if (write_entry(4, but_three, RESULTS, "0-1") != 2 || copy_of(4, RESULTS)[STALE] != 1 || copy_of(4, CLOCKS)[STALE] != 0)
         return 1;
-    if (read_score(1, all, score) != 2 || memcmp(score, "0-1", 3) != 0)
+    /* Nobody but rows 3 and 4 is up: they are a quorum for a read, but neither has the newest results. */
+    if (grid_refusal(read_entry(3, two, RESULTS, entry)) != GRID_NOT_CURRENT)
         return 1;
-    /* Nobody but rows 3 and 4 is up: they are a quorum for a read, but neither has the newest version. */
-    if (grid_refusal(read_score(3, grid_row(3) | grid_row(4), score)) != GRID_NOT_CURRENT)
+    /* The clock sheet has versions of its own. Row 4 misses the first write of it, and row 3 the second. */
+    if (write_entry(1, grid_row(1) | grid_row(2) | grid_row(3), CLOCKS, "47m") != 1 || write_entry(1, but_three, CLOCKS, "62m") != 2)
         return 1;
-    /* Row 4 lacks two patches, which row 2 has in its window. With them they are a quorum that is current. */
-    if (grid_patches(machines[1], FILE_BYTES) != 2 || send_row(2, 4) != 2)
+    /* Row 2 goes away: one check for both files. What lacks writes is marked, and the results are sent: row 4 lacks two patches. */
+    if (check(1, but_two) != 1 || grid_patches(copy_of(1, RESULTS), FILE_BYTES) != 2)
         return 1;
-    if (read_score(3, grid_row(3) | grid_row(4), score) != 2)
+    if (send_copy(1, 3, RESULTS) != 2 || send_copy(1, 4, RESULTS) != 2)
         return 1;
-    return memcmp(score, "0-1", 3) != 0;
+    /* Row 1 goes away too. Rows 3 and 4 have the newest results, but the stale clock sheet blocks the check for both files. */
+    if (read_entry(3, two, RESULTS, entry) != 2 || grid_refusal(check(3, two)) != GRID_NOT_CURRENT)
+        return 1;
+    /* Row 1 is back and sends the clock sheet; then the check is done. */
+    if (send_copy(1, 3, CLOCKS) != 2 || check(3, two) != 2)
+        return 1;
+    if (read_entry(4, two, CLOCKS, entry) != 2 || memcmp(entry, "62m", ENTRY) != 0)
+        return 1;
+    return read_entry(4, two, RESULTS, entry) != 2 || memcmp(entry, "0-1", ENTRY) != 0;
 }

@@ -9,17 +9,17 @@ static void line(int step, const char *call, uint64_t result)
 
 int main(void)
 {
-    uint8_t table[GRID_HEADER + 4 * (GRID_ROW_HEADER + 4 + GRID_RECORDS)], byte[1], called[1], names[] = {1, 0, 2, 0, 3, 0, 4, 0};
+    uint8_t table[GRID_TABLE_BYTES(4, 4, 1)], byte[1], called[1], names[] = {1, 0, 2, 0, 3, 0, 4, 0};
     if (!grid_interface_agrees())
         return 1;
-    if (grid_found(table, sizeof table, 4, 4, names, sizeof names, GRID_WIDE) != 4)
+    if (grid_found(table, sizeof table, 4, 4, names, sizeof names, GRID_WIDE, 1) != 4)
         return 1;
-    line(1, "write", grid_write(table, sizeof table, 1, 0x7, 0, (const uint8_t *)"a", 1, called, sizeof called));
-    line(2, "read", grid_read(table, sizeof table, 4, 0xc, 0, 1, byte, sizeof byte, called, sizeof called));
-    line(3, "write", grid_write(table, sizeof table, 2, 0xb, 0, (const uint8_t *)"b", 1, called, sizeof called));
-    line(4, "read", grid_read(table, sizeof table, 4, 0xc, 0, 1, byte, sizeof byte, called, sizeof called));
-    line(5, "send", grid_send(table, sizeof table, 3, 4, 0xc));
+    line(1, "write", grid_write(table, sizeof table, 1, 0x7, 0, (const uint8_t *)"a", 1, called, sizeof called, 1));
+    line(2, "read", grid_read(table, sizeof table, 4, 0xc, 0, 1, byte, sizeof byte, called, sizeof called, 1));
+    line(3, "write", grid_write(table, sizeof table, 2, 0xb, 0, (const uint8_t *)"b", 1, called, sizeof called, 1));
+    line(4, "read", grid_read(table, sizeof table, 4, 0xc, 0, 1, byte, sizeof byte, called, sizeof called, 1));
+    line(5, "send", grid_send(table, sizeof table, 3, 4, 0xc, 1));
     line(6, "check", grid_check(table, sizeof table, 1, 0xb));
-    line(7, "write", grid_write(table, sizeof table, 3, 0x4, 0, (const uint8_t *)"c", 1, called, sizeof called));
+    line(7, "write", grid_write(table, sizeof table, 3, 0x4, 0, (const uint8_t *)"c", 1, called, sizeof called, 1));
     return 0;
 }

@@ -1,4 +1,4 @@
-/* The dynamic grid: copies of one file on up to 64 machines, as a C program calls it.
+/* The dynamic grid: copies of up to eight files on up to 64 machines, as a C program calls it.
  *
  * Link with libdyngrid.a; it needs nothing but memcpy, memmove and memset. Each call is one step over a table that the
  * caller owns (a chart needs none): it takes no memory, and returns for any bytes and any numbers. Who answered is the
@@ -7,20 +7,30 @@
  * Conventions
  *   A list is a pointer and then its length in bytes. Names, and sets in a chart, are two bytes each, low byte first; the set of
  *   a choice is eight bytes.
- *   Rows have the numbers 1 upward. In an answering set, bit i - 1 stands for row i (see grid_row).
+ *   Rows have the numbers 1 upward, and so have files. In an answering set, bit i - 1 stands for row i (see grid_row).
  *   A result is the refusal number (0: done) times 2^32, plus the value (see grid_refusal, grid_value).
  *   A refused call has value 0 and alters no byte of the table, of a buffer or of anything else, but for the byte in which a
  *   read and a write say how many machines were called (see grid_read).
  *   A done call, founding and joining aside, alters only rows that answered; a move leaves its table and fills the second buffer.
  *
+ * Files
+ *   A table is a group of 1 to 8 files of one length, on the same machines. A read, write or send names its file, counted from 1,
+ *   as its last argument: it looks at the copies of that file and leaves all others, byte for byte. Epochs and lists are shared:
+ *   one check serves all files.
+ *   One stale file blocks changing checks for all files: unless the rows that answer are current for every file, a check that
+ *   would change the list is refused by 7. Send that file from a row that has its newest version, and check again.
+ *
+ * The table in bytes, numbers low byte first
+ *   Header of 16: form (4), capacity, rows used, first row in name order, file length (two bytes), files, zeros.
+ *   Then the rows, used and unused ones. A row is a head of 32 bytes, and behind it a copy of each file (GRID_ROW_BYTES):
+ *       head: 0 to 1 name, 2 next row in name order, 12 to 15 epoch, 16 to 23 list, 24 grid mark; the others are zero;
+ *       copy: 0 stale mark, 1 oldest record, 2 to 3 zero, 4 to 7 version, 8 to 11 desired version, from 12 on the contents, and
+ *       then 16 records of 36 bytes (GRID_COPY_BYTES; grid_copy tells where it begins).
+ *
  * Tables of older forms
- *   The first byte of a table is its form: 3 (GRID_FORM). A table of form 1 or 2, as earlier versions left it, is refused by 1 in
- *   every call but grid_move, which carries it over into a second buffer:
- *       uint64_t moved = grid_move(old, old_len, GRID_FORM, table, grid_table_length(capacity, file_len));
- *   Capacity is byte 1 of the old table, and the length of the file bytes 4 and 5, low byte first. File, versions, epochs and
- *   lists stay, and every list keeps the grid that it was laid in. So a list of five that comes from form 1 is still the
- *   published one, of which nobody can read, write or check while its third machine in name order is away. Two checks with that
- *   machine on lay it anew: one by four of the five, and one by all five (see grid_check).
+ *   The first byte of a table is its form: 4 (GRID_FORM). A table of form 1, 2 or 3, as earlier versions left it, is refused by 1
+ *   in every call but grid_move, which carries it from form 1 or 2 to form 3, or back. No call carries a table to form 4: found a
+ *   new one, and write the file into it.
  *
  * Calls at the same time
  *   Reads, choices and moves of one table may run at the same time, also from several threads, each with its own lists: they
@@ -45,7 +55,7 @@ extern "C" {
 
 /* Rises with every signature in this header that is new or changed, and with nothing else: a new form of the table does not
    raise it, for a table tells its form itself, and one of another form is refused by 1. */
-#define DYNGRID_INTERFACE 7
+#define DYNGRID_INTERFACE 8
 
 /* The number of the archive. */
 uint64_t grid_interface(void);
@@ -57,8 +67,8 @@ static inline int grid_interface_agrees(void)
     return grid_interface() == DYNGRID_INTERFACE;
 }
 
-/* Why a call was refused. The questions behind the numbers are put in this order (a chart's 17 before its 5, a move's
-   15 before its 12); the first no counts. */
+/* Why a call was refused. The questions behind the numbers are put in this order (16 after 3, a chart's 17 before its 5, a
+   move's 15 before its 12); the first no counts. */
 enum grid_refusals {
     GRID_DONE = 0,                 /* not refused */
     GRID_MALFORMED = 1,            /* the table is not well formed: use a good copy, or found it anew; older forms: see above */
@@ -68,21 +78,24 @@ enum grid_refusals {
     GRID_WRONG_BUFFER = 5,         /* the buffer is not exactly as long as the range, or the list for the number called not one
                                       byte; a choice's list is not eight bytes; a chart's is shorter than 128 bytes */
     GRID_NO_QUORUM = 6,            /* the rows that answered hold no quorum: try again when more answer */
-    GRID_NOT_CURRENT = 7,          /* no row that answered has the newest version: try again when one answers */
+    GRID_NOT_CURRENT = 7,          /* no row that answered has the newest version: try again when one answers (to a check: of every
+                                      file; send the one that is stale) */
     GRID_AT_LIMIT = 8,             /* the version, or the epoch, is at 1,000,000: found a new table */
     GRID_SENDER_STALE = 9,         /* the sending row is stale itself: send from another one */
     GRID_RECEIVER_NOT_BEHIND = 10, /* the receiving row is not stale, or desires more than the sender has */
     GRID_BAD_NAMES = 11,           /* names must be 1 to 64, rise strictly, and none be 0; the choice must be wide or tall */
-    GRID_BAD_SIZE = 12,            /* capacity (1 to 64, no fewer than the names), file (1 to 4,096) and table length must fit;
-                                      a move goes from form 1 or 2 to 3 or back, into a buffer of the new length */
+    GRID_BAD_SIZE = 12,            /* capacity (1 to 64, no fewer than the names), file length (1 to 4,096), files (1 to 8) and
+                                      table length must fit; a move goes from form 1 or 2 to 3 or back, into a buffer of the new
+                                      length */
     GRID_NAME_NOT_FREE = 13,       /* the name is 0 or in use: join with another one, 1 to 65,535 */
-    GRID_NO_ROOM = 14,             /* every row of the table is in use: found a larger table and carry the file over */
+    GRID_NO_ROOM = 14,             /* every row of the table is in use: found a larger table and write the files into it */
     GRID_NOT_FORM_1 = 15,          /* form 1 cannot hold the table: a grid mark is not 0, or a row has no list; move to form 2 */
+    GRID_NO_SUCH_FILE = 16,        /* the table has no file of that number: files count from 1 */
     GRID_NO_CHART = 17             /* a chart is of 1 to 9 members with a grid mark that so many can have (see grid_chart) */
 };
 
 /* The forms of a table, in its first byte. All calls but grid_move take the newest alone: GRID_FORM. */
-enum grid_forms { GRID_FORM_1 = 1, GRID_FORM_2 = 2, GRID_FORM = 3 };
+enum grid_forms { GRID_FORM_1 = 1, GRID_FORM_2 = 2, GRID_FORM_3 = 3, GRID_FORM = 4 };
 
 /* The choices of a founding. */
 enum grid_shapes { GRID_WIDE = 0, GRID_TALL = 1 };
@@ -96,8 +109,22 @@ enum grid_kinds { GRID_READ = 0, GRID_WRITE = 1 };
 /* The bytes of a set in a list. */
 enum grid_set_bytes { GRID_SET_BYTES = 8 };
 
-/* Limits of a table. A row is its header, the file's contents, and the records of its window. */
-enum grid_limits { GRID_MAX_ROWS = 64, GRID_MAX_FILE = 4096, GRID_HEADER = 16, GRID_ROW_HEADER = 32, GRID_RECORDS = 576 };
+/* Limits of a table, and the parts that it is made of: a row is its head and a copy of each file; a copy is its head, the
+   contents, and the records of its window. */
+enum grid_limits {
+    GRID_MAX_ROWS = 64,
+    GRID_MAX_FILE = 4096,
+    GRID_MAX_FILES = 8,
+    GRID_HEADER = 16,
+    GRID_ROW_HEADER = 32,
+    GRID_COPY_HEADER = 12,
+    GRID_RECORDS = 576
+};
+
+/* How many bytes a copy, a row and a table take; constants if their arguments are. */
+#define GRID_COPY_BYTES(file_len) (GRID_COPY_HEADER + (file_len) + GRID_RECORDS)
+#define GRID_ROW_BYTES(file_len, files) (GRID_ROW_HEADER + (files) * GRID_COPY_BYTES(file_len))
+#define GRID_TABLE_BYTES(capacity, file_len, files) (GRID_HEADER + (capacity) * GRID_ROW_BYTES(file_len, files))
 
 /* The bytes of a record, and the patches that a window has room for. */
 enum grid_window { GRID_RECORD = 36, GRID_MAX_PATCHES = 16 };
@@ -117,16 +144,11 @@ static inline uint32_t grid_value(uint64_t result)
     return (uint32_t)result;
 }
 
-/* How many bytes a table of so many rows for a file of so many bytes takes. */
-static inline size_t grid_table_length(size_t capacity, size_t file_len)
-{
-    return GRID_HEADER + capacity * (GRID_ROW_HEADER + file_len + GRID_RECORDS);
-}
-
-/* The same for any form, for a move: the rows of forms 1 and 2 have no records. */
+/* How many bytes a table of an older form takes, for a move: a row of form 3 is its head, the contents, and the records; rows of
+   forms 1 and 2 have no records. */
 static inline size_t grid_length_in(uint64_t form, size_t capacity, size_t file_len)
 {
-    return grid_table_length(capacity, file_len) - (form < GRID_FORM ? capacity * GRID_RECORDS : 0);
+    return GRID_HEADER + capacity * (GRID_ROW_HEADER + file_len + (form == GRID_FORM_3 ? GRID_RECORDS : 0));
 }
 
 /* The set in a list of eight bytes, as a choice leaves it there. */
@@ -144,10 +166,16 @@ static inline uint64_t grid_row(unsigned row)
     return row >= 1 && row <= GRID_MAX_ROWS ? (uint64_t)1 << (row - 1) : 0;
 }
 
-/* How many patches the window of a row has; `row` points to its first byte, and the file has so many bytes. */
-static inline unsigned grid_patches(const uint8_t *row, size_t file_len)
+/* Where in a row its copy of a file begins. Files count from 1, and all have so many bytes. */
+static inline size_t grid_copy(size_t file_len, size_t file)
 {
-    const uint8_t *records = row + GRID_ROW_HEADER + file_len;
+    return GRID_ROW_HEADER + (file - 1) * GRID_COPY_BYTES(file_len);
+}
+
+/* How many patches the window of a copy has; `copy` points to its first byte, and the file has so many bytes. */
+static inline unsigned grid_patches(const uint8_t *copy, size_t file_len)
+{
+    const uint8_t *records = copy + GRID_COPY_HEADER + file_len;
     unsigned patches = 0;
     /* The records in use come first, and each says in its second byte how long its patch is. */
     while (patches < GRID_MAX_PATCHES && records[patches * GRID_RECORD + 1] != 0)
@@ -155,43 +183,49 @@ static inline unsigned grid_patches(const uint8_t *row, size_t file_len)
     return patches;
 }
 
-/* Founds a table: names fill rows 1 upward, the file is all zero. What the table held before is of no account.
-   Value: the rows used. Refusals: 11, 12.
+/* Founds a table of so many files, 1 to 8: names fill rows 1 upward, each file is file_len bytes, all zero. What the table held
+   before is of no account. The table has exactly GRID_TABLE_BYTES. Value: the rows used. Refusals: 11, 12.
 
    The choice is GRID_WIDE or GRID_TALL, and holds for all lists that are ever laid in the table. A tall list lies in the
    published grid with rows and columns exchanged wherever that has one row less than columns (2, 5, 6, 10 to 12, 17 to 20
    members and so on): there a read calls one machine less than in the published grid, and a write needs a longer column whole.
    Found tall what is read hundreds of times for each write. */
 uint64_t grid_found(uint8_t *table, size_t table_len, uint64_t capacity, uint64_t file_len,
-                    const uint8_t *names, size_t names_len, uint64_t choice);
+                    const uint8_t *names, size_t names_len, uint64_t choice, uint64_t files);
 
-/* Reads length bytes from offset on into the buffer. Value: the version read. Refusals: 1 to 7.
+/* Reads length bytes of the file from offset on into the buffer. Value: the version read. Refusals: 1 to 3, 16, 4 to 7.
 
    How many machines were called goes into `called`, a list of one byte (called_len is 1): as many as the coordinator's own
    choice has, if those of it that answered were enough; otherwise all used rows. A refused call writes it too: 0 if it was
-   refused by 1 to 5, for then nobody was called. A list of another length is left alone, and refused by 5 unless another
+   refused by 1 to 5 or by 16, for then nobody was called. A list of another length is left alone, and refused by 5 unless another
    refusal comes first. A done read that its own choice was enough for called one machine of each column of the grid that the
    coordinator's list lies in. */
 uint64_t grid_read(const uint8_t *table, size_t table_len, uint64_t coordinator, uint64_t answering,
                    uint64_t offset, uint64_t length, uint8_t *buffer, size_t buffer_len,
-                   uint8_t *called, size_t called_len);
+                   uint8_t *called, size_t called_len, uint64_t file);
 
-/* Lays the patch over the file from offset on. Value: the new version. Refusals: 1 to 8; 5 is for `called` alone.
+/* Lays the patch over the file from offset on. Value: the new version of that file. Refusals: 1 to 3, 16, 4 to 8; 5 is for
+   `called` alone.
 
    How many machines were called goes into `called` as in a read. A done write that its own choice was enough for called at most
    as many machines as that grid has rows and columns together, less one. */
 uint64_t grid_write(uint8_t *table, size_t table_len, uint64_t coordinator, uint64_t answering,
                     uint64_t offset, const uint8_t *patch, size_t patch_len,
-                    uint8_t *called, size_t called_len);
+                    uint8_t *called, size_t called_len, uint64_t file);
 
-/* Brings the stale row `to` up to the state of the row `from`. Value: the version it then has. Refusals: 1 to 3, 9, 10.
+/* Brings the stale copy of the file in row `to` up to the state of that in row `from`. Value: the version it then has.
+   Refusals: 1 to 3, 16, 9, 10.
 
-   Each row keeps a window on its latest 16 patches of at most 32 bytes; a longer patch empties it. If `to` is no more versions
+   Each copy keeps a window on its latest 16 patches of at most 32 bytes; a longer patch empties it. If `to` is no more versions
    behind `from` than the window of `from` has patches (grid_patches), the missing patches are laid, and nothing is looked at of
-   `from` but its header and its window; else the whole file is copied. `to` takes over the window of `from`. */
-uint64_t grid_send(uint8_t *table, size_t table_len, uint64_t from, uint64_t to, uint64_t answering);
+   `from` but the head of its row, and head and window of its copy; else the whole file is copied. `to` takes over the window. */
+uint64_t grid_send(uint8_t *table, size_t table_len, uint64_t from, uint64_t to, uint64_t answering, uint64_t file);
 
-/* Epoch check: makes the answering rows the list in force. Value: the epoch number in force. Refusals: 1 to 3, 6 to 8.
+/* Epoch check: makes the answering rows the list in force, for all files. Value: the epoch number in force. Refusals: 1 to 3,
+   6 to 8.
+
+   Of each file the copies that lack writes are marked and desire that file's newest version. A check that would change the list
+   is refused by 7 unless the rows that answer are current for every file: one stale file blocks it for all (see above).
 
    Byte 24 of a row is the mark of the grid that its list lies in. In a tall table every list has mark 2, the new one too. In a
    wide table a list of five, founded or laid by a check, lies in 3 rows and 2 columns (mark 1), and every other list in the
@@ -205,8 +239,9 @@ uint64_t grid_check(uint8_t *table, size_t table_len, uint64_t coordinator, uint
 
    The new row may coordinate and answer at once, but it counts in no quorum until a check that it answers takes it into
    the list. Until then its own list is empty: it has no choice of its own, so a read or write that it coordinates works on
-   all that answered. Its version is 0, without a mark. Before the first write it is as good as any row; a send to it is
-   refused by 10 until a check that it answers, or a write that works on all that answered, has marked it. */
+   all that answered. Its copies are of version 0, without a mark. Of a file that was never written it is as good as any
+   row; else a send of that file to it is refused by 10 until a check that it answers, or a write that works on all that answered,
+   has marked its copy. */
 uint64_t grid_join(uint8_t *table, size_t table_len, uint16_t name);
 
 /* The wall chart: lists every smallest write quorum of a list of so many members, 1 to 9, with this grid mark. These are the
@@ -215,8 +250,8 @@ uint64_t grid_join(uint8_t *table, size_t table_len, uint16_t name);
    on, each once; the other bytes stay. The list has at least 128 bytes (GRID_CHART_BYTES). No table is asked.
    Value: how many sets. Refusals: 17, then 5.
 
-   Mark 0 is for lists of any length (of five only in a table that comes from form 1), mark 1 for lists of five, mark 2 for
-   lists of any length in a tall table. Four members with mark 0 give 7, 11, 13, 14. */
+   Mark 0 is for lists of any length (of five only in tables of form 1), mark 1 for lists of five, mark 2 for lists of any length
+   in a tall table. Four members with mark 0 give 7, 11, 13, 14. */
 uint64_t grid_chart(uint64_t length, uint64_t mark, uint8_t *list, size_t list_len);
 
 /* Whom to call: tells the set that the coordinator calls first for a read (kind GRID_READ) or a write (GRID_WRITE). It is the
@@ -226,15 +261,15 @@ uint64_t grid_chart(uint64_t length, uint64_t mark, uint8_t *list, size_t list_l
 
    A row whose own list is empty has no choice: the set is empty and the value 0, and all used rows are called. The coordinator
    need not be in its own choice, but must answer its call; call the choice and the coordinator. If all of them answer, its own
-   list is the list in force and some row of the choice has every done write, that is enough (for a write: below version
-   1,000,000); else call all used rows. Question 1 is put to the whole table, as in every call; after it the choice goes by
+   list is the list in force and some row of the choice has every done write of the file, that is enough (for a write: below
+   version 1,000,000); else call all used rows. Question 1 is put to the whole table, as in every call; after it the choice goes by
    header, names, links and the coordinator's own row alone, so that a table with its own row and no other tells it too (see
    docs/RELAY.md). */
 uint64_t grid_choice(const uint8_t *table, size_t table_len, uint64_t coordinator, uint64_t kind, uint8_t *set, size_t set_len);
 
 /* Carries a table over to another form: from form 1 or 2 up to form 3, with empty windows, or from form 3 down to form 1 or 2,
-   without windows. The new table goes into `to`, which has exactly the length that grid_length_in tells; the old one stays.
-   Value: the rows used. Refusals: 1, 15, 12. A refused move leaves `to` as it is.
+   without windows. Nothing is carried to form 4, or from it. The new table goes into `to`, which has exactly the length that
+   grid_length_in tells; the old one stays. Value: the rows used. Refusals: 1, 15, 12. A refused move leaves `to` as it is.
 
    A table is judged by its own form here. Up and down gives the original bytes; down and up gives the same rows with empty
    windows. Form 1 has no grid mark but 0 and no row without a list: a move to it is refused by 15 if there is one. A table

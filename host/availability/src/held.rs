@@ -1,9 +1,11 @@
 //! A table that machines hold, and the calls that the model makes on it: the library's, the reference's, or both at once.
 
 use dyngrid::{raw, Refusal, Rows, Shape};
-use reference::{Engine, Row, Rules, HEADER, ROW_HEADER};
+use reference::rows::Order;
+use reference::{Engine, Part, Row, Rules};
 
-/// The file has one byte.
+/// There is one file, and it has one byte.
+const FILE: usize = 1;
 const FILE_LEN: usize = 1;
 
 /// A table, and who answers for it. Machines have the names 1 upward, in rows 1 upward.
@@ -14,13 +16,21 @@ pub trait Held: Clone {
     fn send(&mut self, from: usize, to: usize, up: Rows) -> Result<u32, Refusal>;
     fn bytes(&self) -> &[u8];
 
-    /// What a row says before its contents.
+    /// What the head of a row says.
     fn row(&self, row: usize) -> Row {
-        let bytes = self.bytes();
-        let stride = (bytes.len() - HEADER) / usize::from(bytes[1]);
-        let at = HEADER + (row - 1) * stride;
-        Row::read(bytes[at..].first_chunk::<ROW_HEADER>().expect("the row is in the table"))
+        sizes(self.bytes()).row(self.bytes(), row)
     }
+
+    /// What a row says of its copy of the file.
+    fn copy(&self, row: usize) -> Part {
+        sizes(self.bytes()).part(self.bytes(), row, FILE)
+    }
+}
+
+/// Where a well-formed table has its rows, by its first bytes.
+fn sizes(table: &[u8]) -> reference::Table {
+    let rules = Rules::of_form(table[0]).expect("a table is of some form");
+    reference::Table::new(rules, table[1].into(), table[2].into(), FILE_LEN, 1, Order::EMPTY)
 }
 
 /// A founded table of the library.
@@ -35,15 +45,15 @@ impl Held for dyngrid::Table {
     }
 
     fn write(&mut self, by: usize, up: Rows) -> Result<u32, Refusal> {
-        Ok(dyngrid::Table::write(self, by, up, 0, &[1])?.version)
+        Ok(self.file_mut(FILE).write(by, up, 0, &[1])?.version)
     }
 
     fn read(&self, by: usize, up: Rows) -> Result<u32, Refusal> {
-        Ok(dyngrid::Table::read(self, by, up, 0, &mut [0])?.version)
+        Ok(self.file(FILE).read(by, up, 0, &mut [0])?.version)
     }
 
     fn send(&mut self, from: usize, to: usize, up: Rows) -> Result<u32, Refusal> {
-        dyngrid::Table::send(self, from, to, up)
+        self.file_mut(FILE).send(from, to, up)
     }
 
     fn bytes(&self) -> &[u8] {
@@ -83,8 +93,8 @@ impl Second {
             Shape::Wide => raw::WIDE,
             Shape::Tall => raw::TALL,
         };
-        let mut bytes = vec![0; rules.table_length(machines, FILE_LEN)];
-        let founded = engine.found(&mut bytes, machines as u64, FILE_LEN as u64, &names, choice);
+        let mut bytes = vec![0; rules.table_length(machines, FILE_LEN, 1)];
+        let founded = engine.found(&mut bytes, machines as u64, FILE_LEN as u64, &names, choice, 1);
         assert_eq!(founded, machines as u64, "a founding of rising names is done");
         Second { engine, bytes }
     }
@@ -101,15 +111,15 @@ impl Held for Second {
     }
 
     fn write(&mut self, by: usize, up: Rows) -> Result<u32, Refusal> {
-        split(self.engine.write(&mut self.bytes, by as u64, up.bits(), 0, &[1], &mut [0]))
+        split(self.engine.write(&mut self.bytes, by as u64, up.bits(), 0, &[1], &mut [0], FILE as u64))
     }
 
     fn read(&self, by: usize, up: Rows) -> Result<u32, Refusal> {
-        split(self.engine.read(&self.bytes, by as u64, up.bits(), 0, 1, &mut [0], &mut [0]))
+        split(self.engine.read(&self.bytes, by as u64, up.bits(), 0, 1, &mut [0], &mut [0], FILE as u64))
     }
 
     fn send(&mut self, from: usize, to: usize, up: Rows) -> Result<u32, Refusal> {
-        split(self.engine.send(&mut self.bytes, from as u64, to as u64, up.bits()))
+        split(self.engine.send(&mut self.bytes, from as u64, to as u64, up.bits(), FILE as u64))
     }
 
     fn bytes(&self) -> &[u8] {

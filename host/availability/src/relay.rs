@@ -54,10 +54,10 @@ pub fn renewed<T: Held>(table: &T, up: Rows) -> Result<T, String> {
 
 /// Sends to each stale row that is up, from one of the newest version.
 pub fn catch_up<T: Held>(table: &mut T, up: Rows) -> Result<(), Refusal> {
-    let fresh = up.iter().filter(|&row| !table.row(row).stale);
-    let Some(newest) = fresh.max_by_key(|&row| table.row(row).version) else { return Ok(()) };
+    let fresh = up.iter().filter(|&row| !table.copy(row).stale);
+    let Some(newest) = fresh.max_by_key(|&row| table.copy(row).version) else { return Ok(()) };
     for row in up {
-        if table.row(row).stale {
+        if table.copy(row).stale {
             table.send(newest, row, up)?;
         }
     }

@@ -329,11 +329,11 @@ fn the_library_answers_as_the_reference_in_every_state_of_six() {
     }
 }
 
-/// A five carried over from a table of form 1 lies in the published grid, in the library too.
+/// Five in the published grid, as tables of form 1 have them, in the library too.
 #[test]
 fn the_library_judges_a_published_five_as_the_reference_does() {
     let mut bytes = library(5, Shape::Wide).into_bytes();
-    let grid_mark = |row: usize| reference::Table::length(row - 1, 1) + 24;
+    let grid_mark = |row: usize| reference::Table::length(row - 1, 1, 1) + 24;
     (1..=5).for_each(|row| bytes[grid_mark(row)] = 0);
     let five = dyngrid::Table::from_bytes(bytes).expect("a table");
     for held in 0..1 << 5 {

@@ -3,21 +3,30 @@
 use dyngrid::raw;
 use reference::Engine;
 
-/// Who coordinates a read or write, who answers, and from which byte of the file on.
+/// Who coordinates a read or write, who answers, of which file, and from which byte on.
 #[derive(Clone, Copy)]
 pub struct Asked {
     pub coordinator: u64,
     pub answering: u64,
+    pub file: u64,
     pub offset: u64,
+}
+
+/// The sizes of a founding.
+#[derive(Clone, Copy)]
+pub struct Sizes {
+    pub capacity: u64,
+    pub file_len: u64,
+    pub files: u64,
 }
 
 /// Calls on a table's bytes, all with the same arguments for both engines.
 pub trait Calls {
     /// Founds a wide table.
-    fn found(&self, table: &mut [u8], capacity: u64, file_len: u64, names: &[u8]) -> u64;
+    fn found(&self, table: &mut [u8], sizes: Sizes, names: &[u8]) -> u64;
     fn read(&self, table: &[u8], asked: Asked, buffer: &mut [u8], called: &mut [u8]) -> u64;
     fn write(&self, table: &mut [u8], asked: Asked, patch: &[u8], called: &mut [u8]) -> u64;
-    fn send(&self, table: &mut [u8], from: u64, to: u64, answering: u64) -> u64;
+    fn send(&self, table: &mut [u8], from: u64, to: u64, answering: u64, file: u64) -> u64;
     fn check(&self, table: &mut [u8], coordinator: u64, answering: u64) -> u64;
     fn join(&self, table: &mut [u8], name: u16) -> u64;
     fn chart(&self, length: u64, mark: u64, list: &mut [u8]) -> u64;
@@ -29,15 +38,24 @@ pub struct Library;
 
 // SAFETY of the blocks below: each slice is live for the call, and Rust's borrows keep them apart.
 impl Calls for Library {
-    fn found(&self, table: &mut [u8], capacity: u64, file_len: u64, names: &[u8]) -> u64 {
-        let (lent, length) = (names.as_ptr(), names.len());
+    fn found(&self, table: &mut [u8], sizes: Sizes, names: &[u8]) -> u64 {
+        let Sizes { capacity, file_len, files } = sizes;
         unsafe {
-            raw::grid_found(table.as_mut_ptr(), table.len(), capacity, file_len, lent, length, raw::WIDE)
+            raw::grid_found(
+                table.as_mut_ptr(),
+                table.len(),
+                capacity,
+                file_len,
+                names.as_ptr(),
+                names.len(),
+                raw::WIDE,
+                files,
+            )
         }
     }
 
     fn read(&self, table: &[u8], asked: Asked, buffer: &mut [u8], called: &mut [u8]) -> u64 {
-        let Asked { coordinator, answering, offset } = asked;
+        let Asked { coordinator, answering, file, offset } = asked;
         let length = buffer.len();
         let lent = buffer.as_mut_ptr();
         unsafe {
@@ -52,12 +70,13 @@ impl Calls for Library {
                 length,
                 called.as_mut_ptr(),
                 called.len(),
+                file,
             )
         }
     }
 
     fn write(&self, table: &mut [u8], asked: Asked, patch: &[u8], called: &mut [u8]) -> u64 {
-        let Asked { coordinator, answering, offset } = asked;
+        let Asked { coordinator, answering, file, offset } = asked;
         unsafe {
             raw::grid_write(
                 table.as_mut_ptr(),
@@ -69,12 +88,13 @@ impl Calls for Library {
                 patch.len(),
                 called.as_mut_ptr(),
                 called.len(),
+                file,
             )
         }
     }
 
-    fn send(&self, table: &mut [u8], from: u64, to: u64, answering: u64) -> u64 {
-        unsafe { raw::grid_send(table.as_mut_ptr(), table.len(), from, to, answering) }
+    fn send(&self, table: &mut [u8], from: u64, to: u64, answering: u64, file: u64) -> u64 {
+        unsafe { raw::grid_send(table.as_mut_ptr(), table.len(), from, to, answering, file) }
     }
 
     fn check(&self, table: &mut [u8], coordinator: u64, answering: u64) -> u64 {
@@ -100,22 +120,23 @@ impl Calls for Library {
 }
 
 impl Calls for Engine {
-    fn found(&self, table: &mut [u8], capacity: u64, file_len: u64, names: &[u8]) -> u64 {
-        Engine::found(self, table, capacity, file_len, names, raw::WIDE)
+    fn found(&self, table: &mut [u8], sizes: Sizes, names: &[u8]) -> u64 {
+        let Sizes { capacity, file_len, files } = sizes;
+        Engine::found(self, table, capacity, file_len, names, raw::WIDE, files)
     }
 
     fn read(&self, table: &[u8], asked: Asked, buffer: &mut [u8], called: &mut [u8]) -> u64 {
-        let Asked { coordinator, answering, offset } = asked;
-        Engine::read(self, table, coordinator, answering, offset, buffer.len() as u64, buffer, called)
+        let Asked { coordinator, answering, file, offset } = asked;
+        Engine::read(self, table, coordinator, answering, offset, buffer.len() as u64, buffer, called, file)
     }
 
     fn write(&self, table: &mut [u8], asked: Asked, patch: &[u8], called: &mut [u8]) -> u64 {
-        let Asked { coordinator, answering, offset } = asked;
-        Engine::write(self, table, coordinator, answering, offset, patch, called)
+        let Asked { coordinator, answering, file, offset } = asked;
+        Engine::write(self, table, coordinator, answering, offset, patch, called, file)
     }
 
-    fn send(&self, table: &mut [u8], from: u64, to: u64, answering: u64) -> u64 {
-        Engine::send(self, table, from, to, answering)
+    fn send(&self, table: &mut [u8], from: u64, to: u64, answering: u64, file: u64) -> u64 {
+        Engine::send(self, table, from, to, answering, file)
     }
 
     fn check(&self, table: &mut [u8], coordinator: u64, answering: u64) -> u64 {

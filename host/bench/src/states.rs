@@ -3,7 +3,7 @@
 use crate::tasks::{Task, EVERY_TASK};
 use dyngrid::{raw, Rows};
 use reference::rows::{self, Order};
-use reference::{Engine, Grid, Layout, Quorum, Rules, Shape, Table};
+use reference::{Engine, Grid, Layout, Quorum, Rules, Shape, Table, ROW_HEADER};
 
 /// A well-formed table, and the calls that are timed on it.
 pub struct State {
@@ -22,12 +22,10 @@ pub struct State {
     pub newest: u32,
 }
 
-/// Where a row has its stale mark, its version, what it desires, the oldest record's index, and its contents.
-const STALE: usize = 3;
+/// Where a copy has its stale mark, its version, and what it desires.
+const STALE: usize = 0;
 const VERSION: usize = 4;
 const DESIRED: usize = 8;
-const OLDEST: usize = 25;
-const CONTENTS: usize = 32;
 
 /// The patches that a window has room for.
 const PLACES: u32 = 16;
@@ -43,20 +41,26 @@ pub struct Size {
     pub used: usize,
     pub capacity: usize,
     pub file_len: usize,
+    pub files: usize,
 }
 
 const SIZES: [Size; 3] = [
-    Size { title: "4 machines, 64 bytes", used: 4, capacity: 4, file_len: 64 },
-    Size { title: "16 machines, 1,024 bytes", used: 16, capacity: 16, file_len: 1024 },
-    Size { title: "64 machines, 4,096 bytes", used: 64, capacity: 64, file_len: 4096 },
+    Size::new("4 machines, 64 bytes", 4, 64, 1),
+    Size::new("16 machines, 1,024 bytes", 16, 1024, 1),
+    Size::new("64 machines, 4,096 bytes", 64, 4096, 1),
+];
+const GROUPS: [Size; 3] = [
+    Size::new("4 machines, 8 files of 64 bytes", 4, 64, 8),
+    Size::new("16 machines, 8 files of 1,024 bytes", 16, 1024, 8),
+    Size::new("64 machines, 8 files of 4,096 bytes", 64, 4096, 8),
 ];
 /// Sizes of tall tables; twelve lie in four rows and three columns, where a wide table has three and four.
-const TALL_SIZES: [Size; 2] = [
-    Size { title: "12 machines, 1,024 bytes", used: 12, capacity: 12, file_len: 1024 },
-    Size { title: "64 machines, 4,096 bytes", used: 64, capacity: 64, file_len: 4096 },
-];
-const CHARTED: Size = Size { title: "9 machines, 64 bytes", used: 9, capacity: 9, file_len: 64 };
-const SPARSE: Size = Size { title: "5 of 64 rows used, 4,096 bytes", used: 5, capacity: 64, file_len: 4096 };
+const TALL_SIZES: [Size; 2] =
+    [Size::new("12 machines, 1,024 bytes", 12, 1024, 1), Size::new("64 machines, 4,096 bytes", 64, 4096, 1)];
+const CHARTED: Size = Size::new("9 machines, 64 bytes", 9, 64, 1);
+const SPARSE: Size = Size { capacity: 64, ..Size::new("5 of 64 rows used, 4,096 bytes", 5, 4096, 1) };
+const SPARSE_GROUP: Size =
+    Size { capacity: 64, ..Size::new("5 of 64 rows used, 8 files of 4,096 bytes", 5, 4096, 8) };
 
 const SOME_TASKS: &[Task] = &[Task::Read(16), Task::Write(16), Task::Send, Task::CheckSame];
 const SPARSE_TASKS: &[Task] = &[Task::Read(16), Task::Write(16), Task::Send, Task::CheckSame, Task::Join];
@@ -71,6 +75,17 @@ const FULL_TASKS: &[Task] = &[
     Task::CheckNew,
     Task::Choice(raw::WRITE),
     Task::MoveDown,
+];
+const GROUP_TASKS: &[Task] =
+    &[Task::Read(16), Task::Write(16), Task::Send, Task::RefusedSend, Task::CheckSame, Task::CheckNew];
+const FULL_GROUP_TASKS: &[Task] = &[
+    Task::Read(16),
+    Task::Write(16),
+    Task::Send,
+    Task::SendPatches(1),
+    Task::SendPatches(PLACES),
+    Task::CheckSame,
+    Task::CheckNew,
 ];
 const READ_AND_WRITE: &[Task] = &[Task::Read(16), Task::Write(16)];
 const READ_WRITE_AND_CHECK: &[Task] = &[Task::Read(16), Task::Write(16), Task::CheckSame];
@@ -96,6 +111,11 @@ pub fn all() -> Vec<State> {
     states.push(State { tasks: SPARSE_TASKS, ..founded(SPARSE) });
     states.extend(TALL_SIZES.map(tall));
     states.push(full_windows(SIZES[2], LONGEST));
+    states.extend(GROUPS.into_iter().flat_map(|size| {
+        let full = full_windows(size, RESULT);
+        [State { tasks: GROUP_TASKS, ..founded(size) }, State { tasks: FULL_GROUP_TASKS, ..full }]
+    }));
+    states.push(State { tasks: SOME_TASKS, ..founded(SPARSE_GROUP) });
     states.push(State { tasks: &[Task::Chart], ..founded(CHARTED) });
     for state in &states {
         assert!(Table::decode(&state.table).is_some(), "{}: malformed", state.title);
@@ -104,6 +124,11 @@ pub fn all() -> Vec<State> {
 }
 
 impl Size {
+    /// All rows in use.
+    const fn new(title: &'static str, used: usize, file_len: usize, files: usize) -> Size {
+        Size { title, used, capacity: used, file_len, files }
+    }
+
     pub fn names(&self) -> Vec<u8> {
         (1..=self.used).flat_map(name).collect()
     }
@@ -114,7 +139,22 @@ impl Size {
 
     /// Where a row begins.
     pub fn row_at(&self, row: usize) -> usize {
-        Table::length(row - 1, self.file_len)
+        Table::length(row - 1, self.file_len, self.files)
+    }
+
+    /// The file that is read, written and sent: the last.
+    pub fn file(&self) -> usize {
+        self.files
+    }
+
+    /// How many bytes a copy takes.
+    pub fn copy_len(&self) -> usize {
+        Rules::Newest.part_length(self.file_len)
+    }
+
+    /// Where a row has its copy of a file.
+    pub fn copy_at(&self, row: usize, file: usize) -> usize {
+        self.row_at(row) + ROW_HEADER + (file - 1) * self.copy_len()
     }
 }
 
@@ -133,8 +173,9 @@ fn tall(size: Size) -> State {
 }
 
 fn founded_as(size: Size, choice: u64) -> State {
-    let mut table = vec![0; Table::length(size.capacity, size.file_len)];
-    Engine::default().found(&mut table, size.capacity as u64, size.file_len as u64, &size.names(), choice);
+    let mut table = vec![0; Table::length(size.capacity, size.file_len, size.files)];
+    let (capacity, file_len, files) = (size.capacity as u64, size.file_len as u64, size.files as u64);
+    Engine::default().found(&mut table, capacity, file_len, &size.names(), choice, files);
     let answering = rows::first(size.used);
     let title = size.title("founded");
     State {
@@ -150,39 +191,40 @@ fn founded_as(size: Size, choice: u64) -> State {
     }
 }
 
-/// Every row has every write, and a full window on patches of so many bytes.
+/// Every row has every write of every file, and full windows on patches of so many bytes.
 fn full_windows(size: Size, patch_len: usize) -> State {
     let mut state = founded(size);
     let copy = written(size.file_len, WRITES, patch_len);
-    (1..=size.used).for_each(|row| lay_copy(&mut state.table[size.row_at(row)..], &copy));
+    for (row, file) in (1..=size.used).flat_map(|row| (1..=size.files).map(move |file| (row, file))) {
+        lay_copy(&mut state.table[size.copy_at(row, file)..], &copy);
+    }
     let title = size.title(&format!("windows full of {patch_len} bytes each"));
     State { title, tasks: FULL_TASKS, kept: PLACES, patch_len, newest: WRITES, ..state }
 }
 
-/// A row after so many writes of so many bytes, each in another place if there are enough.
+/// A copy after so many writes of so many bytes, each in another place if there are enough.
 fn written(file_len: usize, writes: u32, patch_len: usize) -> Vec<u8> {
     let mut table = dyngrid::Table::found(1, file_len, &[1], dyngrid::Shape::Wide).expect("a plain founding");
     let places = file_len / (patch_len + 1);
     for write in 0..writes as usize {
         let offset = write % places * (patch_len + 1);
         let patch = vec![write as u8 + 1; patch_len];
-        table.write(1, Rows::first(1), offset, &patch).expect("one is enough");
+        table.file_mut(1).write(1, Rows::first(1), offset, &patch).expect("one is enough");
     }
-    table.row_bytes(1).expect("in use").to_vec()
+    let copy = table.file(1).range().expect("a file of the group");
+    table.row_bytes(1).expect("in use")[copy].to_vec()
 }
 
-/// Gives the row that begins here the version, contents and window of another.
-fn lay_copy(row: &mut [u8], copy: &[u8]) {
-    for part in [VERSION..DESIRED, OLDEST..OLDEST + 1, CONTENTS..copy.len()] {
-        row[part.clone()].copy_from_slice(&copy[part]);
-    }
+/// Puts a copy in the place of the one that begins here.
+fn lay_copy(place: &mut [u8], copy: &[u8]) {
+    place[..copy.len()].copy_from_slice(copy);
 }
 
-/// Marks the row that begins here: of this version, desiring another.
-pub fn make_stale(table: &mut [u8], row: usize, version: u32, desired: u32) {
-    table[row + STALE] = 1;
-    table[row + VERSION..row + DESIRED].copy_from_slice(&version.to_le_bytes());
-    table[row + DESIRED..row + DESIRED + 4].copy_from_slice(&desired.to_le_bytes());
+/// Marks the copy that begins here: of this version, desiring another.
+pub fn make_stale(table: &mut [u8], copy: usize, version: u32, desired: u32) {
+    table[copy + STALE] = 1;
+    table[copy + VERSION..copy + DESIRED].copy_from_slice(&version.to_le_bytes());
+    table[copy + DESIRED..copy + DESIRED + 4].copy_from_slice(&desired.to_le_bytes());
 }
 
 impl State {
@@ -191,12 +233,10 @@ impl State {
         let (mut table, size) = (self.table.clone(), self.size);
         if behind > 0 && self.kept == 0 {
             // Row 1 has a version that its empty window says nothing of.
-            table[size.row_at(1) + VERSION] = self.newest as u8;
+            table[size.copy_at(1, size.file()) + VERSION] = self.newest as u8;
         } else if behind > 0 {
-            lay_copy(
-                &mut table[size.row_at(2)..],
-                &written(size.file_len, self.newest - behind, self.patch_len),
-            );
+            let copy = written(size.file_len, self.newest - behind, self.patch_len);
+            lay_copy(&mut table[size.copy_at(2, size.file())..], &copy);
         }
         table
     }

@@ -1,9 +1,9 @@
 //! The calls that are timed.
 
-use crate::engines::{Asked, Calls};
+use crate::engines::{Asked, Calls, Sizes};
 use crate::states::{self, State};
-use dyngrid::{raw, OlderForm, Rows, Table};
-use reference::{rows, CHART_PLACES};
+use dyngrid::{raw, Form3Table, OlderForm, Rows, Table};
+use reference::{rows, Rules, CHART_PLACES, ROW_HEADER};
 use std::fmt;
 use std::hint::black_box;
 use std::ops::Range;
@@ -31,14 +31,14 @@ pub enum Task {
     Chart,
     /// Whom to call, for a read or a write.
     Choice(u64),
-    /// From form 2 up to the newest, and from that down to form 2.
+    /// From form 2 up to form 3, and from that down to form 2, of a table with the same rows.
     MoveUp,
     MoveDown,
 }
 
 /// The forms that tables are moved between.
-const OLDER: u64 = 2;
-const NEWEST: u64 = 3;
+const DOWN: OlderForm = OlderForm::Two;
+const UP: OlderForm = OlderForm::Three;
 
 pub const EVERY_TASK: [Task; 13] = [
     Task::Found,
@@ -100,29 +100,33 @@ impl Task {
             Task::Read(length) | Task::Write(length) => vec![7; length.min(size.file_len)],
             Task::Chart => vec![7; 2 * CHART_PLACES],
             Task::Choice(_) => vec![7; 8],
-            Task::MoveUp => vec![7; table.len()],
-            Task::MoveDown => carried_down(&table),
             _ => Vec::new(),
         };
-        if let Task::MoveUp = self {
-            table = carried_down(&table);
+        if let Task::MoveUp | Task::MoveDown = self {
+            let form_3 = in_form_3(&table);
+            let form_2 = form_3.carry_down(DOWN).expect("form 2 holds every table");
+            // The second buffer has the length of the other form; what it holds is of no account.
+            (table, bytes) = (form_2, form_3.into_bytes());
+            if let Task::MoveDown = self {
+                std::mem::swap(&mut table, &mut bytes);
+            }
         }
-        let two = size.row_at(2);
+        let (file, receiver) = (size.file() as u64, size.copy_at(2, size.file()));
+        let sizes = Sizes {
+            capacity: size.capacity as u64,
+            file_len: size.file_len as u64,
+            files: size.files as u64,
+        };
         let (middle, next) = (size.used / 2, size.used + 1);
         let name = u16::from_le_bytes(states::name(middle)) + 1;
         let newest = state.newest;
-        let asked = Asked { coordinator, answering, offset: 0 };
+        let asked = Asked { coordinator, answering, file, offset: 0 };
         let mut called = [0];
         let mut result = 0;
         let started = Instant::now();
         for call in 0..calls {
             result = match self {
-                Task::Found => engine.found(
-                    black_box(&mut table),
-                    size.capacity as u64,
-                    size.file_len as u64,
-                    black_box(&names),
-                ),
+                Task::Found => engine.found(black_box(&mut table), sizes, black_box(&names)),
                 Task::Read(_) => {
                     engine.read(black_box(&table), asked, black_box(&mut bytes), black_box(&mut called))
                 }
@@ -130,10 +134,10 @@ impl Task {
                     engine.write(black_box(&mut table), asked, black_box(&bytes), black_box(&mut called))
                 }
                 Task::Send | Task::SendPatches(_) => {
-                    states::make_stale(&mut table, two, newest - behind, newest);
-                    engine.send(black_box(&mut table), 1, 2, 3)
+                    states::make_stale(&mut table, receiver, newest - behind, newest);
+                    engine.send(black_box(&mut table), 1, 2, 3, file)
                 }
-                Task::RefusedSend => engine.send(black_box(&mut table), 1, 2, 3),
+                Task::RefusedSend => engine.send(black_box(&mut table), 1, 2, 3, file),
                 Task::CheckSame => engine.check(black_box(&mut table), coordinator, all),
                 Task::CheckNew => {
                     let set = if call % 2 == 0 { but_one } else { all };
@@ -147,8 +151,10 @@ impl Task {
                 Task::Choice(kind) => {
                     engine.choice(black_box(&table), coordinator, kind, black_box(&mut bytes))
                 }
-                Task::MoveUp => engine.carry(black_box(&table), NEWEST, black_box(&mut bytes)),
-                Task::MoveDown => engine.carry(black_box(&table), OLDER, black_box(&mut bytes)),
+                Task::MoveUp => engine.carry(black_box(&table), UP.number().into(), black_box(&mut bytes)),
+                Task::MoveDown => {
+                    engine.carry(black_box(&table), DOWN.number().into(), black_box(&mut bytes))
+                }
             };
             assert!(black_box(result) >> 32 == self.refusal(), "{}: {self} has another refusal", state.title);
         }
@@ -173,14 +179,14 @@ impl Task {
             return None;
         }
         let mut table = state.with_receiver(behind);
-        states::make_stale(&mut table, size.row_at(2), newest - behind, newest);
+        states::make_stale(&mut table, size.copy_at(2, size.file()), newest - behind, newest);
         let before = Table::from_bytes(table).expect("well formed");
         let mut after = before.clone();
-        after.send(1, 2, Rows::first(2)).expect("row 2 is stale");
+        after.file_mut(size.file()).send(1, 2, Rows::first(2)).expect("row 2 is stale");
         let ranges = after.changed_ranges(&before, 2);
-        let row = size.row_at(2) - size.row_at(1);
+        let given = ROW_HEADER + size.copy_len();
         Some(Carried {
-            given: if behind <= kept { row - size.file_len } else { row },
+            given: if behind <= kept { given - size.file_len } else { given },
             changed: ranges.iter().map(Range::len).sum(),
             ranges: ranges.len(),
         })
@@ -189,7 +195,7 @@ impl Task {
 
 /// What a send carries, in bytes.
 pub struct Carried {
-    /// What the sender's machine gives: its row, without the file if the send is by window.
+    /// What the sender's machine gives: the head of its row and its copy of the file, without the contents if the send is by window.
     pub given: usize,
     /// What changes in the receiver's row.
     pub changed: usize,
@@ -207,10 +213,20 @@ pub struct Left {
     result: u64,
 }
 
-/// The table in the older form.
-fn carried_down(table: &[u8]) -> Vec<u8> {
-    let table = Table::from_bytes(table.to_vec()).expect("well formed");
-    table.carry_down(OlderForm::Two).expect("form 2 holds every table")
+/// The rows of a table of one file, in form 3.
+fn in_form_3(newest: &[u8]) -> Form3Table {
+    let table = reference::Table::decode(newest).expect("well formed");
+    let reference::Table { capacity, used, file_len, files, .. } = table;
+    let older = reference::Table::new(Rules::OneFile, capacity, used, file_len, files, table.chain);
+    let mut bytes = vec![0; Rules::OneFile.table_length(capacity, file_len, files)];
+    older.write_header(&mut bytes, newest[3].into());
+    for row in 1..=used {
+        older.write_row(&mut bytes, row, &table.row(newest, row));
+        older.write_part(&mut bytes, row, 1, &table.part(newest, row, 1));
+        older.contents_mut(&mut bytes, row, 1).copy_from_slice(table.contents(newest, row, 1));
+        *older.window_mut(&mut bytes, row, 1) = *table.window(newest, row, 1);
+    }
+    Form3Table::from_bytes(bytes).expect("the rules are the same")
 }
 
 /// Takes the row that begins at `joined` out of the chain, if it is in; it comes behind the row that begins at `before`.

@@ -7,7 +7,7 @@ use std::ffi::c_int;
 use std::sync::atomic::{AtomicPtr, AtomicU64, Ordering};
 
 /// A little above the longest table that a case can have, which is the longest list too: the second buffer of a move.
-const LONGEST_TABLE: usize = 310_000;
+const LONGEST_TABLE: usize = 2_710_000;
 const LONGEST_CALLED: usize = 16;
 
 pub struct Archive {
@@ -67,10 +67,10 @@ impl Archive {
         // SAFETY: table, list and called are three slices of these lengths in three mappings.
         unsafe {
             match *call {
-                Call::Found { capacity, file_len, choice, .. } => {
-                    raw::grid_found(table, table_len, capacity, file_len, list, list_len, choice)
+                Call::Found { capacity, file_len, choice, files, .. } => {
+                    raw::grid_found(table, table_len, capacity, file_len, list, list_len, choice, files)
                 }
-                Call::Read { coordinator, answering, offset, length, .. } => raw::grid_read(
+                Call::Read { coordinator, answering, offset, length, file, .. } => raw::grid_read(
                     table,
                     table_len,
                     coordinator,
@@ -81,8 +81,9 @@ impl Archive {
                     list_len,
                     called,
                     called_len,
+                    file,
                 ),
-                Call::Write { coordinator, answering, offset, .. } => raw::grid_write(
+                Call::Write { coordinator, answering, offset, file, .. } => raw::grid_write(
                     table,
                     table_len,
                     coordinator,
@@ -92,8 +93,11 @@ impl Archive {
                     list_len,
                     called,
                     called_len,
+                    file,
                 ),
-                Call::Send { from, to, answering } => raw::grid_send(table, table_len, from, to, answering),
+                Call::Send { from, to, answering, file } => {
+                    raw::grid_send(table, table_len, from, to, answering, file)
+                }
                 Call::Check { coordinator, answering } => {
                     raw::grid_check(table, table_len, coordinator, answering)
                 }

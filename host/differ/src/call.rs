@@ -10,6 +10,7 @@ pub enum Call {
         file_len: u64,
         names: Vec<u8>,
         choice: u64,
+        files: u64,
     },
     Read {
         coordinator: u64,
@@ -18,6 +19,7 @@ pub enum Call {
         length: u64,
         buffer: Vec<u8>,
         called: Vec<u8>,
+        file: u64,
     },
     Write {
         coordinator: u64,
@@ -25,11 +27,13 @@ pub enum Call {
         offset: u64,
         patch: Vec<u8>,
         called: Vec<u8>,
+        file: u64,
     },
     Send {
         from: u64,
         to: u64,
         answering: u64,
+        file: u64,
     },
     Check {
         coordinator: u64,
@@ -81,6 +85,22 @@ impl Call {
             Call::Chart { .. } => 6,
             Call::Choice { .. } => 7,
             Call::Move { .. } => 8,
+        }
+    }
+
+    /// The file that a read, write or send names.
+    pub fn file(&self) -> Option<u64> {
+        match *self {
+            Call::Read { file, .. } | Call::Write { file, .. } | Call::Send { file, .. } => Some(file),
+            _ => None,
+        }
+    }
+
+    /// Lets a read, write or send name another file.
+    pub fn rename_file(&mut self, to: u64) {
+        match self {
+            Call::Read { file, .. } | Call::Write { file, .. } | Call::Send { file, .. } => *file = to,
+            _ => {}
         }
     }
 
@@ -144,16 +164,16 @@ impl Call {
         let mut lent = self.lent().unwrap_or_default().to_vec();
         let mut number = self.called().unwrap_or_default().to_vec();
         let result = match self {
-            Call::Found { capacity, file_len, names, choice } => {
-                engine.found(table, *capacity, *file_len, names, *choice)
+            Call::Found { capacity, file_len, names, choice, files } => {
+                engine.found(table, *capacity, *file_len, names, *choice, *files)
             }
-            Call::Read { coordinator, answering, offset, length, .. } => {
-                engine.read(table, *coordinator, *answering, *offset, *length, &mut lent, &mut number)
+            Call::Read { coordinator, answering, offset, length, file, .. } => {
+                engine.read(table, *coordinator, *answering, *offset, *length, &mut lent, &mut number, *file)
             }
-            Call::Write { coordinator, answering, offset, patch, .. } => {
-                engine.write(table, *coordinator, *answering, *offset, patch, &mut number)
+            Call::Write { coordinator, answering, offset, patch, file, .. } => {
+                engine.write(table, *coordinator, *answering, *offset, patch, &mut number, *file)
             }
-            Call::Send { from, to, answering } => engine.send(table, *from, *to, *answering),
+            Call::Send { from, to, answering, file } => engine.send(table, *from, *to, *answering, *file),
             Call::Check { coordinator, answering } => engine.check(table, *coordinator, *answering),
             Call::Join { name } => engine.join(table, *name),
             Call::Chart { length, mark, .. } => engine.chart(*length, *mark, &mut lent),
@@ -167,21 +187,22 @@ impl Call {
 impl fmt::Display for Call {
     fn fmt(&self, f: &mut fmt::Formatter) -> fmt::Result {
         match self {
-            Call::Found { capacity, file_len, names, choice } => {
-                write!(f, "grid_found(capacity {capacity}, file {file_len}, names {}", names_shown(names))?;
-                write!(f, ", choice {choice})")
+            Call::Found { capacity, file_len, names, choice, files } => {
+                write!(f, "grid_found(capacity {capacity}, length {file_len}, names {}", names_shown(names))?;
+                write!(f, ", choice {choice}, files {files})")
             }
-            Call::Read { coordinator, answering, offset, length, buffer, called } => {
+            Call::Read { coordinator, answering, offset, length, buffer, called, file } => {
                 write!(f, "grid_read(coordinator {coordinator}, answering {}", set_shown(*answering))?;
                 write!(f, ", offset {offset}, length {length}, buffer of {} bytes", buffer.len())?;
-                write!(f, ", called {})", bytes_shown(called))
+                write!(f, ", called {}, file {file})", bytes_shown(called))
             }
-            Call::Write { coordinator, answering, offset, patch, called } => {
+            Call::Write { coordinator, answering, offset, patch, called, file } => {
                 write!(f, "grid_write(coordinator {coordinator}, answering {}", set_shown(*answering))?;
-                write!(f, ", offset {offset}, patch {}, called {})", bytes_shown(patch), bytes_shown(called))
+                write!(f, ", offset {offset}, patch {}", bytes_shown(patch))?;
+                write!(f, ", called {}, file {file})", bytes_shown(called))
             }
-            Call::Send { from, to, answering } => {
-                write!(f, "grid_send(from {from}, to {to}, answering {})", set_shown(*answering))
+            Call::Send { from, to, answering, file } => {
+                write!(f, "grid_send(from {from}, to {to}, answering {}, file {file})", set_shown(*answering))
             }
             Call::Check { coordinator, answering } => {
                 write!(f, "grid_check(coordinator {coordinator}, answering {})", set_shown(*answering))

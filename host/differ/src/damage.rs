@@ -2,29 +2,56 @@
 
 use crate::random::Random;
 use crate::tables::{self, Picture, Size};
-use reference::window::{LONGEST_PATCH, RECORD, RECORDS};
-use reference::{rows, Rules, Shape, Table, FORM, HEADER, LIMIT, ROW_HEADER, TALL};
+use reference::window::{LONGEST_PATCH, RECORD, RECORDS, WINDOW};
+use reference::{
+    rows, Rules, Shape, Table, FORM, HEADER, LIMIT, MAX_FILES, OLDEST, PART_HEADER, ROW_HEADER, TALL,
+};
+use std::ops::Deref;
 
 /// Breaks one rule of a well-formed table.
-pub type Damage = fn(&mut Vec<u8>, &Picture, &mut Random);
+pub type Damage = fn(&mut Vec<u8>, &Target, &mut Random);
+
+/// A well-formed table, and the file in whose part a rule is broken if it is a rule of parts.
+pub struct Target {
+    table: Picture,
+    pub file: usize,
+}
+
+impl Deref for Target {
+    type Target = Picture;
+
+    fn deref(&self) -> &Picture {
+        &self.table
+    }
+}
 
 /// What a table must have for a rule to be broken, besides two used rows.
 #[derive(Clone, Copy, PartialEq, Eq)]
 pub enum Needs {
     Nothing,
+    /// Nothing; it is a rule of what a row says of a file.
+    File,
     /// A number that is no used row, but has a bit in a list.
     FewerThan64,
     UnusedRow,
     /// So many used rows.
     Rows(usize),
-    /// Windows, and a file that is longer than a record's patch.
+    /// Windows, and a file that is longer than a record's patch; it is a rule of what a row says of a file.
     Windows,
     /// No windows.
     NoWindows,
+    /// A part for each file.
+    Parts,
+    /// The same; it is a rule of a part.
+    Part,
+    /// A part for each file, and an unused row.
+    UnusedParts,
     /// The scope's rules alone, and so many used rows.
     Scope(usize),
 }
-use Needs::{FewerThan64, NoWindows, Nothing, Rows, Scope, UnusedRow, Windows};
+use Needs::{
+    FewerThan64, File, NoWindows, Nothing, Part, Parts, Rows, Scope, UnusedParts, UnusedRow, Windows,
+};
 
 impl Needs {
     /// Can a table of this form be damaged so?
@@ -32,13 +59,23 @@ impl Needs {
         match self {
             Windows => rules.has_windows(),
             NoWindows => !rules.has_windows(),
+            Parts | Part | UnusedParts => rules.has_parts(),
             Scope(_) => rules == Rules::Published,
-            Nothing | FewerThan64 | UnusedRow | Rows(_) => true,
+            Nothing | File | FewerThan64 | UnusedRow | Rows(_) => true,
         }
+    }
+
+    /// Is it a rule of what a row says of a file?
+    pub fn of_a_file(self) -> bool {
+        matches!(self, File | Windows | Part)
+    }
+
+    fn unused_row(self) -> bool {
+        matches!(self, UnusedRow | UnusedParts)
     }
 }
 
-pub const RULES: [(&str, Needs, Damage); 78] = [
+pub const RULES: [(&str, Needs, Damage); 85] = [
     ("empty", Nothing, |bytes, _, _| bytes.clear()),
     ("truncated", Nothing, |bytes, _, random| bytes.truncate(random.between(1, bytes.len() - 2))),
     ("a byte short", Nothing, |bytes, _, _| bytes.truncate(bytes.len() - 1)),
@@ -46,15 +83,20 @@ pub const RULES: [(&str, Needs, Damage); 78] = [
     ("a row short", Nothing, |bytes, table, _| bytes.truncate(bytes.len() - stride(table))),
     ("a row over", Nothing, |bytes, table, _| bytes.resize(bytes.len() + stride(table), 0)),
     ("form", Nothing, |bytes, _, random| bytes[0] = random.pick(&[0, FORM + 1, 6, 255])),
-    ("form of tables without windows", Windows, |bytes, _, random| bytes[0] = random.pick(&[1, 2])),
-    ("form of tables with windows", NoWindows, |bytes, _, _| bytes[0] = FORM),
+    ("form of other rows", Nothing, |bytes, table, random| {
+        bytes[0] = random.pick(match table.rules {
+            Rules::Published | Rules::Windowless => &[3, 4],
+            Rules::OneFile => &[1, 2, 4],
+            Rules::Newest => &[1, 2, 3],
+        });
+    }),
     ("rows without windows", Windows, |bytes, table, _| {
-        *bytes = tables::without_windows(bytes, Rules::Windowless);
-        bytes[0] = table.rules.form();
+        let length = table.rules.part_length(table.file_len) - WINDOW;
+        reshape(bytes, table, table.files, length, length);
     }),
     ("rows with windows", NoWindows, |bytes, table, _| {
-        *bytes = tables::with_empty_windows(bytes);
-        bytes[0] = table.rules.form();
+        let length = table.rules.part_length(table.file_len);
+        reshape(bytes, table, 1, length + WINDOW, length);
     }),
     ("oldest record of no window", NoWindows, |bytes, table, random| {
         put(bytes, table, any_row(table, random), OLDEST, &[random.pick(&[1, 16, 255])]);
@@ -72,7 +114,7 @@ pub const RULES: [(&str, Needs, Damage); 78] = [
     }),
     ("capacity 65", Nothing, |bytes, table, _| {
         bytes[1] = 65;
-        bytes.resize(table.rules.table_length(65, table.file_len), 0);
+        bytes.resize(table.rules.table_length(65, table.file_len, table.files), 0);
     }),
     ("no row used", Nothing, |bytes, _, _| bytes[2] = 0),
     ("fewer used than there are", Nothing, |bytes, _, _| bytes[2] -= 1),
@@ -85,8 +127,15 @@ pub const RULES: [(&str, Needs, Damage); 78] = [
     }),
     ("file length 0", Nothing, |bytes, table, _| restride(bytes, table, 0)),
     ("file length 4097", Nothing, |bytes, table, _| restride(bytes, table, 4097)),
-    ("header not zero", Nothing, |bytes, _, random| {
-        bytes[random.between(6, 15)] = random.pick(&[1, 128, 255])
+    ("no file", Parts, |bytes, table, _| regroup(bytes, table, 0)),
+    ("nine files", Parts, |bytes, table, _| regroup(bytes, table, MAX_FILES + 1)),
+    ("another number of files", Parts, |bytes, table, random| {
+        bytes[FILES] = random.pick(&[0, 9, 255, table.files as u8 + 1, table.files as u8 - 1]);
+    }),
+    ("header not zero", Nothing, |bytes, table, random| {
+        let first = if table.rules.has_parts() { FILES + 1 } else { FILES };
+        let any = random.between(first, HEADER - 1);
+        bytes[random.pick(&[first, any])] = random.pick(&[1, 128, 255]);
     }),
     ("name 0", Nothing, |bytes, table, _| put(bytes, table, table.at(0), 0, &[0, 0])),
     ("link out of range", Nothing, |bytes, table, random| {
@@ -113,22 +162,32 @@ pub const RULES: [(&str, Needs, Damage); 78] = [
         put(bytes, table, one, 0, &table.row(two).name.to_le_bytes());
         put(bytes, table, two, 0, &table.row(one).name.to_le_bytes());
     }),
-    ("stale mark above 1", Nothing, |bytes, table, random| {
-        put(bytes, table, any_row(table, random), 3, &[random.pick(&[2, 129, 255])])
+    ("stale mark above 1", File, |bytes, table, random| {
+        put_numbers(
+            bytes,
+            table,
+            any_row(table, random),
+            random.pick(&[2, 129, 255]),
+            3,
+            random.pick(&[0, 4]),
+        );
     }),
-    ("number above the limit", Nothing, |bytes, table, random| {
+    ("epoch above the limit", Nothing, |bytes, table, random| {
+        let above = random.pick(&[LIMIT + 1, 1 << 24, u32::MAX]);
+        put(bytes, table, any_row(table, random), 12, &above.to_le_bytes());
+    }),
+    ("version or desired version above the limit", File, |bytes, table, random| {
         let row = any_row(table, random);
         let above = random.pick(&[LIMIT + 1, 1 << 24, u32::MAX]);
-        match random.between(0, 2) {
+        match random.between(0, 1) {
             0 => put_numbers(bytes, table, row, 0, above, 0),
-            1 => put_numbers(bytes, table, row, 1, LIMIT - 1, above),
-            _ => put(bytes, table, row, 12, &above.to_le_bytes()),
+            _ => put_numbers(bytes, table, row, 1, LIMIT - 1, above),
         }
     }),
-    ("desired without the mark", Nothing, |bytes, table, random| {
+    ("desired without the mark", File, |bytes, table, random| {
         put_numbers(bytes, table, any_row(table, random), 0, 3, random.pick(&[1, 3, 4, LIMIT]));
     }),
-    ("desired not above the version", Nothing, |bytes, table, random| {
+    ("desired not above the version", File, |bytes, table, random| {
         let version = random.pick(&[0, 1, 256, LIMIT]);
         let desired = random.pick(&[0, version / 2, version]);
         put_numbers(bytes, table, any_row(table, random), 1, version, desired);
@@ -215,11 +274,11 @@ pub const RULES: [(&str, Needs, Damage); 78] = [
         let row = unlisted_row(bytes, table, random);
         put(bytes, table, row, 0, &[0, 0]);
     }),
-    ("joined row, stale mark above 1", Nothing, |bytes, table, random| {
+    ("joined row, stale mark above 1", File, |bytes, table, random| {
         let row = unlisted_row(bytes, table, random);
-        put(bytes, table, row, 3, &[2]);
+        put_numbers(bytes, table, row, 2, 0, random.pick(&[0, 1]));
     }),
-    ("joined row, version above the limit", Nothing, |bytes, table, random| {
+    ("joined row, version above the limit", File, |bytes, table, random| {
         let row = unlisted_row(bytes, table, random);
         put_numbers(bytes, table, row, 0, LIMIT + 1, 0);
     }),
@@ -227,18 +286,18 @@ pub const RULES: [(&str, Needs, Damage); 78] = [
         let row = unlisted_row(bytes, table, random);
         put(bytes, table, row, 12, &(LIMIT + 1).to_le_bytes());
     }),
-    ("joined row, desired without the mark", Nothing, |bytes, table, random| {
+    ("joined row, desired without the mark", File, |bytes, table, random| {
         let row = unlisted_row(bytes, table, random);
         put_numbers(bytes, table, row, 0, 0, random.pick(&[1, LIMIT]));
     }),
-    ("joined row, desired not above the version", Nothing, |bytes, table, random| {
+    ("joined row, desired not above the version", File, |bytes, table, random| {
         let version = random.pick(&[0, 5]);
         let row = unlisted_row(bytes, table, random);
         put_numbers(bytes, table, row, 1, version, version);
     }),
     ("joined row not zero", Nothing, |bytes, table, random| {
         let row = unlisted_row(bytes, table, random);
-        put(bytes, table, row, random.between(26, 31), &[1]);
+        put(bytes, table, row, spare_byte(table, random), &[1]);
     }),
     ("joined row, list of another row", Nothing, |bytes, table, random| {
         let row = any_row(table, random);
@@ -251,23 +310,35 @@ pub const RULES: [(&str, Needs, Damage); 78] = [
     }),
     ("row not zero", Nothing, |bytes, table, random| {
         let value = random.pick(&[1, 128, 255]);
-        put(bytes, table, any_row(table, random), random.between(26, 31), &[value]);
+        put(bytes, table, any_row(table, random), spare_byte(table, random), &[value]);
     }),
-    ("byte 26 of a row", Windows, |bytes, table, random| {
+    ("row not zero where older forms have a file's numbers", Parts, |bytes, table, random| {
+        let value = random.pick(&[1, 128, 255]);
+        put(bytes, table, any_row(table, random), random.between(3, 11), &[value]);
+    }),
+    ("row not zero where form 3 has the oldest record", Parts, |bytes, table, random| {
+        put(bytes, table, any_row(table, random), OLDEST, &[random.pick(&[1, 16, 255])]);
+    }),
+    ("part not zero", Part, |bytes, table, random| {
+        let at = table.part_at(any_row(table, random), table.file) + random.pick(&[2, 3]);
+        bytes[at] = random.pick(&[1, 128, 255]);
+    }),
+    ("byte behind the oldest record", Windows, |bytes, table, random| {
         let (row, _) = windowed_row(bytes, table, random, 0, RECORDS);
-        put(bytes, table, row, 26, &[random.pick(&[1, 16, 255])]);
+        let at = oldest_at(table, row) + 1;
+        bytes[at] = random.pick(&[1, 16, 255]);
     }),
     ("window: oldest 0, and there are records", Windows, |bytes, table, random| {
         let (row, _) = windowed_row(bytes, table, random, 1, RECORDS);
-        put(bytes, table, row, OLDEST, &[0]);
+        put_oldest(bytes, table, row, 0);
     }),
     ("window: oldest is an empty record", Windows, |bytes, table, random| {
         let (row, order) = windowed_row(bytes, table, random, 0, RECORDS - 1);
-        put(bytes, table, row, OLDEST, &[random.between(order.len() + 1, RECORDS) as u8]);
+        put_oldest(bytes, table, row, random.between(order.len() + 1, RECORDS) as u8);
     }),
     ("window: oldest 17", Windows, |bytes, table, random| {
         let (row, _) = windowed_row(bytes, table, random, 0, RECORDS);
-        put(bytes, table, row, OLDEST, &[random.pick(&[17, 17, 128, 255])]);
+        put_oldest(bytes, table, row, random.pick(&[17, 17, 128, 255]));
     }),
     ("window: in a ring", Windows, |bytes, table, random| {
         let (row, order) = windowed_row(bytes, table, random, 1, RECORDS);
@@ -290,7 +361,7 @@ pub const RULES: [(&str, Needs, Damage); 78] = [
         bytes.copy_within(moved.clone(), moved.end);
         bytes[moved].fill(0);
         match order.iter().position(|&record| record == last) {
-            Some(0) => put(bytes, table, row, OLDEST, &[last + 1]),
+            Some(0) => put_oldest(bytes, table, row, last + 1),
             Some(place) => put_record(bytes, table, row, order[place - 1], NEXT, &[last + 1]),
             None => unreachable!("the last record is in the chain"),
         }
@@ -301,12 +372,13 @@ pub const RULES: [(&str, Needs, Damage); 78] = [
     }),
     ("window: more records than versions", Windows, |bytes, table, random| {
         let (row, order) = windowed_row(bytes, table, random, 1, RECORDS);
-        put_numbers(bytes, table, row, 0, order.len() as u32 - 1, 0);
+        put_version(bytes, table, row, order.len() as u32 - 1);
     }),
     ("window: first or last byte of the rest", Windows, |bytes, table, random| {
         let (row, order) = windowed_row(bytes, table, random, 0, RECORDS - 1);
         let first = record_at(table, row, order.len() as u8 + 1);
-        bytes[random.pick(&[first, table.row_at(row + 1) - 1])] = random.pick(&[1, 16, 255]);
+        bytes[random.pick(&[first, record_at(table, row, RECORDS as u8 + 1) - 1])] =
+            random.pick(&[1, 16, 255]);
     }),
     ("window: patch of no byte", Windows, |bytes, table, random| {
         let (row, order) = windowed_row(bytes, table, random, 1, RECORDS);
@@ -342,54 +414,77 @@ pub const RULES: [(&str, Needs, Damage); 78] = [
         let at = random.pick(&[table.row_at(row), table.row_at(row + 1) - 1, bytes.len() - 1]);
         bytes[at] = 1;
     }),
+    ("last part of an unused row not zero", UnusedParts, |bytes, table, random| {
+        let row = random.between(table.used + 1, table.capacity);
+        let part = table.part_at(row, table.files);
+        let at = random.pick(&[part, part + 1, part + 4, part + PART_HEADER, table.row_at(row + 1) - 1]);
+        bytes[at] = 1;
+    }),
 ];
 
 /// Two epoch numbers that no generated table uses.
 const FREE_EPOCH: u32 = 500_000;
 const OTHER_EPOCH: u32 = 400_000;
 
-/// Where a row keeps the oldest record of its window, and a record its parts.
-const OLDEST: usize = 25;
+/// Where the header keeps the number of files, and a record its parts.
+const FILES: usize = 6;
 const NEXT: usize = 0;
 const LENGTH: usize = 1;
 const PATCH: usize = 4;
 
-/// A well-formed table of this form, the same with one rule broken, and that rule by its place in `RULES`.
-pub fn damaged(random: &mut Random, rules: Rules) -> (Picture, Vec<u8>, usize) {
-    let possible: Vec<usize> = (0..RULES.len()).filter(|&rule| RULES[rule].1.allow(rules)).collect();
-    let rule = random.pick(&possible);
-    let (table, bytes) = damaged_by(random, rules, rule);
-    (table, bytes, rule)
+/// A table with one rule broken.
+pub struct Damaged {
+    /// As it was before.
+    pub table: Target,
+    pub bytes: Vec<u8>,
+    /// The rule by its place in `RULES`.
+    pub rule: usize,
 }
 
-fn damaged_by(random: &mut Random, rules: Rules, rule: usize) -> (Picture, Vec<u8>) {
+impl Damaged {
+    /// Is it a rule of what a row says of a file, broken in the last of several files?
+    pub fn in_last_file(&self) -> bool {
+        RULES[self.rule].1.of_a_file() && self.table.file == self.table.files && self.table.files > 1
+    }
+}
+
+/// A well-formed table of this form with one rule broken.
+pub fn damaged(random: &mut Random, rules: Rules) -> Damaged {
+    let possible: Vec<usize> = (0..RULES.len()).filter(|&rule| RULES[rule].1.allow(rules)).collect();
+    let rule = random.pick(&possible);
+    damaged_by(random, rules, rule)
+}
+
+fn damaged_by(random: &mut Random, rules: Rules, rule: usize) -> Damaged {
     let (_, needs, damage) = RULES[rule];
     let size = size(random, needs);
     let mut bytes = tables::well_formed_by(random, size, rules);
     let table = Picture::of_any_form(&bytes).expect("made well formed");
+    let any = random.between(1, table.files);
+    let table = Target { file: random.pick(&[any, table.files]), table };
     damage(&mut bytes, &table, random);
-    (table, bytes)
+    Damaged { table, bytes, rule }
 }
 
 /// In half of the cases every row is used.
 fn size(random: &mut Random, needs: Needs) -> Size {
     let least = if let Rows(least) | Scope(least) = needs { least } else { 2 };
-    let most = if matches!(needs, FewerThan64 | UnusedRow) { 63 } else { 64 };
+    let most = if needs == FewerThan64 || needs.unused_row() { 63 } else { 64 };
     let used = random.pick(&[2, 3, 4, 5, 6, 7, 15, 40, 63, 64]).clamp(least, most);
     let capacity = match random.between(0, 3) {
-        0..=1 if needs != UnusedRow => used,
+        0..=1 if !needs.unused_row() => used,
         2 => (used + 1).min(64),
         _ => random.between((used + 1).min(64), 64),
     };
     let file_len = if needs == Windows { random.pick(&[33, 40]) } else { random.pick(&[1, 4, 17]) };
-    Size { used, capacity, file_len }
+    Size { used, capacity, file_len, files: random.pick(&[1, 2, 3, 8]) }
 }
 
-/// Gives some row a window of so many patches, at least and at most, and versions enough; gives the row, and the records from the
-/// oldest to the youngest.
+/// Gives some row a window on the file of so many patches, at least and at most, and versions enough; gives the row, and the records
+/// from the oldest to the youngest.
 fn windowed_row(
     bytes: &mut [u8],
-    table: &Picture,
+    table: &Target,
     random: &mut Random,
     least: usize,
     most: usize,
@@ -397,16 +492,16 @@ fn windowed_row(
     let row = any_row(table, random);
     let count = random.between(least, most);
     put_numbers(bytes, table, row, 0, (count + random.between(0, 3)) as u32, 0);
-    (row, tables::put_window(random, table, bytes, row, count))
+    (row, tables::put_window(random, table, bytes, row, table.file, count))
 }
 
-/// Where the record of a row's window begins.
-fn record_at(table: &Picture, row: usize, record: u8) -> usize {
-    table.window_at(row) + RECORD * (usize::from(record) - 1)
+/// Where the record of a row's window on the file begins.
+fn record_at(table: &Target, row: usize, record: u8) -> usize {
+    table.window_at(row, table.file) + RECORD * (usize::from(record) - 1)
 }
 
 /// Writes into a record, from its byte `at` on.
-fn put_record(bytes: &mut [u8], table: &Picture, row: usize, record: u8, at: usize, new: &[u8]) {
+fn put_record(bytes: &mut [u8], table: &Target, row: usize, record: u8, at: usize, new: &[u8]) {
     let start = record_at(table, row, record) + at;
     bytes[start..start + new.len()].copy_from_slice(new);
 }
@@ -432,10 +527,48 @@ fn put(bytes: &mut [u8], table: &Picture, row: usize, at: usize, new: &[u8]) {
     bytes[start..start + new.len()].copy_from_slice(new);
 }
 
-fn put_numbers(bytes: &mut [u8], table: &Picture, row: usize, mark: u8, version: u32, desired: u32) {
-    put(bytes, table, row, 3, &[mark]);
-    put(bytes, table, row, 4, &version.to_le_bytes());
-    put(bytes, table, row, 8, &desired.to_le_bytes());
+/// Where a row keeps its numbers of the file, and among them the stale mark: in the part, or in the head.
+fn numbers_at(table: &Target, row: usize) -> (usize, usize) {
+    if table.rules.has_parts() {
+        (table.part_at(row, table.file), 0)
+    } else {
+        (table.row_at(row), 3)
+    }
+}
+
+/// Gives a row these numbers of the file, and an empty window on it.
+fn put_numbers(bytes: &mut [u8], table: &Target, row: usize, mark: u8, version: u32, desired: u32) {
+    let (at, mark_at) = numbers_at(table, row);
+    bytes[at + mark_at] = mark;
+    bytes[at + 8..at + 12].copy_from_slice(&desired.to_le_bytes());
+    put_version(bytes, table, row, version);
+    if table.rules.has_windows() {
+        put_oldest(bytes, table, row, 0);
+        table.window_mut(bytes, row, table.file).fill(0);
+    }
+}
+
+fn put_version(bytes: &mut [u8], table: &Target, row: usize, version: u32) {
+    let (at, _) = numbers_at(table, row);
+    bytes[at + 4..at + 8].copy_from_slice(&version.to_le_bytes());
+}
+
+/// Where a row keeps the oldest record of its window on the file.
+fn oldest_at(table: &Target, row: usize) -> usize {
+    if table.rules.has_parts() {
+        table.part_at(row, table.file) + 1
+    } else {
+        table.row_at(row) + OLDEST
+    }
+}
+
+fn put_oldest(bytes: &mut [u8], table: &Target, row: usize, oldest: u8) {
+    bytes[oldest_at(table, row)] = oldest;
+}
+
+/// A byte of a head that is zero in every form; byte 25 is not in form 3.
+fn spare_byte(table: &Picture, random: &mut Random) -> usize {
+    random.between(if table.rules == Rules::OneFile { OLDEST + 1 } else { OLDEST }, ROW_HEADER - 1)
 }
 
 /// Gives a row the free epoch, and this list in the published grid, or in the tall one of a tall table.
@@ -482,17 +615,40 @@ fn put_marked(bytes: &mut [u8], table: &Picture, random: &mut Random, length: u3
     members
 }
 
-/// Gives every row another file length and an empty window, and the table the length that goes with it.
-fn restride(bytes: &mut Vec<u8>, table: &Picture, file_len: usize) {
-    let mut wider = bytes[..HEADER].to_vec();
-    wider[4..6].copy_from_slice(&(file_len as u16).to_le_bytes());
+/// Gives every row so many parts of so many bytes: as many of the first bytes of each old part, and zeros.
+fn reshape(bytes: &mut Vec<u8>, table: &Picture, files: usize, length: usize, kept: usize) {
+    let mut other = bytes[..HEADER].to_vec();
     for row in bytes[HEADER..].chunks(stride(table)) {
-        let head = wider.len();
-        wider.extend_from_slice(&row[..ROW_HEADER]);
-        wider[head + OLDEST] = 0;
-        wider.resize(head + table.rules.row_length(file_len), 0);
+        let (head, parts) = row.split_at(ROW_HEADER);
+        other.extend_from_slice(head);
+        let mut parts = parts.chunks(table.rules.part_length(table.file_len));
+        for _ in 0..files {
+            let start = other.len();
+            other.extend_from_slice(parts.next().map_or(&[], |part| &part[..kept]));
+            other.resize(start + length, 0);
+        }
     }
-    *bytes = wider;
+    *bytes = other;
+}
+
+/// Gives the table another number of files, and the length that goes with it.
+fn regroup(bytes: &mut Vec<u8>, table: &Picture, files: usize) {
+    let length = table.rules.part_length(table.file_len);
+    reshape(bytes, table, files, length, length);
+    bytes[FILES] = files as u8;
+}
+
+/// Gives every row another file length and empty windows, and the table the length that goes with it.
+fn restride(bytes: &mut Vec<u8>, table: &Picture, file_len: usize) {
+    for row in 1..=table.used {
+        for file in 1..=table.files {
+            let part = reference::Part { oldest: 0, ..Table::part(table, bytes, row, file) };
+            table.write_part(bytes, row, file, &part);
+        }
+    }
+    let kept = if table.rules.has_parts() { PART_HEADER } else { 0 };
+    reshape(bytes, table, table.files, table.rules.part_length(file_len), kept);
+    bytes[4..6].copy_from_slice(&(file_len as u16).to_le_bytes());
 }
 
 #[cfg(test)]
@@ -505,50 +661,73 @@ mod tests {
             for (rule, (name, ..)) in RULES.iter().enumerate().filter(|(_, (_, needs, _))| needs.allow(rules))
             {
                 for case in 0..200 {
-                    let (_, bytes) = damaged_by(&mut Random::new(2, case), rules, rule);
+                    let Damaged { bytes, .. } = damaged_by(&mut Random::new(2, case), rules, rule);
                     assert!(Picture::of_any_form(&bytes).is_none(), "{rules:?}: {name}");
                 }
             }
         }
     }
 
+    /// Damages a table by each rule whose name passes, mends what the rules are about, and finds it well formed.
+    fn only_rule_broken(named: fn(&str) -> bool, mend: fn(&mut [u8], &Target)) -> usize {
+        let rules = RULES.iter().enumerate().filter(|(_, (name, ..))| named(name));
+        rules
+            .map(|(rule, (name, ..))| {
+                for case in 0..200 {
+                    let Damaged { table, mut bytes, .. } =
+                        damaged_by(&mut Random::new(2, case), Rules::Newest, rule);
+                    mend(&mut bytes, &table);
+                    assert!(Table::decode(&bytes).is_some(), "{name}");
+                }
+            })
+            .count()
+    }
+
     /// Where a mark or the form is wrong, nothing else is.
     #[test]
     fn a_wrong_mark_or_form_is_the_only_rule_broken() {
-        let mut mended = 0;
-        for (rule, (name, ..)) in RULES.iter().enumerate() {
-            if !name.starts_with("grid mark") && !["form", "form of tables without windows"].contains(name) {
-                continue;
-            }
-            for case in 0..200 {
-                let (table, mut bytes) = damaged_by(&mut Random::new(2, case), Rules::Newest, rule);
-                bytes[0] = FORM;
-                (1..=table.used).for_each(|row| put(&mut bytes, &table, row, 24, &[0]));
-                assert!(Table::decode(&bytes).is_some(), "{name}");
-            }
-            mended += 1;
-        }
+        let named = |name: &str| name.starts_with("grid mark") || name.starts_with("form");
+        let mended = only_rule_broken(named, |bytes, table| {
+            bytes[0] = FORM;
+            (1..=table.used).for_each(|row| put(bytes, table, row, 24, &[0]));
+        });
         assert_eq!(mended, 15);
     }
 
     /// Where a window is wrong, nothing else is: with other windows the table is well formed.
     #[test]
     fn a_wrong_window_is_the_only_rule_broken() {
-        let mut mended = 0;
-        for (rule, (name, ..)) in
-            RULES.iter().enumerate().filter(|(_, (name, ..))| name.starts_with("window"))
-        {
-            for case in 0..200 {
-                let (table, mut bytes) = damaged_by(&mut Random::new(2, case), Rules::Newest, rule);
+        let mended = only_rule_broken(
+            |name| name.starts_with("window"),
+            |bytes, table| {
                 for row in 1..=table.used {
-                    put(&mut bytes, &table, row, OLDEST, &[0]);
-                    table.window_mut(&mut bytes, row).fill(0);
+                    put_oldest(bytes, table, row, 0);
+                    table.window_mut(bytes, row, table.file).fill(0);
                 }
-                assert!(Table::decode(&bytes).is_some(), "{name}");
-            }
-            mended += 1;
-        }
+            },
+        );
         assert_eq!(mended, 14);
+    }
+
+    /// Where a byte that must be zero is not, or a number of the file is wrong, nothing else is.
+    #[test]
+    fn a_wrong_byte_or_number_is_the_only_rule_broken() {
+        let named = |name: &str| {
+            let numbers = ["stale mark", "version or desired", "desired"];
+            name.contains("not zero") || numbers.into_iter().any(|number| name.starts_with(number))
+        };
+        let mended = only_rule_broken(named, |bytes, table| {
+            bytes[7..HEADER].fill(0);
+            for row in 1..=table.used {
+                put(bytes, table, row, 3, &[0; 9]);
+                put(bytes, table, row, OLDEST, &[0; 7]);
+                let part = table.part_at(row, table.file);
+                bytes[part..part + PART_HEADER].fill(0);
+                table.window_mut(bytes, row, table.file).fill(0);
+            }
+            bytes[table.row_at(table.used + 1)..].fill(0);
+        });
+        assert_eq!(mended, 13);
     }
 
     #[test]
@@ -556,10 +735,24 @@ mod tests {
         for (rule, (name, needs, _)) in RULES.iter().enumerate() {
             let rules = if needs.allow(Rules::Newest) { Rules::Newest } else { Rules::Published };
             let full = (0..200).filter(|&case| {
-                let (table, _) = damaged_by(&mut Random::new(2, case), rules, rule);
+                let Damaged { table, .. } = damaged_by(&mut Random::new(2, case), rules, rule);
                 table.used == table.capacity
             });
-            assert_eq!(full.count() > 50, *needs != UnusedRow, "{name}");
+            assert_eq!(full.count() > 50, !needs.unused_row(), "{name}");
+        }
+    }
+
+    /// Each rule of what a row says of a file, in the last of several files and in another.
+    #[test]
+    fn every_file_is_damaged() {
+        for (rule, (name, needs, _)) in RULES.iter().enumerate() {
+            let (mut last, mut other) = (0, 0);
+            for case in 0..200 {
+                let damaged = damaged_by(&mut Random::new(2, case), Rules::Newest, rule);
+                last += usize::from(damaged.in_last_file());
+                other += usize::from(needs.of_a_file() && damaged.table.file < damaged.table.files);
+            }
+            assert_eq!((last > 50, other > 30), (needs.of_a_file(), needs.of_a_file()), "{name}");
         }
     }
 }

@@ -1,12 +1,12 @@
 //! Which tables are tried, and which calls are made on them.
 
 use crate::call::Call;
-use crate::damage;
+use crate::damage::{self, Damaged};
 use crate::ledger::Ledger;
 use crate::random::Random;
 use crate::tables::{self, Picture, Size};
 use reference::window::LONGEST_PATCH;
-use reference::{rows, Engine, Layout, Quorum, Rules, Table, MAX_FILE, MAX_ROWS};
+use reference::{rows, Engine, Layout, Part, Quorum, Rules, Table, MAX_FILE, MAX_FILES, MAX_ROWS};
 use std::collections::VecDeque;
 
 /// What every chart is asked for: the lengths of lists of members, some beyond nine; grid marks; bytes of the list to fill.
@@ -43,12 +43,13 @@ pub struct Plan {
     straggler: Option<Straggler>,
     /// Every call is a move.
     moves: bool,
-    /// The form of the table, and the rule that it breaks, by its place in `damage::RULES`.
-    pub damage: Option<(Rules, usize)>,
+    /// The table as it was damaged.
+    pub damage: Option<Damaged>,
 }
 
-/// A row that misses some writes, is marked by a check and then gets a send.
+/// A row that misses some writes of a file, is marked by a check and then gets a send.
 struct Straggler {
+    file: usize,
     /// How many writes are left to be made before.
     writes: usize,
     /// The row, once it stays away.
@@ -60,19 +61,21 @@ struct Straggler {
 }
 
 impl Straggler {
-    fn pick(random: &mut Random) -> Straggler {
+    fn pick(random: &mut Random, files: usize) -> Straggler {
         let missed = random.pick(&[1, 15, 16, 17]);
         let long = random.chance(1, 4).then(|| random.between(1, missed));
-        Straggler { writes: random.pick(&[0, 1, 17]), row: None, missed, long, marked: false }
+        let file = random.between(1, files);
+        Straggler { file, writes: random.pick(&[0, 1, 17]), row: None, missed, long, marked: false }
     }
 
     /// The next call; the send is the last one.
     fn next(&mut self, random: &mut Random, table: &Picture) -> (Call, bool) {
         let all = table.all_used();
-        let newest = (1..=table.used).max_by_key(|&row| table.row(row).version).expect("a row");
+        let file = self.file;
+        let newest = (1..=table.used).max_by_key(|&row| table.part(row, file).version).expect("a row");
         let Some(row) = self.row.or_else(|| (self.writes == 0).then_some(newest)) else {
             self.writes -= 1;
-            return (short_write(random, table, all, false), false);
+            return (short_write(random, table, file, all, false), false);
         };
         let others = all & !rows::only(row);
         let check = |random: &mut Random, answering| Call::Check {
@@ -86,24 +89,24 @@ impl Straggler {
         if self.missed > 0 {
             let long = self.long == Some(self.missed);
             self.missed -= 1;
-            return (short_write(random, table, others, long), false);
+            return (short_write(random, table, file, others, long), false);
         }
         if !self.marked {
             self.marked = true;
             return (check(random, all), false);
         }
         let answering = rows::only(newest) | rows::only(row);
-        (Call::Send { from: newest as u64, to: row as u64, answering }, true)
+        (Call::Send { from: newest as u64, to: row as u64, answering, file: file as u64 }, true)
     }
 }
 
 /// A write that these rows answer, of 1 to 32 bytes, or a long one.
-fn short_write(random: &mut Random, table: &Picture, answering: u64, long: bool) -> Call {
+fn short_write(random: &mut Random, table: &Picture, file: usize, answering: u64, long: bool) -> Call {
     let any = random.between(1, LONGEST_PATCH);
     let length = if long { LONGEST_PATCH + 1 } else { random.pick(&[1, 31, 32, any]) };
     let offset = random.between(0, table.file_len - length) as u64;
     let (coordinator, patch) = (random.row(answering) as u64, random.bytes(length));
-    Call::Write { coordinator, answering, offset, patch, called: vec![0xee] }
+    Call::Write { coordinator, answering, offset, patch, called: vec![0xee], file: file as u64 }
 }
 
 impl Plan {
@@ -111,7 +114,8 @@ impl Plan {
         match random.between(0, 99) {
             0..=9 => Plan::founded(random),
             10..=11 => Plan::falling_behind(random),
-            12..=14 => Plan::carried_over(random),
+            12..=13 => Plan::from_the_scope(random),
+            14 => Plan::blocked(random),
             15..=55 => Plan::unfounded(random),
             56..=59 => Plan::older(random),
             60..=84 => Plan::damaged(random),
@@ -127,7 +131,7 @@ impl Plan {
     }
 
     fn founded_as(random: &mut Random, size: Size, choice: u64) -> Plan {
-        let length = Table::length(size.capacity, size.file_len);
+        let length = Table::length(size.capacity, size.file_len, size.files);
         let start = if random.chance(1, 2) { vec![0; length] } else { random.bytes(length) };
         let opening = founding(random, size, choice);
         let up = random.subset(rows::first(size.used), 4, 5);
@@ -149,23 +153,45 @@ impl Plan {
     pub fn falling_behind(random: &mut Random) -> Plan {
         // Four machines and more bear the loss of one.
         let used = random.between(4, 9);
-        let size = Size { used, capacity: random.between(used, 10), file_len: random.pick(&[33, 40, 64]) };
+        let (capacity, file_len) = (random.between(used, 10), random.pick(&[33, 40, 64]));
+        let size = Size { used, capacity, file_len, files: random.pick(&[1, 2, 3, 8]) };
         let choice = choice(random);
         let mut plan = Plan::founded_as(random, size, choice);
-        let straggler = Straggler::pick(random);
+        let straggler = Straggler::pick(random, size.files);
         plan.calls = straggler.writes + straggler.missed + 4 + random.between(0, 20);
         plan.straggler = Some(straggler);
         plan
     }
 
-    /// A history that began on form 1, before there were requests, and goes on after a move: its lists, some of five among them,
-    /// lie in the published grid.
-    pub fn carried_over(random: &mut Random) -> Plan {
-        let size = Size { used: random.pick(&[5, 5, 5, 6, 7, 9]), ..Size::pick(random) };
+    /// A founded history on four machines in which one file keeps the last two from being checked, until it is sent. Row 4 misses
+    /// the first write of the file and row 3 the second; then rows 2 and 1 go away.
+    pub fn blocked(random: &mut Random) -> Plan {
+        let size = Size { used: 4, capacity: random.between(4, 6), ..Size::pick(random) };
+        let choice = choice(random);
+        let mut plan = Plan::founded_as(random, size, choice);
+        let file = random.between(1, size.files) as u64;
+        let set = |rows: &[usize]| rows.iter().fold(0, |set, &row| set | rows::only(row));
+        let write = |random: &mut Random, answering| {
+            let patch = random.bytes(1);
+            Call::Write { coordinator: 1, answering, offset: 0, patch, called: vec![0xee], file }
+        };
+        let (last, all) = (set(&[3, 4]), set(&[1, 3, 4]));
+        let [first, second] = [set(&[1, 2, 3]), set(&[1, 2, 4])].map(|set| write(random, set));
+        let check = |coordinator, answering| Call::Check { coordinator, answering };
+        let send = Call::Send { from: 1, to: 3, answering: all, file };
+        plan.opening.extend([first, second, check(1, all), check(3, last), send, check(3, last)]);
+        plan.calls += plan.opening.len();
+        plan
+    }
+
+    /// A history that began before there were requests, by the scope's rules alone, and goes on in the newest form: its lists, some of
+    /// five among them, lie in the published grid.
+    pub fn from_the_scope(random: &mut Random) -> Plan {
+        let size = Size { used: random.pick(&[5, 5, 5, 6, 7, 9]), files: 1, ..Size::pick(random) };
         let size = Size { capacity: size.capacity.max(size.used), ..size };
         let mut plan = Plan::founded_as(random, size, 0);
         let engine = Engine { rules: Rules::Published, ..Engine::default() };
-        plan.start = random.bytes(engine.rules.table_length(size.capacity, size.file_len));
+        plan.start = random.bytes(engine.rules.table_length(size.capacity, size.file_len, 1));
         plan.ledger = Ledger::published();
         for _ in 0..random.between(1, 12) {
             let mut table = plan.table();
@@ -177,8 +203,9 @@ impl Plan {
                     | Call::Choice { .. }
                     | Call::Move { .. }
                     | Call::Found { choice: 1.., .. }
+                    | Call::Found { files: 0 | 2.., .. }
             );
-            if !of_a_request {
+            if !of_a_request && call.file().is_none_or(|file| file == 1) {
                 let answer = call.refer(engine, &mut table);
                 plan.ledger
                     .hear(&call, &answer)
@@ -186,8 +213,8 @@ impl Plan {
                 plan.start = table;
             }
         }
-        let length = Table::length(size.capacity, size.file_len);
-        plan.opening = vec![Call::Move { form: 3, to: random.bytes(length), taken: true }].into();
+        plan.start = tables::alone(&plan.start, 1, Rules::Newest);
+        plan.ledger.go_on_with_requests();
         plan
     }
 
@@ -213,7 +240,7 @@ impl Plan {
 
     /// A few calls on a well-formed table of an older form, half of them only moves.
     fn older(random: &mut Random) -> Plan {
-        let rules = random.pick(&[Rules::Published, Rules::Windowless]);
+        let rules = random.pick(&[Rules::Published, Rules::Windowless, Rules::OneFile]);
         let size = Size::pick(random);
         let start = tables::well_formed_by(random, size, rules);
         let known = Picture::of_any_form(&start);
@@ -233,30 +260,52 @@ impl Plan {
 
     /// A few calls on a table with one rule broken; moves only on one of an older form, where other calls ask no more.
     fn damaged(random: &mut Random) -> Plan {
-        let rules = random.pick(&[Rules::Newest, Rules::Newest, Rules::Windowless, Rules::Published]);
-        let (table, start, rule) = damage::damaged(random, rules);
-        let up = table.all_used();
+        let any = random.pick(&Rules::ALL);
+        let rules = random.pick(&[Rules::Newest, any]);
+        let damaged = damage::damaged(random, rules);
+        let up = damaged.table.all_used();
         Plan {
-            start,
+            start: damaged.bytes.clone(),
             ledger: Ledger::default(),
             calls: random.between(2, 6),
             opening: VecDeque::new(),
             foundings: None,
-            known: Some(table),
+            known: Some(damaged.table.clone()),
             up,
             straggler: None,
             moves: rules != Rules::Newest,
-            damage: Some((rules, rule)),
+            damage: Some(damaged),
         }
     }
 
     /// Foundings, most with something wrong.
     fn foundings(random: &mut Random) -> Plan {
         let size = Size::pick(random);
-        let length = Table::length(size.capacity, size.file_len);
-        let older = Rules::Windowless.table_length(size.capacity, size.file_len);
-        let longer = Table::length(size.capacity + 1, size.file_len);
-        let wrong = random.pick(&[0, 1, 15, 16, 17, length - 1, length + 1, older, longer]);
+        let Size { capacity, file_len, files, .. } = size;
+        let length = Table::length(capacity, file_len, files);
+        let [wider, none, more, nine] = [
+            Table::length(capacity + 1, file_len, files),
+            Table::length(capacity, file_len, 0),
+            Table::length(capacity, file_len, files + 1),
+            Table::length(capacity, file_len, MAX_FILES + 1),
+        ];
+        let older = Rules::OneFile.table_length(capacity, file_len, 1);
+        let wrong = random.pick(&[
+            0,
+            1,
+            15,
+            16,
+            17,
+            length - 1,
+            length + 1,
+            older,
+            wider,
+            none,
+            none,
+            more,
+            nine,
+            nine,
+        ]);
         let length = if random.chance(1, 3) { wrong } else { length };
         let choice = choice(random);
         let opening = founding(random, size, choice);
@@ -293,7 +342,8 @@ impl Plan {
     /// Every choice on a well-formed table of a few rows, and every way to be refused one.
     pub fn choices(random: &mut Random) -> Plan {
         let used = random.between(5, 9);
-        let size = Size { used, capacity: random.between(used, 11), file_len: random.between(1, 6) };
+        let (capacity, file_len) = (random.between(used, 11), random.between(1, 6));
+        let size = Size { used, capacity, file_len, files: random.between(1, 3) };
         let start = tables::well_formed(random, size);
         let beyond = NO_COORDINATORS.into_iter().filter(|&row| row > used as u64);
         let mut calls = Vec::new();
@@ -314,17 +364,18 @@ impl Plan {
     /// lists are published, or any.
     pub fn moves(random: &mut Random, form: u8, published: bool) -> Plan {
         let used = random.between(2, 9);
-        let size = Size { used, capacity: random.between(used, 11), file_len: random.between(1, 40) };
+        let (capacity, file_len) = (random.between(used, 11), random.between(1, 40));
         let rules = Rules::of_form(form).unwrap_or_default();
-        let made = if published { tables::published(random, size) } else { unpublished(random, size) };
-        let mut start = match rules {
-            Rules::Newest => made,
-            _ => tables::without_windows(&made, rules),
-        };
+        let files = random.between(1, rules.most_files());
+        let size = Size { used, capacity, file_len, files };
+        // By the scope alone every table is published; it is given the lists of others.
+        let made = if rules == Rules::Published { Rules::Windowless } else { rules };
+        let mut start =
+            if published { tables::published(random, size, made) } else { unpublished(random, size, made) };
         start[0] = form;
         let mut calls = Vec::new();
         for to in MOVE_FORMS {
-            let right = length_in(to, size.capacity, size.file_len);
+            let right = length_in(to, size);
             calls.extend([0, right - 1, right, right + 1].map(|length| Call::Move {
                 form: to,
                 to: random.bytes(length),
@@ -375,19 +426,8 @@ impl Plan {
         self.known = Picture::of_any_form(bytes).or(self.known.take());
         let table = self.known.as_ref().expect("founded by now, or known from the start");
         if self.moves {
-            return moving(random, table);
-        }
-        // Down and up again: the rows stay, with empty windows.
-        if table.rules == Rules::Newest && random.chance(1, 100) {
-            let form = random.pick(&[1, 2]);
-            let older = Rules::of_form(form).expect("an older form");
-            let [down, up] = [older, Rules::Newest].map(|rules| Call::Move {
-                form: rules.form().into(),
-                to: random.bytes(rules.table_length(table.capacity, table.file_len)),
-                taken: true,
-            });
-            self.opening.push_back(up);
-            return down;
+            let taken = random.chance(1, 2);
+            return moving(random, table, taken);
         }
         if let Some(straggler) = &mut self.straggler {
             let (call, last) = straggler.next(random, table);
@@ -423,6 +463,7 @@ fn founding(random: &mut Random, size: Size, choice: u64) -> Call {
         file_len: size.file_len as u64,
         names: tables::names_in_bytes(&names),
         choice,
+        files: size.files as u64,
     }
 }
 
@@ -438,8 +479,9 @@ fn bad_founding(random: &mut Random, size: Size) -> Call {
     let mut file_len = size.file_len as u64;
     let mut half_a_name = None;
     let mut choice = choice(random);
+    let mut files = size.files as u64;
     for _ in 0..random.between(1, 2) {
-        match random.between(0, 10) {
+        match random.between(0, 12) {
             0 => names.clear(),
             1 => names.insert(0, 0),
             2 => names.extend(names.last().copied()),
@@ -450,12 +492,25 @@ fn bad_founding(random: &mut Random, size: Size) -> Call {
             7 => file_len = edge(random, MAX_FILE as u64, file_len),
             8 => half_a_name = Some(random.byte()),
             9 => choice = any_choice(random),
+            10..=11 => files = any_files(random, files),
             _ => {}
         }
     }
     let mut names = tables::names_in_bytes(&names);
     names.extend(half_a_name);
-    Call::Found { capacity, file_len, names, choice }
+    Call::Found { capacity, file_len, names, choice, files }
+}
+
+/// Another number of files; most are none that a group can have.
+fn any_files(random: &mut Random, files: u64) -> u64 {
+    let edge = edge(random, MAX_FILES as u64, files);
+    random.pick(&[0, MAX_FILES as u64 + 1, files + 1, edge])
+}
+
+/// A file that a group of so many does not have.
+fn absent_file(random: &mut Random, files: usize) -> u64 {
+    let files = files as u64;
+    random.pick(&[0, files + 1, MAX_FILES as u64 + 1, (1 << 32) + 1, files + 256, u64::MAX])
 }
 
 /// Another value for an argument whose highest sensible value is `limit`; some agree with `now` in their low bits.
@@ -481,19 +536,20 @@ fn fitting(random: &mut Random, table: &Picture, up: u64) -> Call {
     let unlisted = table.unlisted() & up;
     let coordinators = if random.chance(1, 4) && unlisted != 0 { unlisted } else { up };
     let coordinator = random.row(coordinators);
+    let file = random.between(1, table.files) as u64;
     match random.between(0, 107) {
         0..=29 => {
             let answering = answering(random, table, up, coordinator, Quorum::Read);
             let (offset, length) = range(random, table);
             let (buffer, called) = (random.bytes(length), called(random));
             let (coordinator, length) = (coordinator as u64, length as u64);
-            Call::Read { coordinator, answering, offset, length, buffer, called }
+            Call::Read { coordinator, answering, offset, length, buffer, called, file }
         }
         30..=61 => {
             let answering = answering(random, table, up, coordinator, Quorum::Write);
             let (offset, length) = patch_range(random, table);
             let (patch, called) = (random.bytes(length), called(random));
-            Call::Write { coordinator: coordinator as u64, answering, offset, patch, called }
+            Call::Write { coordinator: coordinator as u64, answering, offset, patch, called, file }
         }
         62..=78 => send(random, table, up),
         79..=92 => {
@@ -507,11 +563,12 @@ fn fitting(random: &mut Random, table: &Picture, up: u64) -> Call {
             let coordinators = if random.chance(1, 4) { unlisted } else { table.all_used() };
             choice_of(random, coordinators)
         }
-        105..=106 => moving(random, table),
+        105..=106 => moving(random, table, false),
         _ => {
             let used = random.between(1, table.capacity);
             let choice = choice(random);
-            founding(random, Size { used, capacity: table.capacity, file_len: table.file_len }, choice)
+            let Table { capacity, file_len, files, .. } = **table;
+            founding(random, Size { used, capacity, file_len, files }, choice)
         }
     }
 }
@@ -566,14 +623,19 @@ fn called(random: &mut Random) -> Vec<u8> {
     random.bytes(length)
 }
 
-/// A send, mostly from a good row to a stale one.
+/// A send, mostly of a file that some row is stale in, and from a good row to a stale one.
 fn send(random: &mut Random, table: &Picture, up: u64) -> Call {
-    let such = |test: &dyn Fn(usize) -> bool| {
-        rows::members(table.all_used()).filter(|&row| test(row)).fold(0, |set, row| set | rows::only(row))
+    let such = |file: usize, test: &dyn Fn(&Part) -> bool| {
+        let rows = rows::members(table.all_used()).filter(|&row| test(table.part(row, file)));
+        rows.fold(0, |set, row| set | rows::only(row))
     };
-    let stale = such(&|row| table.row(row).stale);
+    let any = random.between(1, table.files);
+    let behind: Vec<usize> = (1..=table.files).filter(|&file| such(file, &|part| part.stale) != 0).collect();
+    let file = if random.chance(4, 5) && !behind.is_empty() { random.pick(&behind) } else { any };
+    let stale = such(file, &|part| part.stale);
     let to = if random.chance(4, 5) && stale != 0 { random.row(stale) } else { random.row(table.all_used()) };
-    let newer = such(&|row| !table.row(row).stale && table.row(row).version >= table.row(to).desired);
+    let desired = table.part(to, file).desired;
+    let newer = such(file, &|part| !part.stale && part.version >= desired);
     let from =
         if random.chance(3, 4) && newer != 0 { random.row(newer) } else { random.row(table.all_used()) };
     let ends = rows::only(from) | rows::only(to);
@@ -584,7 +646,7 @@ fn send(random: &mut Random, table: &Picture, up: u64) -> Call {
         3..=6 => up | ends,
         _ => ends,
     };
-    Call::Send { from: from as u64, to: to as u64, answering }
+    Call::Send { from: from as u64, to: to as u64, answering, file: file as u64 }
 }
 
 /// A name to join with: below all names, between two of them or above, mostly; or 0, in use, or any.
@@ -621,30 +683,32 @@ fn choice_of(random: &mut Random, coordinators: u64) -> Call {
     Call::Choice { coordinator, kind: random.pick(&[0, 1]), set: random.bytes(bytes) }
 }
 
-/// The length of a table in this form; of one that there is not, in the newest.
-fn length_in(form: u64, capacity: usize, file_len: usize) -> usize {
+/// The length of a table in this form; of one that there is not, in the newest. Older forms have one file.
+fn length_in(form: u64, size: Size) -> usize {
     let rules = u8::try_from(form).ok().and_then(Rules::of_form).unwrap_or_default();
-    rules.table_length(capacity, file_len)
+    rules.table_length(size.capacity, size.file_len, size.files.min(rules.most_files()))
 }
 
-/// A move, mostly one that there is, mostly into a buffer of the right length.
-fn moving(random: &mut Random, table: &Picture) -> Call {
+/// A move, mostly one that there is, if there is one from such a table, and mostly into a buffer of the right length.
+fn moving(random: &mut Random, table: &Picture, taken: bool) -> Call {
     let form = match table.rules {
         _ if random.chance(1, 5) => random.pick(&MOVE_FORMS),
-        Rules::Newest => random.pick(&[1, 2]),
-        _ => 3,
+        Rules::Published | Rules::Windowless => 3,
+        Rules::OneFile => random.pick(&[1, 2]),
+        Rules::Newest => random.pick(&[1, 2, 3, 4]),
     };
-    let right = length_in(form, table.capacity, table.file_len);
+    let Table { used, capacity, file_len, files, .. } = **table;
+    let right = length_in(form, Size { used, capacity, file_len, files });
     let any = random.between(0, right);
     let length = if random.chance(1, 4) { random.pick(&[0, right - 1, right + 1, any]) } else { right };
-    Call::Move { form, to: random.bytes(length), taken: false }
+    Call::Move { form, to: random.bytes(length), taken }
 }
 
 /// A table that cannot move to form 1: some list is empty, or does not lie in the published grid.
-fn unpublished(random: &mut Random, size: Size) -> Vec<u8> {
+fn unpublished(random: &mut Random, size: Size, rules: Rules) -> Vec<u8> {
     loop {
-        let bytes = tables::well_formed(random, size);
-        if !Table::decode(&bytes).expect("made well formed").is_published(&bytes) {
+        let bytes = tables::well_formed_by(random, size, rules);
+        if !Table::decode_by(rules, &bytes).expect("made well formed").is_published(&bytes) {
             return bytes;
         }
     }
@@ -654,13 +718,15 @@ fn unpublished(random: &mut Random, size: Size) -> Vec<u8> {
 fn spoil(random: &mut Random, call: &mut Call, table: &Picture) {
     let (used, longest) = (table.used as u64, table.file_len as u64);
     match call {
-        Call::Found { capacity, file_len, names, choice } => match random.between(0, 3) {
+        Call::Found { capacity, file_len, names, choice, files } => match random.between(0, 4) {
             0 => *capacity = edge(random, MAX_ROWS as u64, *capacity),
             1 => *file_len = edge(random, MAX_FILE as u64, *file_len),
             2 => *choice = any_choice(random),
+            3 => *files = any_files(random, *files),
             _ => names.push(random.byte()),
         },
-        Call::Read { coordinator, answering, offset, length, buffer, .. } => match random.between(0, 5) {
+        Call::Read { coordinator, answering, offset, length, buffer, file, .. } => match random.between(0, 6)
+        {
             0 => *coordinator = edge(random, used, *coordinator),
             1 => *answering = bad_set(random, table),
             2 => *offset = edge(random, longest, *offset),
@@ -669,18 +735,21 @@ fn spoil(random: &mut Random, call: &mut Call, table: &Picture) {
                 *length = edge(random, longest, *length);
                 buffer.resize((*length).min(MAX_FILE as u64 + 2) as usize, 0);
             }
+            5 => *file = absent_file(random, table.files),
             _ => resize(random, buffer, table.file_len),
         },
-        Call::Write { coordinator, answering, offset, patch, .. } => match random.between(0, 3) {
+        Call::Write { coordinator, answering, offset, patch, file, .. } => match random.between(0, 4) {
             0 => *coordinator = edge(random, used, *coordinator),
             1 => *answering = bad_set(random, table),
             2 => *offset = edge(random, longest, *offset),
+            3 => *file = absent_file(random, table.files),
             _ => resize(random, patch, table.file_len),
         },
-        Call::Send { from, to, answering } => match random.between(0, 3) {
+        Call::Send { from, to, answering, file } => match random.between(0, 4) {
             0 => *from = edge(random, used, *from),
             1 => *to = edge(random, used, *to),
             2 => *answering = bad_set(random, table),
+            3 => *file = absent_file(random, table.files),
             _ => *to = *from,
         },
         Call::Check { coordinator, answering } => match random.between(0, 1) {
@@ -701,7 +770,7 @@ fn spoil(random: &mut Random, call: &mut Call, table: &Picture) {
             _ => set.resize(random.pick(&[0, 1, 7, 9, 16]), 0),
         },
         Call::Move { form, to, .. } => match random.between(0, 1) {
-            0 => *form = edge(random, 3, *form),
+            0 => *form = edge(random, 4, *form),
             _ => {
                 let length = to.len();
                 to.resize(random.pick(&[0, length.saturating_sub(1), length + 1, length + 576]), 0);
@@ -787,11 +856,12 @@ mod tests {
             }
             // Eight forms, and four buffers for each. By the scope alone a table has no other lists.
             let expected = match (form, published) {
-                (0 | 4.., _) | (1, false) => vec![(1, 32)],
+                (0 | 5.., _) | (1, false) => vec![(1, 32)],
                 (1 | 2, true) => vec![(0, 1), (12, 31)],
-                (2, false) => vec![(0, 1), (12, 27), (15, 4)],
+                (2 | 3, false) => vec![(0, 1), (12, 27), (15, 4)],
                 (3, true) => vec![(0, 2), (12, 30)],
-                (3, false) => vec![(0, 1), (12, 27), (15, 4)],
+                (4, true) => vec![(12, 32)],
+                (4, false) => vec![(12, 28), (15, 4)],
             };
             assert_eq!(answers.into_iter().collect::<Vec<_>>(), expected, "form {form}");
         }

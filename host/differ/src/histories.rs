@@ -18,22 +18,35 @@ fn set(members: &[usize]) -> u64 {
 const WIDE_TABLE: u64 = 0;
 const TALL_TABLE: u64 = 1;
 
+/// The founding of a table of one file.
 fn found(capacity: usize, names: &[u16], file_len: usize, choice: u64) -> Call {
-    let (capacity, file_len) = (capacity as u64, file_len as u64);
-    Call::Found { capacity, file_len, names: names_in_bytes(names), choice }
+    found_group(capacity, names, file_len, choice, 1)
 }
 
+fn found_group(capacity: usize, names: &[u16], file_len: usize, choice: u64, files: usize) -> Call {
+    let (capacity, file_len, files) = (capacity as u64, file_len as u64, files as u64);
+    Call::Found { capacity, file_len, names: names_in_bytes(names), choice, files }
+}
+
+/// Of the first file, as are the calls below.
 fn read(coordinator: u64, answering: &[usize]) -> Call {
-    let answering = set(answering);
-    Call::Read { coordinator, answering, offset: 0, length: 1, buffer: vec![0], called: vec![0xee] }
+    let (answering, buffer, called) = (set(answering), vec![0], vec![0xee]);
+    Call::Read { coordinator, answering, offset: 0, length: 1, buffer, called, file: 1 }
 }
 
 fn write(coordinator: u64, answering: &[usize]) -> Call {
-    Call::Write { coordinator, answering: set(answering), offset: 0, patch: vec![b'a'], called: vec![0xee] }
+    let (answering, patch, called) = (set(answering), vec![b'a'], vec![0xee]);
+    Call::Write { coordinator, answering, offset: 0, patch, called, file: 1 }
 }
 
 fn send(from: u64, to: u64, answering: &[usize]) -> Call {
-    Call::Send { from, to, answering: set(answering) }
+    Call::Send { from, to, answering: set(answering), file: 1 }
+}
+
+/// The same call with another file.
+fn of(file: u64, mut call: Call) -> Call {
+    call.rename_file(file);
+    call
 }
 
 fn check(coordinator: u64, answering: &[usize]) -> Call {
@@ -45,7 +58,11 @@ fn join(name: u16) -> Call {
 }
 
 fn blank(capacity: usize, file_len: usize) -> Case {
-    let table = vec![0; Table::length(capacity, file_len)];
+    blank_group(capacity, file_len, 1)
+}
+
+fn blank_group(capacity: usize, file_len: usize, files: usize) -> Case {
+    let table = vec![0; Table::length(capacity, file_len, files)];
     Case { table, ledger: Ledger::default(), calls: Vec::new(), edge: Edge::End }
 }
 
@@ -69,12 +86,17 @@ fn expect_founded(capacity: usize, names: &[u16], choice: u64, calls: &[(Call, u
     expect_from(&blank(capacity, 4), &[&[founding], calls].concat())
 }
 
-/// The same, founded before there were requests and carried over from form 1.
-fn expect_carried_over(names: &[u16], calls: &[(Call, u64, u64)]) -> Vec<u8> {
-    let (case, up) = carried_over(names, 4);
-    let up = (up, 0, names.len() as u64);
-    assert_eq!(expect_from(&case, std::slice::from_ref(&up)), vec![0; names.len()]);
-    expect_from(&case, &[&[up], calls].concat())
+/// The same, founded by the scope's rules alone before there were requests.
+fn expect_from_the_scope(names: &[u16], calls: &[(Call, u64, u64)]) -> Vec<u8> {
+    let case = from_the_scope(names, 4);
+    assert_eq!(marks(&case.table), vec![0; names.len()]);
+    expect_from(&case, calls)
+}
+
+/// The same on two files of four machines.
+fn expect_of_two_files(calls: &[(Call, u64, u64)]) {
+    let founding = (found_group(5, &[10, 20, 30, 40], 4, WIDE_TABLE, 2), 0, 4);
+    expect_from(&blank_group(5, 4, 2), &[&[founding], calls].concat());
 }
 
 fn expect_from(case: &Case, calls: &[(Call, u64, u64)]) -> Vec<u8> {
@@ -87,17 +109,16 @@ fn expect_from(case: &Case, calls: &[(Call, u64, u64)]) -> Vec<u8> {
     marks(trial.table())
 }
 
-/// The machines as a founding by the scope's rules alone leaves them, in form 1; and the move to the newest form, which the calls
-/// go on in.
-fn carried_over(names: &[u16], file_len: usize) -> (Case, Call) {
+/// The machines as a founding by the scope's rules alone leaves them, in the newest form.
+fn from_the_scope(names: &[u16], file_len: usize) -> Case {
     let founding = found(names.len(), names, file_len, WIDE_TABLE);
     let engine = Engine { rules: Rules::Published, ..Engine::default() };
-    let mut table = vec![0; engine.rules.table_length(names.len(), file_len)];
+    let mut table = vec![0; engine.rules.table_length(names.len(), file_len, 1)];
     let mut ledger = Ledger::published();
     let answer = founding.refer(engine, &mut table);
     ledger.hear(&founding, &answer).expect("a plain founding");
-    let up = Call::Move { form: 3, to: vec![0xee; Table::length(names.len(), file_len)], taken: true };
-    (Case { table, ledger, ..blank(names.len(), file_len) }, up)
+    ledger.go_on_with_requests();
+    Case { table: tables::alone(&table, 1, Rules::Newest), ledger, ..blank(names.len(), file_len) }
 }
 
 /// The grid mark of each row.
@@ -185,7 +206,7 @@ fn quorums_of_the_club_room() {
     expect(&fourteen, &[(write(1, &[1, 3, 4, 6, 7, 11]), 0, 1)]);
     expect(&fourteen, &[(write(1, &[1, 3, 4, 6, 7]), 6, 0), (read(1, &[1, 3, 4, 6, 7]), 0, 0)]);
     expect(&[1, 2, 3], &[(read(1, &[1, 3]), 6, 0), (write(1, &[1, 2]), 0, 1)]);
-    expect_carried_over(&[1, 2, 3, 4, 5], &[(read(1, &[1, 2, 4, 5]), 6, 0)]);
+    expect_from_the_scope(&[1, 2, 3, 4, 5], &[(read(1, &[1, 2, 4, 5]), 6, 0)]);
     expect(&[1, 2, 3, 4, 5], &[(write(1, &[1, 2, 4, 5]), 0, 1)]);
 }
 
@@ -222,7 +243,7 @@ fn a_choice_goes_by_the_grid_of_the_own_list() {
     // In the published grid, columns {1, 4}, {2, 5} and {3}, a write by 12 has the first, and rows 2 and 3.
     let by_12 = [(write(1, &all), 0, 1), (write(1, &[1, 3, 4, 5]), 0, 2)];
     let behind = [(send(1, 4, &all), 10, 0), (send(1, 5, &all), 0, 2)];
-    expect_carried_over(&names, &[by_12, behind].concat());
+    expect_from_the_scope(&names, &[by_12, behind].concat());
     // Row 5 missed the check. The choice of 50 is over five in the new grid, {1, 2, 3, 5}; the quorum is one of four.
     let by_50 = [(check(1, &[1, 2, 3, 4]), 0, 1), (write(5, &all), 0, 1), (write(1, &[1, 2, 4, 5]), 0, 2)];
     let behind = [(send(1, 4, &all), 0, 2), (send(1, 5, &all), 10, 0)];
@@ -251,7 +272,7 @@ fn a_joining_makes_five() {
 /// A published five in force dies with its third machine, and a check by all five leaves it in its grid. Two checks with the
 /// third machine on lay it anew.
 #[test]
-fn a_five_carried_over_keeps_its_grid_until_it_is_laid_anew() {
+fn a_five_of_the_scope_keeps_its_grid_until_it_is_laid_anew() {
     let names = [1, 2, 3, 4, 5];
     let but_the_third = [1, 2, 4, 5];
     let kept = [
@@ -269,8 +290,8 @@ fn a_five_carried_over_keeps_its_grid_until_it_is_laid_anew() {
         (read(1, &but_the_third), 0, 1),
         (write(1, &but_the_third), 0, 2),
     ];
-    assert_eq!(expect_carried_over(&names, &kept), [0; 5]);
-    assert_eq!(expect_carried_over(&names, &[&kept[..], &anew].concat()), [1; 5]);
+    assert_eq!(expect_from_the_scope(&names, &kept), [0; 5]);
+    assert_eq!(expect_from_the_scope(&names, &[&kept[..], &anew].concat()), [1; 5]);
 }
 
 /// One column: either machine reads, and both are needed to write or check.
@@ -405,6 +426,90 @@ fn the_list_in_force_may_answer_and_a_read_still_be_refused() {
     );
 }
 
+/// Each file has its own versions, and its own rows that are behind.
+#[test]
+fn files_go_their_own_ways() {
+    expect_of_two_files(&[
+        (of(2, write(1, &[1, 2, 3])), 0, 1),
+        (of(2, write(1, &[1, 2, 4])), 0, 2),
+        (of(1, write(1, &[2, 1, 4])), 0, 1),
+        (of(1, read(3, &[3, 4])), 0, 1),
+        (of(2, read(3, &[3, 4])), 7, 0),
+        (of(1, send(1, 4, &[1, 4])), 10, 0),
+        (of(2, send(4, 3, &[3, 4])), 9, 0),
+        (of(2, send(1, 4, &[1, 4])), 0, 2),
+        (of(2, read(3, &[3, 4])), 0, 2),
+        (of(1, read(3, &[3, 4])), 0, 1),
+    ]);
+}
+
+/// Row 4 misses the first write of a file and row 3 the second; then rows 2 and 1 go away. The other file is current throughout.
+#[test]
+fn one_stale_file_keeps_a_check_from_all() {
+    for (stale, other) in [(1, 2), (2, 1)] {
+        expect_of_two_files(&[
+            (of(stale, write(1, &[1, 2, 3])), 0, 1),
+            (of(stale, write(1, &[1, 2, 4])), 0, 2),
+            (check(1, &[1, 3, 4]), 0, 1),
+            (of(other, read(3, &[3, 4])), 0, 0),
+            (of(stale, read(3, &[3, 4])), 7, 0),
+            (check(3, &[3, 4]), 7, 0),
+            (check(1, &[1, 3, 4]), 0, 1),
+            (of(other, write(3, &[3, 4])), 0, 1),
+            (of(stale, send(1, 3, &[1, 3])), 0, 2),
+            (check(3, &[3, 4]), 0, 2),
+            // The check before marked both rows in that file.
+            (of(stale, send(3, 4, &[3, 4])), 0, 2),
+            (of(other, send(3, 4, &[3, 4])), 10, 0),
+        ]);
+    }
+}
+
+#[test]
+fn files_that_the_group_does_not_have() {
+    let all = [1, 2, 3, 4];
+    for file in [0, 3, 9, 257, (1 << 32) + 1, (1 << 32) + 2, u64::MAX] {
+        let beyond = |mut call: Call| {
+            if let Call::Read { offset, .. } | Call::Write { offset, .. } = &mut call {
+                *offset = 4;
+            }
+            of(file, call)
+        };
+        expect_of_two_files(&[
+            (of(file, read(1, &all)), 16, 0),
+            (of(file, write(1, &all)), 16, 0),
+            (of(file, send(1, 2, &all)), 16, 0),
+            (beyond(read(1, &all)), 16, 0),
+            (beyond(write(1, &all)), 16, 0),
+            (of(file, read(5, &all)), 2, 0),
+            (of(file, write(1, &[2])), 3, 0),
+            (of(file, send(1, 1, &all)), 2, 0),
+            (of(file, send(1, 2, &[1])), 3, 0),
+            (of(2, read(1, &all)), 0, 0),
+        ]);
+    }
+}
+
+#[test]
+fn foundings_are_refused_for_another_number_of_files() {
+    let names = [1, 2, 3];
+    for files in [0, 9] {
+        let case = blank_group(3, 4, files);
+        let refused = (found_group(3, &names, 4, WIDE_TABLE, files), 12, 0);
+        let names_first = (found_group(3, &[2, 1], 4, WIDE_TABLE, files), 11, 0);
+        let mut archive = Archive::new();
+        let mut trial = Trial::new(&mut archive, Engine::default(), &case);
+        for (call, refusal, value) in [names_first, refused] {
+            assert_eq!(trial.step(&call).map(|step| step.result), Ok((refusal << 32) + value), "{call}");
+        }
+    }
+    for files in 1..=8 {
+        let founding = (found_group(3, &names, 4, WIDE_TABLE, files), 0, 3);
+        let last = of(files as u64, write(1, &[1, 2]));
+        assert_eq!(expect_from(&blank_group(3, 4, files), &[founding, (last, 0, 1)]), [0; 3]);
+    }
+}
+
 #[test]
 fn joinings_are_refused_for_the_name_first() {
     expect_in(
@@ -498,7 +603,7 @@ fn row_4_behind(archive: &mut Archive, patches: &[usize]) -> (Vec<u8>, Ledger) {
     for (number, &length) in (1..).zip(patches) {
         let (coordinator, answering, offset) = (1, set(&[1, 2, 3]), number % 8);
         let patch = vec![number as u8; length];
-        make(&Call::Write { coordinator, answering, offset, patch, called: vec![0] });
+        make(&Call::Write { coordinator, answering, offset, patch, called: vec![0], file: 1 });
     }
     make(&check(1, &[1, 2, 3, 4]));
     trial.into_state()
@@ -531,54 +636,33 @@ fn a_send_by_window_where_no_founding_leads() {
     for (count, like_whole) in [(1, false), (16, false), (17, true)] {
         let (mut table, _) = row_4_behind(&mut archive, &vec![7; count]);
         let judged = Table::decode(&table).expect("well formed");
-        judged.contents_mut(&mut table, 4).fill(0xee);
+        judged.contents_mut(&mut table, 4, 1).fill(0xee);
         let mut trial = Trial::resume(&mut archive, Engine::default(), table, Ledger::default());
         assert_eq!(sent(&mut trial, 1, 4), (count, count.min(16), like_whole));
         let after = trial.table();
-        let kept = judged.contents(after, 4).iter().filter(|&&byte| byte == 0xee).count();
+        let kept = judged.contents(after, 4, 1).iter().filter(|&&byte| byte == 0xee).count();
         assert_eq!(kept > 0, !like_whole);
     }
 }
 
-/// After a move down and up again windows are empty: the next send is whole, and from then on patches are kept again.
+/// A table of form 1 goes on by the scope's rules alone; in the newest form it gives the same answers and rows, until a list of five
+/// is laid or a request's call is made.
 #[test]
-fn windows_are_empty_after_a_move_down_and_up() {
-    let mut archive = Archive::new();
-    let (table, ledger) = row_4_behind(&mut archive, &[7; 5]);
-    let mut trial = Trial::resume(&mut archive, Engine::default(), table.clone(), ledger);
-    for rules in [Rules::Published, Rules::Newest] {
-        let to = vec![0xee; rules.table_length(4, 40)];
-        let moving = Call::Move { form: rules.form().into(), to, taken: true };
-        assert_eq!(trial.step(&moving).map(|step| step.result), Ok(4));
-    }
-    assert_ne!(trial.table(), table);
-    assert_eq!(sent(&mut trial, 1, 4), (5, 0, true));
-    assert_eq!(trial.step(&write(1, &[1, 2, 3])).map(|step| step.result), Ok(6));
-    let step = trial.step(&write(1, &[1, 2, 3])).expect("no difference");
-    assert_eq!(step.added.map(|added| added.patches), Some(1));
-}
-
-/// A table of form 1 goes on by the scope's rules alone; carried up it gives the same answers and rows, until a list of five is
-/// laid or a request's call is made.
-#[test]
-fn a_table_carried_up_answers_as_by_the_scope_alone() {
+fn a_table_of_the_scope_answers_as_by_the_scope_alone() {
     let mut archive = Archive::new();
     let scope = Engine { rules: Rules::Published, ..Engine::default() };
     let (mut made, mut fives) = ([0; 5], 0);
     for case in 0..600 {
         let mut random = Random::new(12, case);
-        let mut plan = Plan::carried_over(&mut random);
-        let mut older = plan.table();
-        let up = plan.next(&mut random, &older);
-        let mut newest = archive.call(&mut older.clone(), &up).expect("no stray write").buffer;
+        let mut plan = Plan::from_the_scope(&mut random);
+        let mut newest = plan.table();
+        let mut older = tables::alone(&newest, 1, scope.rules);
         for _ in 0..plan.calls() {
             let call = plan.next(&mut random, &newest);
-            let answer = match call {
-                Call::Read { .. } | Call::Write { .. } | Call::Send { .. } | Call::Check { .. } => {
-                    archive.call(&mut newest, &call).expect("no stray write")
-                }
-                _ => continue,
-            };
+            if call.answering().is_none() || call.file().is_some_and(|file| file != 1) {
+                continue;
+            }
+            let answer = archive.call(&mut newest, &call).expect("no stray write");
             let expected = call.refer(scope, &mut older);
             assert_eq!(answer, expected, "case {case}: {call}");
             made[call.kind()] += usize::from(answer.result >> 32 == 0);
@@ -587,7 +671,7 @@ fn a_table_carried_up_answers_as_by_the_scope_alone() {
                 fives += 1;
                 break;
             }
-            assert_eq!(tables::without_windows(&newest, scope.rules), older, "case {case}: {call}");
+            assert_eq!(tables::alone(&newest, 1, scope.rules), older, "case {case}: {call}");
         }
     }
     assert!(made[1..].iter().all(|&done| done > 300) && fives > 50, "{made:?} {fives}");
@@ -596,21 +680,24 @@ fn a_table_carried_up_answers_as_by_the_scope_alone() {
 #[test]
 fn every_length_of_range_buffer_patch_and_number_called() {
     let names = [7, 70, 700, 7000];
-    let file_len = 5;
+    let (file_len, files) = (5, 2);
     let mut archive = Archive::new();
     for edge in [Edge::Start, Edge::End] {
-        let case = Case { edge, ..blank(names.len(), file_len) };
+        let case = Case { edge, ..blank_group(names.len(), file_len, files) };
         let mut trial = Trial::new(&mut archive, Engine::default(), &case);
-        trial.step(&found(names.len(), &names, file_len, WIDE_TABLE)).expect("no difference");
+        trial.step(&found_group(names.len(), &names, file_len, WIDE_TABLE, files)).expect("no difference");
         let (coordinator, answering) = (1, set(&[1, 2, 3]));
         for (offset, length) in (0..8).flat_map(|offset| (0..8).map(move |length| (offset, length))) {
             for called in [0, 1, 2, 3].map(|length| vec![0xc5; length]) {
                 let patch = vec![0x5a; length as usize];
-                let write = Call::Write { coordinator, answering, offset, patch, called: called.clone() };
-                trial.step(&write).expect("no difference");
-                for buffer_len in 0..8 {
+                for file in [1, 2, 3] {
+                    let (patch, called) = (patch.clone(), called.clone());
+                    let write = Call::Write { coordinator, answering, offset, patch, called, file };
+                    trial.step(&write).expect("no difference");
+                }
+                for (buffer_len, file) in (0..8).flat_map(|length| [(length, 1), (length, 2), (length, 3)]) {
                     let (buffer, called) = (vec![0xa5; buffer_len], called.clone());
-                    let read = Call::Read { coordinator, answering, offset, length, buffer, called };
+                    let read = Call::Read { coordinator, answering, offset, length, buffer, called, file };
                     trial.step(&read).expect("no difference");
                 }
             }
@@ -669,10 +756,10 @@ struct Explorer {
 impl Explorer {
     /// Founds the machines in a table of so many rows, and tries all histories of `depth` calls; gives how many calls were
     /// made.
-    fn explore(capacity: usize, names: &[u16], choice: u64, depth: u8) -> u64 {
+    fn explore(capacity: usize, names: &[u16], choice: u64, files: usize, depth: u8) -> u64 {
         let mut archive = Archive::new();
-        let mut trial = Trial::new(&mut archive, Engine::default(), &blank(capacity, 1));
-        trial.step(&found(capacity, names, 1, choice)).expect("no difference");
+        let mut trial = Trial::new(&mut archive, Engine::default(), &blank_group(capacity, 1, files));
+        trial.step(&found_group(capacity, names, 1, choice, files)).expect("no difference");
         let (table, ledger) = trial.into_state();
         Explorer::explore_from(&table, &ledger, depth)
     }
@@ -697,21 +784,22 @@ impl Explorer {
     }
 }
 
-/// Every read, write, send, check and choice, and joinings in every gap between names; a write lays down the byte `mark`.
+/// Every read, write and send of each file, every check and choice, and joinings in every gap between names; a write lays down the
+/// byte `mark`.
 fn every_call(table: &[u8], mark: u8) -> Vec<Call> {
     let table = Picture::of(table).expect("a founded history");
     let mut calls = Vec::new();
     for answering in 1..=table.all_used() {
         let first = rows::members(answering).next().unwrap_or(1) as u64;
         calls.push(Call::Check { coordinator: first, answering });
-        for row in rows::members(answering) {
-            let coordinator = row as u64;
-            let called = vec![0xee];
-            let buffer = vec![0];
-            let read =
-                Call::Read { coordinator, answering, offset: 0, length: 1, buffer, called: called.clone() };
-            calls
-                .extend([read, Call::Write { coordinator, answering, offset: 0, patch: vec![mark], called }]);
+        for (row, file) in
+            rows::members(answering).flat_map(|row| files_of(&table).map(move |file| (row, file)))
+        {
+            let (coordinator, offset, length) = (row as u64, 0, 1);
+            let (buffer, patch, called) = (vec![0], vec![mark], vec![0xee]);
+            let copied = called.clone();
+            calls.push(Call::Read { coordinator, answering, offset, length, buffer, called, file });
+            calls.push(Call::Write { coordinator, answering, offset, patch, called: copied, file });
         }
     }
     for coordinator in 1..=table.used as u64 {
@@ -719,7 +807,8 @@ fn every_call(table: &[u8], mark: u8) -> Vec<Call> {
     }
     for from in 1..=table.used {
         for to in (1..=table.used).filter(|&to| to != from) {
-            calls.push(send(from as u64, to as u64, &[from, to]));
+            let sends = files_of(&table).map(|file| of(file, send(from as u64, to as u64, &[from, to])));
+            calls.extend(sends);
         }
     }
     // The name 0, or the one below all, or the one above a name; it may be in use.
@@ -729,14 +818,25 @@ fn every_call(table: &[u8], mark: u8) -> Vec<Call> {
     calls
 }
 
+/// The numbers of a group's files.
+fn files_of(table: &Picture) -> impl Iterator<Item = u64> {
+    1..=table.files as u64
+}
+
 /// So many rows, names, the choice of the founding, and how many calls deep.
 type Machines = (usize, &'static [u16], u64, u8);
 
 fn explore_all(few: &[Machines]) {
+    explore_groups(1, few);
+}
+
+fn explore_groups(files: usize, few: &[Machines]) {
     for &(capacity, names, choice, depth) in few {
-        let calls = Explorer::explore(capacity, names, choice, depth);
+        let calls = Explorer::explore(capacity, names, choice, files, depth);
         let machines = names.len();
-        println!("{machines} machines, {capacity} rows, choice {choice}, {depth} calls deep: {calls} calls");
+        println!(
+            "{machines} machines, {capacity} rows, choice {choice}, {files} files, {depth} calls deep: {calls} calls"
+        );
         assert!(calls > 0);
     }
 }
@@ -775,13 +875,24 @@ fn all_short_histories_on_few_tall_machines() {
 }
 
 #[test]
-fn all_short_histories_of_five_carried_over() {
-    let (case, up) = carried_over(&[10, 21, 35, 64, 70], 1);
-    let mut archive = Archive::new();
-    let mut trial = Trial::new(&mut archive, Engine::default(), &case);
-    trial.step(&up).expect("no difference");
-    let (table, ledger) = trial.into_state();
-    let calls = Explorer::explore_from(&table, &ledger, 3);
-    println!("5 machines carried over, 3 calls deep: {calls} calls");
+fn all_short_histories_of_two_files() {
+    explore_groups(
+        2,
+        &[
+            (1, &[900], WIDE_TABLE, 5),
+            (2, &[5, 6], WIDE_TABLE, 5),
+            (3, &[5, 7], TALL_TABLE, 3),
+            (3, &[31, 500, 501], WIDE_TABLE, 4),
+            (4, &[10, 21, 35, 64], WIDE_TABLE, 3),
+        ],
+    );
+    explore_groups(3, &[(2, &[5, 6], WIDE_TABLE, 4), (3, &[31, 500, 501], WIDE_TABLE, 3)]);
+}
+
+#[test]
+fn all_short_histories_of_a_published_five() {
+    let case = from_the_scope(&[10, 21, 35, 64, 70], 1);
+    let calls = Explorer::explore_from(&case.table, &case.ledger, 3);
+    println!("5 machines in the published grid, 3 calls deep: {calls} calls");
     assert!(calls > 0);
 }

@@ -93,17 +93,17 @@ impl Run {
         let (edge, mut plan) = match number {
             0 => (Edge::Start, Plan::charts(&mut random)),
             1 => (Edge::End, Plan::charts(&mut random)),
-            2..=7 if number % 2 == 0 => (Edge::Start, Plan::choices(&mut random)),
+            2..=7 if number.is_multiple_of(2) => (Edge::Start, Plan::choices(&mut random)),
             2..=7 => (Edge::End, Plan::choices(&mut random)),
             8..36 => {
-                let edge = if number % 2 == 0 { Edge::Start } else { Edge::End };
+                let edge = if number.is_multiple_of(2) { Edge::Start } else { Edge::End };
                 let (form, published) = (MOVED_FORMS[(number as usize - 8) / 4], number % 4 < 2);
                 (edge, Plan::moves(&mut random, form, published))
             }
             _ => (edge, Plan::pick(&mut random)),
         };
-        if let Some((rules, rule)) = plan.damage {
-            self.counts.add_damage(rules, rule);
+        if let Some(damaged) = &plan.damage {
+            self.counts.add_damage(damaged);
         }
         let mut case = Case { table: plan.table(), ledger: plan.ledger(), calls: Vec::new(), edge };
         let mut trial = Trial::new(&mut self.archive, self.reference, &case).slipping(self.slip);

@@ -107,9 +107,10 @@ fn compare(seed: u64, options: &Options) -> bool {
     let [own, all] = run.counts.stayed();
     let [tables, sends] = run.counts.looked();
     let [like, unlike] = run.counts.sent_by_window();
+    let [others, alone] = run.counts.on_files();
     println!(
         "differ: {calls} calls ({} by the scope's rules alone too, {} decided by a grid mark, {own} by an own choice, {all} not, \
-         {} through a relay too), {} twins, {like} sends by window like whole ones, {unlike} not, {tables} tables with {sends} sends by the wrapper in {:.1} s, no difference (seed {seed})",
+         {} through a relay too, {alone} by the rules of form 3), {} twins and {others} with other files, {like} sends by window like whole ones, {unlike} not, {tables} tables with {sends} sends by the wrapper in {:.1} s, no difference (seed {seed})",
         run.counts.published(),
         run.counts.decided(),
         run.counts.relayed(),

@@ -1,14 +1,14 @@
 //! A relay that holds only rows that answered: each machine keeps its own row, and for each call a table is put together from
-//! the rows that it may look at. Its answers, and the rows on the machines, must be those of the one table.
+//! the rows that it may look at, for a read, write or send with the parts of its file alone. Its answers, and the rows on the
+//! machines, must be those of the one table.
 
 use crate::archive::Archive;
 use crate::call::{result_shown, Answer, Call};
-use dyngrid::{Rows, Table};
-use reference::{HEADER, TALL};
+use dyngrid::{File, Rows, Table};
+use reference::{HEADER, ROW_HEADER, TALL};
 
-/// Where a row keeps its link, its stale mark, its list and the mark of the list's grid.
+/// Where a row keeps its link, its list and the mark of the list's grid.
 const LINK: usize = 2;
-const STALE: usize = 3;
 const LIST: std::ops::Range<usize> = 16..24;
 const GRID_MARK: usize = 24;
 
@@ -87,7 +87,7 @@ impl Relay {
 
     fn gather_and_call(&mut self, archive: &mut Archive, call: &Call, answer: &Answer) -> Result<(), String> {
         let asked = Rows::from_bits(call.seen().unwrap_or_default()) & self.frame.rows();
-        let rows = asked.iter().map(|row| (row, &self.machines[row - 1]));
+        let rows = asked.iter().map(|row| (row, self.given(row, call)));
         let mut before =
             Table::assemble(&self.frame, rows).map_err(|error| format!("through a relay: {error}"))?;
         for (row, bytes) in std::mem::take(&mut self.late) {
@@ -114,11 +114,22 @@ impl Relay {
             }
             match self.slip {
                 Some(Slip::NothingShipped) => {}
-                Some(Slip::ShippedLate) if bytes[STALE] == 1 => self.late.push((row, bytes)),
+                Some(Slip::ShippedLate) if is_stale(&after, row) => self.late.push((row, bytes)),
                 _ => self.machines[row - 1] = bytes,
             }
         }
         Ok(())
+    }
+
+    /// What a machine gives for a call: its row, without the parts of other files than the call names.
+    fn given(&self, row: usize, call: &Call) -> Vec<u8> {
+        let mut bytes = self.machines[row - 1].clone();
+        let named = call.file().map(|file| self.frame.file(file as usize));
+        if let Some(part) = named.and_then(File::range) {
+            bytes[ROW_HEADER..part.start].fill(0);
+            bytes[part.end..].fill(0);
+        }
+        bytes
     }
 
     /// Gives these rows the list of all used rows, as a founding would lay it.
@@ -156,6 +167,11 @@ impl Relay {
         }
         Ok(())
     }
+}
+
+/// Is a part of the row marked?
+fn is_stale(table: &Table, row: usize) -> bool {
+    table.row(row).is_some_and(|row| row.copies.iter().any(|copy| copy.stale))
 }
 
 fn agree(relayed: &Answer, answer: &Answer) -> Result<(), String> {
@@ -204,20 +220,21 @@ mod tests {
     #[test]
     fn every_byte_is_compared() {
         let mut archive = Archive::new();
-        let mut whole = vec![0; reference::Table::length(5, 4)];
+        let mut whole = vec![0; reference::Table::length(5, 4, 2)];
         let names = names_in_bytes(&[10, 20, 30, 40]);
-        let found = Call::Found { capacity: 5, file_len: 4, names, choice: 0 };
+        let found = Call::Found { capacity: 5, file_len: 4, names, choice: 0, files: 2 };
         archive.call(&mut whole, &found).expect("no stray write");
         let founded = whole.clone();
         let called = vec![0];
-        let write = Call::Write { coordinator: 4, answering: 0b1111, offset: 1, patch: vec![7, 8], called };
+        let (coordinator, answering, offset, patch, file) = (4, 0b1111, 1, vec![7, 8], 2);
+        let write = Call::Write { coordinator, answering, offset, patch, called, file };
         let answer = archive.call(&mut whole, &write).expect("no stray write");
         let mut relayed = |answer: &Answer, whole: &[u8]| {
             let mut relay = Relay::open(&founded, None).expect("founded");
             relay.call(&mut archive, &write, answer, whole).is_ok()
         };
         assert!(relayed(&answer, &whole));
-        for at in 0..reference::Table::length(4, 4) {
+        for at in 0..reference::Table::length(4, 4, 2) {
             let mut altered = whole.clone();
             altered[at] ^= 1;
             assert!(!relayed(&answer, &altered), "byte {at}");

@@ -1,11 +1,11 @@
 //! How often each call was done and refused, on which kinds of tables, and at which sizes its twin was asked.
 
 use crate::call::Call;
-use crate::damage;
+use crate::damage::{self, Damaged};
 use crate::generate::MOVE_FORMS;
 use crate::tables::Picture;
 use reference::window::RECORDS;
-use reference::{Quorum, Rules, Shape};
+use reference::{Quorum, Rules, Shape, MAX_FILES};
 use std::collections::{BTreeMap, BTreeSet};
 use std::fmt;
 use std::ops::RangeInclusive;
@@ -40,9 +40,23 @@ pub struct Counts {
     added: [[u64; FILLS.len()]; PATCHES.len()],
     /// For each form, how many tables of it broke each rule.
     damages: [[u64; damage::RULES.len()]; Rules::ALL.len()],
+    /// How many tables broke each rule of what a row says of a file in the last of several files.
+    damaged_last: [u64; damage::RULES.len()],
+    /// For each kind of call, how often it was done on a table of each number of files.
+    files: [[u64; MAX_FILES]; KINDS],
+    /// For each kind of call, how often it was done with each file.
+    named: [[u64; MAX_FILES]; KINDS],
+    /// For each kind of call, how often it was refused by 16 for each of `ABSENT`.
+    absent: [[u64; ABSENT.len()]; KINDS],
+    /// For each kind of call and number of files, how often it was made again with other parts of other files.
+    other_files: [[u64; MAX_FILES]; KINDS],
+    /// For each kind of call, how often it was made by the rules of form 3 on each file alone, in tables of one file and of several.
+    alone: [[u64; GROUPS.len()]; KINDS],
+    /// How many checks were of each of `CHECKS`.
+    checks: [u64; CHECKS.len()],
     /// For each form, each of `MOVE_FORMS` and each of `BUFFERS`, how many moves of well-formed tables were so.
     moved: [[[u64; BUFFERS.len()]; MOVE_FORMS.len()]; Rules::ALL.len()],
-    /// For each of `WAYS`, how many founded histories went that way.
+    /// For each of `WAYS`, how many tables went that way and were moved on.
     went_on: [u64; WAYS.len()],
     /// For each form, how many moves to form 1 were of tables with one alone of `UNPUBLISHED`.
     unpublished: [[u64; UNPUBLISHED.len()]; Rules::ALL.len()],
@@ -88,14 +102,15 @@ pub struct Moved {
     /// Has a list a grid mark? Has a row an empty list?
     pub marked: bool,
     pub unlisted: bool,
-    /// Did a founded history go on on the new table?
+    /// Did the calls go on on the new table?
     pub went_on: bool,
 }
 
 impl Moved {
     pub fn of(table: &Picture, form: u64, length: usize) -> Moved {
         let rules = u8::try_from(form).ok().and_then(Rules::of_form).unwrap_or_default();
-        let right = rules.table_length(table.capacity, table.file_len);
+        let files = table.files.min(rules.most_files());
+        let right = rules.table_length(table.capacity, table.file_len, files);
         Moved {
             from: table.rules,
             form,
@@ -116,6 +131,58 @@ const BUFFERS: [(&str, isize); 3] = [("a byte short", -1), ("right", 0), ("a byt
 /// What keeps a table from moving to form 1.
 const UNPUBLISHED: [&str; 2] = ["a grid mark", "an empty list"];
 
+/// What the files had to do with a check.
+#[derive(Clone, Copy, Debug, PartialEq, Eq)]
+pub enum Checked {
+    /// It was done, and so many of the files got marks.
+    Done { marked: usize, files: usize },
+    /// It was refused by 7; because of one file alone?
+    NotCurrent { only: Option<usize>, files: usize },
+}
+
+/// Something that must come, and how it is known.
+type Known<T> = (&'static str, fn(T) -> bool);
+
+/// The kinds of checks of several files that must come.
+const CHECKS: [Known<Checked>; 5] = [
+    ("refused by 7 because of the first file alone", |checked| {
+        matches!(checked, Checked::NotCurrent { only: Some(1), files: 2.. })
+    }),
+    (
+        "refused by 7 because of the last file alone",
+        |checked| matches!(checked, Checked::NotCurrent { only: Some(only @ 2..), files } if only == files),
+    ),
+    (
+        "refused by 7 because of a file between alone",
+        |checked| matches!(checked, Checked::NotCurrent { only: Some(only @ 2..), files } if only < files),
+    ),
+    (
+        "that marked in some files and not in others",
+        |checked| matches!(checked, Checked::Done { marked: marked @ 1.., files } if marked < files),
+    ),
+    (
+        "that marked in each of several files",
+        |checked| matches!(checked, Checked::Done { marked: marked @ 2.., files } if marked == files),
+    ),
+];
+
+/// The kinds of calls that name a file: read, write, send; those that files have a part in; and those that are made by the rules of
+/// form 3 too.
+const NAMING: RangeInclusive<usize> = 1..=3;
+const ON_FILES: [usize; 7] = [0, 1, 2, 3, 4, 5, 7];
+const BY_FORM_3: [usize; 6] = [1, 2, 3, 4, 5, 7];
+
+/// The files that a group does not have and that must be named, by their number and how many there are.
+const ABSENT: [Known<(u64, usize)>; 4] = [
+    ("file 0", |(file, _)| file == 0),
+    ("the file behind the last", |(file, files)| file == files as u64 + 1),
+    ("file 9", |(file, _)| file == MAX_FILES as u64 + 1),
+    ("file 2^32 + 1", |(file, _)| file == (1 << 32) + 1),
+];
+
+/// How many files a table has that its files are asked of alone.
+const GROUPS: [&str; 2] = ["of one", "of several"];
+
 /// What a done write added to the window of a row.
 #[derive(Clone, Copy, Debug, PartialEq, Eq)]
 pub struct Added {
@@ -125,7 +192,7 @@ pub struct Added {
 }
 
 /// The kinds of sends, in founded histories and elsewhere.
-const SENDS: [(&str, fn(Sent) -> bool); 7] = [
+const SENDS: [Known<Sent>; 7] = [
     ("by window, 1 behind", |sent| sent.by_window() && sent.behind == 1),
     ("by window, 15 behind", |sent| sent.by_window() && sent.behind == 15),
     ("by window, 16 behind", |sent| sent.by_window() && sent.behind == 16),
@@ -153,9 +220,9 @@ fn fill(patches: usize) -> usize {
 /// The answers that each kind of call can give, 0 for done, in the order of `Call::KINDS`.
 const POSSIBLE: [&[u32]; KINDS] = [
     &[0, 11, 12],
-    &[0, 1, 2, 3, 4, 5, 6, 7],
-    &[0, 1, 2, 3, 4, 5, 6, 7, 8],
-    &[0, 1, 2, 3, 9, 10],
+    &[0, 1, 2, 3, 4, 5, 6, 7, 16],
+    &[0, 1, 2, 3, 4, 5, 6, 7, 8, 16],
+    &[0, 1, 2, 3, 9, 10, 16],
     &[0, 1, 2, 3, 6, 7, 8],
     &[0, 1, 13, 14],
     &[0, 5, 17],
@@ -180,8 +247,8 @@ const CALLING: [usize; 2] = [1, 2];
 /// The kinds of calls that are lent a list of one length: those, and a choice. Each of these refusals must come with each
 /// of these lengths of the list, the right one among them; 5 comes with that one from a read only.
 const LENT: [(usize, &[u32], &[usize], usize); 3] = [
-    (1, &[1, 2, 3, 4, 5], &[0, 1, 2], 1),
-    (2, &[1, 2, 3, 4, 5], &[0, 1, 2], 1),
+    (1, &[1, 2, 3, 4, 5, 16], &[0, 1, 2], 1),
+    (2, &[1, 2, 3, 4, 5, 16], &[0, 1, 2], 1),
     (7, &[1, 2, 4, 5], &[0, 7, 8, 9], 8),
 ];
 /// The answers that both a call that stayed with its own choice and one that did not can give.
@@ -290,6 +357,39 @@ pub struct Step {
     pub added: Option<Added>,
     /// What a move was asked of a well-formed table.
     pub moved: Option<Moved>,
+    /// How many files the table has, if it is well formed.
+    pub files: Option<usize>,
+    /// The same, if the call was made again with other parts of other files, or by the rules of form 3 on one file alone.
+    pub other_files: Option<usize>,
+    pub alone: Option<usize>,
+    /// What the files had to do with a check.
+    pub checked: Option<Checked>,
+}
+
+impl Step {
+    /// A call that gave this, and of which nothing else is known.
+    pub fn of(result: u64, ground: Ground) -> Step {
+        Step {
+            result,
+            ground,
+            twin_of: None,
+            published: false,
+            decided: None,
+            lent: None,
+            called: None,
+            stayed: None,
+            chosen: None,
+            relayed: false,
+            sends: None,
+            sent: None,
+            added: None,
+            moved: None,
+            files: None,
+            other_files: None,
+            alone: None,
+            checked: None,
+        }
+    }
 }
 
 impl Default for Counts {
@@ -307,6 +407,13 @@ impl Default for Counts {
             sent: Default::default(),
             added: Default::default(),
             damages: [[0; damage::RULES.len()]; Rules::ALL.len()],
+            damaged_last: [0; damage::RULES.len()],
+            files: Default::default(),
+            named: Default::default(),
+            absent: Default::default(),
+            other_files: Default::default(),
+            alone: Default::default(),
+            checks: Default::default(),
             moved: Default::default(),
             went_on: Default::default(),
             unpublished: Default::default(),
@@ -353,6 +460,7 @@ impl Counts {
                 counts[1] += u64::from(unlisted && !marked);
             }
         }
+        self.add_files(call, answer, &step);
         self.looked += u64::from(step.sends.is_some());
         self.sends += step.sends.unwrap_or(0) as u64;
         self.grounds[call.kind()][step.ground as usize] += 1;
@@ -365,9 +473,42 @@ impl Counts {
         }
     }
 
-    /// A case began with a table of this form that breaks this rule.
-    pub fn add_damage(&mut self, rules: Rules, rule: usize) {
-        self.damages[rules as usize][rule] += 1;
+    /// What the files had to do with a call.
+    fn add_files(&mut self, call: &Call, answer: u32, step: &Step) {
+        let kind = call.kind();
+        let place = |number: usize| number.checked_sub(1).filter(|&place| place < MAX_FILES);
+        let files = if let Call::Found { files, .. } = call { Some(*files as usize) } else { step.files };
+        if let (0, Some(files)) = (answer, files.and_then(place)) {
+            self.files[kind][files] += 1;
+        }
+        if let (Some(file), Some(files)) = (call.file(), step.files) {
+            if let (0, Some(file)) = (answer, place(file as usize)) {
+                self.named[kind][file] += 1;
+            }
+            let absent = ABSENT.iter().zip(&mut self.absent[kind]).filter(|_| answer == 16);
+            absent.for_each(|((_, is_such), count)| *count += u64::from(is_such((file, files))));
+        }
+        if let Some(files) = step.other_files.and_then(place) {
+            self.other_files[kind][files] += 1;
+        }
+        if let Some(files) = step.alone {
+            self.alone[kind][usize::from(files > 1)] += 1;
+        }
+        if let Some(checked) = step.checked {
+            let counts = CHECKS.iter().zip(&mut self.checks);
+            counts.for_each(|((_, is_such), count)| *count += u64::from(is_such(checked)));
+        }
+    }
+
+    /// A case began with this table.
+    pub fn add_damage(&mut self, damaged: &Damaged) {
+        self.damages[damaged.table.rules as usize][damaged.rule] += 1;
+        self.damaged_last[damaged.rule] += u64::from(damaged.in_last_file());
+    }
+
+    /// How often other parts of other files were tried, and how often the rules of form 3 on each file alone.
+    pub fn on_files(&self) -> [u64; 2] {
+        [self.other_files.iter().flatten().sum(), self.alone.iter().flatten().sum()]
     }
 
     /// How many sends went by window and left what a whole one would have, and how many did not.
@@ -458,7 +599,9 @@ impl Counts {
             missing.extend(never.map(|(ground, _)| format!("move from form {form} to 1 with {ground}")));
         }
         let never = WAYS.iter().zip(self.went_on).filter(|&(_, count)| count == 0);
-        missing.extend(never.map(|((from, to), _)| format!("history that moved from form {from} to {to}")));
+        missing
+            .extend(never.map(|((from, to), _)| format!("table that moved from form {from} to {to} and on")));
+        self.missing_files(&mut missing);
         let untold = CHOICES.into_iter().zip(self.chosen).filter(|&(_, count)| count == 0);
         missing.extend(untold.map(|(choice, _)| format!("choice of a {choice}")));
         let not_relayed = Call::KINDS.into_iter().zip(self.relayed).filter(|&(_, count)| count == 0);
@@ -479,6 +622,35 @@ impl Counts {
             }
         }
         missing
+    }
+
+    /// What never came of files.
+    fn missing_files(&self, missing: &mut Vec<String>) {
+        let last = damage::RULES.iter().zip(self.damaged_last);
+        let never = last.filter(|((_, needs, _), count)| *count == 0 && needs.of_a_file());
+        missing
+            .extend(never.map(|((rule, ..), _)| format!("table with {rule} in the last of several files")));
+        let numbers = |counts: [u64; MAX_FILES]| (1..).zip(counts).filter(|&(_, count)| count == 0);
+        for (kind, name) in ON_FILES.map(|kind| (kind, Call::KINDS[kind])) {
+            let never = numbers(self.files[kind]);
+            missing.extend(never.map(|(files, _)| format!("{name} on a group of {files}")));
+        }
+        for (kind, name) in NAMING.map(|kind| (kind, Call::KINDS[kind])) {
+            let never = numbers(self.named[kind]);
+            missing.extend(never.map(|(file, _)| format!("{name} of file {file}")));
+            let never = ABSENT.iter().zip(self.absent[kind]).filter(|&(_, count)| count == 0);
+            missing.extend(never.map(|((file, _), _)| format!("{name} of {file}")));
+            let never = numbers(self.other_files[kind]).filter(|&(files, _)| files > 1);
+            missing
+                .extend(never.map(|(files, _)| format!("{name} among {files} files with other other files")));
+        }
+        for (kind, name) in BY_FORM_3.map(|kind| (kind, Call::KINDS[kind])) {
+            let never = GROUPS.iter().zip(self.alone[kind]).filter(|&(_, count)| count == 0);
+            missing
+                .extend(never.map(|(files, _)| format!("{name} by the rules of form 3 on a file {files}")));
+        }
+        let never = CHECKS.iter().zip(self.checks).filter(|&(_, count)| count == 0);
+        missing.extend(never.map(|((check, _), _)| format!("check {check}")));
     }
 
     /// How often a read or write stayed with its own choice, and how often it did not, where that can be told.
@@ -533,7 +705,7 @@ mod tests {
 
     fn calls() -> [Call; KINDS] {
         [
-            Call::Found { capacity: 1, file_len: 1, names: vec![1, 0], choice: 0 },
+            Call::Found { capacity: 1, file_len: 1, names: vec![1, 0], choice: 0, files: 1 },
             Call::Read {
                 coordinator: 1,
                 answering: 1,
@@ -541,9 +713,10 @@ mod tests {
                 length: 1,
                 buffer: vec![0],
                 called: vec![0],
+                file: 1,
             },
-            Call::Write { coordinator: 1, answering: 1, offset: 0, patch: vec![0], called: vec![0] },
-            Call::Send { from: 1, to: 2, answering: 3 },
+            Call::Write { coordinator: 1, answering: 1, offset: 0, patch: vec![0], called: vec![0], file: 1 },
+            Call::Send { from: 1, to: 2, answering: 3, file: 1 },
             Call::Check { coordinator: 1, answering: 1 },
             Call::Join { name: 1 },
             Call::Chart { length: 1, mark: 0, list: vec![0; 128] },
@@ -554,31 +727,53 @@ mod tests {
 
     /// A call that gave this answer, on a table whose rows all have a list in the published grid.
     fn step(answer: u32) -> Step {
-        let result = u64::from(answer) << 32;
-        let ground = Ground::Published;
-        Step {
-            result,
-            ground,
-            twin_of: None,
-            published: false,
-            decided: None,
-            lent: None,
-            called: None,
-            stayed: None,
-            chosen: None,
-            relayed: false,
-            sends: None,
-            sent: None,
-            added: None,
-            moved: None,
+        Step::of(u64::from(answer) << 32, Ground::Published)
+    }
+
+    /// Groups of each number of files, each file of them and those that they do not have, and checks of every kind.
+    fn every_kind_of_group(counts: &mut Counts) {
+        for mut call in ON_FILES.map(|kind| calls()[kind].clone()) {
+            for number in 1..=MAX_FILES {
+                if let Call::Found { files, .. } = &mut call {
+                    *files = number as u64;
+                }
+                let other_files = call.file().map(|_| number);
+                let alone = BY_FORM_3.contains(&call.kind()).then_some(number);
+                let step = Step { files: Some(number), other_files, alone, ..step(0) };
+                call.rename_file(number as u64);
+                counts.add(&call, step);
+            }
+            if call.file().is_some() {
+                for file in [0, 8, 9, (1 << 32) + 1] {
+                    call.rename_file(file);
+                    counts.add(&call, Step { files: Some(7), ..step(16) });
+                }
+            }
         }
+        let never = [(1, 1), (2, 2), (2, 3)];
+        let checks = never.map(|(only, files)| Checked::NotCurrent { only: Some(only), files });
+        let missing_before = counts.missing().len();
+        for checked in checks.into_iter().chain([
+            Checked::NotCurrent { only: None, files: 2 },
+            Checked::Done { marked: 0, files: 2 },
+            Checked::Done { marked: 1, files: 1 },
+            Checked::Done { marked: 2, files: 3 },
+            Checked::Done { marked: 3, files: 3 },
+        ]) {
+            counts.add(&calls()[4], Step { checked: Some(checked), ..step(0) });
+        }
+        assert_eq!(counts.missing().len(), missing_before - 4);
+        let first = "check refused by 7 because of the first file alone".to_string();
+        assert!(counts.missing().contains(&first));
+        let checked = Some(Checked::NotCurrent { only: Some(1), files: 2 });
+        counts.add(&calls()[4], Step { checked, ..step(0) });
     }
 
     #[test]
     fn every_answer_table_and_size_must_come() {
         let mut counts = Counts::default();
         let answers: usize = POSSIBLE.iter().map(|answers| answers.len()).sum();
-        let called = (5 * 3 + 2) + (5 * 3 - 1 + 4);
+        let called = (6 * 3 + 2) + (6 * 3 - 1 + 4);
         let choices = (4 * 4 - 1) + 8;
         let (relayed, listed) = (KINDS + 1, 1);
         let windows = (7 + 6) + 4 * 3;
@@ -588,13 +783,18 @@ mod tests {
                 .map(move |rule| (rules, rule))
         };
         let broken: Vec<(Rules, usize)> = Rules::ALL.into_iter().flat_map(rules_of).collect();
-        let moves = 3 * 8 * 3 + 2 * 2 + 4;
+        let moves = 4 * 8 * 3 + 3 * 2 + 4;
+        let last: Vec<usize> =
+            (0..damage::RULES.len()).filter(|&rule| damage::RULES[rule].1.of_a_file()).collect();
+        let files = last.len() + 7 * 8 + 3 * (8 + 4 + 7) + 6 * 2 + 5;
         let of_tables = answers + 6 * 64 + 7 * Ground::ALL.len() + 4 + 12;
         assert_eq!(
             counts.missing().len(),
-            of_tables + called + choices + relayed + listed + windows + broken.len() + moves
+            of_tables + called + choices + relayed + listed + windows + broken.len() + moves + files
         );
-        broken.into_iter().for_each(|(rules, rule)| counts.add_damage(rules, rule));
+        broken.into_iter().for_each(|(rules, rule)| counts.damages[rules as usize][rule] += 1);
+        last.into_iter().for_each(|rule| counts.damaged_last[rule] += 1);
+        every_kind_of_group(&mut counts);
         for from in Rules::ALL {
             for (form, (_, over)) in
                 MOVE_FORMS.into_iter().flat_map(|form| BUFFERS.map(|buffer| (form, buffer)))
@@ -614,7 +814,7 @@ mod tests {
                 (17, 16, true),
                 (3, 0, true),
             ] {
-                let sent = Sent { founded, behind, patches, like_whole: like_whole != !founded };
+                let sent = Sent { founded, behind, patches, like_whole: like_whole == founded };
                 counts.add(&calls()[3], Step { sent: Some(sent), ..step(0) });
                 let sent = Sent { like_whole, ..sent };
                 counts.add(&calls()[3], Step { sent: Some(sent), ..step(0) });
@@ -713,7 +913,7 @@ mod tests {
     fn every_refusal_has_a_column() {
         let shown = Counts::default().to_string();
         let heads: Vec<&str> = shown.lines().next().expect("a line of heads").split_whitespace().collect();
-        assert_eq!(heads.join(" "), "done 1 2 3 4 5 6 7 8 9 10 11 12 13 14 15 17");
+        assert_eq!(heads.join(" "), "done 1 2 3 4 5 6 7 8 9 10 11 12 13 14 15 16 17");
         assert_eq!(shown.lines().count(), 1 + KINDS);
     }
 }

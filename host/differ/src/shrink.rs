@@ -3,7 +3,7 @@
 use crate::call::Call;
 use crate::ledger::Ledger;
 use crate::trial::{Case, Failure};
-use reference::{rows, Table, MAX_FILE, MAX_ROWS};
+use reference::{rows, Table, MAX_FILE, MAX_FILES, MAX_ROWS};
 
 /// Tries shorter cases as long as one of them fails.
 pub struct Shrinker<'a> {
@@ -41,11 +41,18 @@ impl<'a> Shrinker<'a> {
         true
     }
 
-    /// Starts from zero bytes, and founds few machines.
+    /// Starts from zero bytes, and founds few files and machines.
     fn simplify_table(&mut self) {
         let zero = vec![0; self.best.table.len()];
         self.keep(Case { table: zero, ledger: Ledger::default(), ..self.best.clone() });
         let mut count = 1;
+        while let Some(fewer) = with_fewer_files(&self.best, count) {
+            if self.keep(fewer) {
+                break;
+            }
+            count += 1;
+        }
+        count = 1;
         while let Some(fewer) = on_fewer_machines(&self.best, count) {
             if self.keep(fewer) {
                 return;
@@ -92,15 +99,37 @@ fn on_fewer_machines(case: &Case, count: usize) -> Option<Case> {
     let mut fewer = case.clone();
     let joinings = case.calls.iter().filter(|call| matches!(call, Call::Join { .. })).count();
     let rows = (count + joinings).min(MAX_ROWS);
-    let Some(Call::Found { capacity, file_len, names, .. }) = fewer.calls.first_mut() else { return None };
-    if 2 * count >= names.len() || *file_len > MAX_FILE as u64 {
+    let Some(Call::Found { capacity, file_len, names, files, .. }) = fewer.calls.first_mut() else {
+        return None;
+    };
+    if 2 * count >= names.len() || *file_len > MAX_FILE as u64 || *files > MAX_FILES as u64 {
         return None;
     }
     names.truncate(2 * count);
     *capacity = rows as u64;
-    fewer.table = vec![0; Table::length(rows, *file_len as usize)];
+    fewer.table = vec![0; Table::length(rows, *file_len as usize, *files as usize)];
     fewer.ledger = Ledger::default();
     fewer.calls.iter_mut().for_each(|call| call.cut_down(rows::first(rows)));
+    Some(fewer)
+}
+
+/// The case with its founding cut down to so many files, the last of which stands for those beyond; none if it has no more of them.
+fn with_fewer_files(case: &Case, count: usize) -> Option<Case> {
+    let mut fewer = case.clone();
+    let Some(Call::Found { capacity, file_len, files, .. }) = fewer.calls.first_mut() else { return None };
+    let before = *files;
+    let sizes_fit = *capacity <= MAX_ROWS as u64 && *file_len <= MAX_FILE as u64;
+    if count as u64 >= before || before > MAX_FILES as u64 || !sizes_fit {
+        return None;
+    }
+    *files = count as u64;
+    fewer.table = vec![0; Table::length(*capacity as usize, *file_len as usize, count)];
+    fewer.ledger = Ledger::default();
+    for call in &mut fewer.calls {
+        if let Some(file) = call.file().filter(|&file| file <= before) {
+            call.rename_file(file.min(count as u64));
+        }
+    }
     Some(fewer)
 }
 
@@ -134,10 +163,11 @@ fn plainer(call: &Call) -> Vec<Call> {
                 vec![Call::Move { form: *form, to: plain, taken: *taken }]
             }
         }
-        Call::Found { capacity, file_len, names, .. } => {
-            vec![Call::Found { capacity: *capacity, file_len: *file_len, names: names.clone(), choice: 0 }]
+        Call::Found { capacity, file_len, names, files, .. } => {
+            let (capacity, file_len, names, files) = (*capacity, *file_len, names.clone(), *files);
+            vec![Call::Found { capacity, file_len, names, choice: 0, files }]
         }
-        Call::Read { coordinator, answering, offset, length, buffer, called } => {
+        Call::Read { coordinator, answering, offset, length, buffer, called, file } => {
             let with = |answering, offset, length, buffer: &[u8]| Call::Read {
                 coordinator: *coordinator,
                 answering,
@@ -145,6 +175,7 @@ fn plainer(call: &Call) -> Vec<Call> {
                 length,
                 buffer: buffer.to_vec(),
                 called: called.clone(),
+                file: *file,
             };
             let mut calls: Vec<Call> =
                 fewer(*answering).map(|set| with(set, *offset, *length, buffer)).collect();
@@ -156,13 +187,14 @@ fn plainer(call: &Call) -> Vec<Call> {
             }
             calls
         }
-        Call::Write { coordinator, answering, offset, patch, called } => {
+        Call::Write { coordinator, answering, offset, patch, called, file } => {
             let with = |answering, offset, patch: &[u8]| Call::Write {
                 coordinator: *coordinator,
                 answering,
                 offset,
                 patch: patch.to_vec(),
                 called: called.clone(),
+                file: *file,
             };
             let mut calls: Vec<Call> = fewer(*answering).map(|set| with(set, *offset, patch)).collect();
             if patch.len() > 1 {
@@ -173,8 +205,9 @@ fn plainer(call: &Call) -> Vec<Call> {
             }
             calls
         }
-        Call::Send { from, to, answering } => {
-            fewer(*answering).map(|answering| Call::Send { from: *from, to: *to, answering }).collect()
+        Call::Send { from, to, answering, file } => {
+            let with = |answering| Call::Send { from: *from, to: *to, answering, file: *file };
+            fewer(*answering).map(with).collect()
         }
         Call::Check { coordinator, answering } => {
             fewer(*answering).map(|answering| Call::Check { coordinator: *coordinator, answering }).collect()

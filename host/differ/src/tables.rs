@@ -1,9 +1,10 @@
-//! Random well-formed tables that no founding leads to, and tables that differ only in rows that did not answer.
+//! Random well-formed tables that no founding leads to, and tables that differ only in rows that did not answer, or only within
+//! other files.
 
 use crate::random::Random;
 use reference::rows;
 use reference::window::{self, LONGEST_PATCH, RECORD, RECORDS, WINDOW};
-use reference::{Laid, Row, Rules, Shape, Table, HEADER, LIMIT, ROW_HEADER, TALL};
+use reference::{Laid, Part, Row, Rules, Shape, Table, LIMIT, MAX_FILE, TALL};
 use std::ops::Deref;
 
 /// A well-formed table with its used rows, kept apart from its bytes.
@@ -12,6 +13,8 @@ pub struct Picture {
     table: Table,
     /// Row i at place i - 1.
     pub rows: Vec<Row>,
+    /// For row i at place i - 1 its parts, that of file q at place q - 1.
+    pub parts: Vec<Vec<Part>>,
 }
 
 impl Picture {
@@ -28,11 +31,33 @@ impl Picture {
     fn by(rules: Rules, bytes: &[u8]) -> Option<Picture> {
         let table = Table::decode_by(rules, bytes)?;
         let rows = (1..=table.used).map(|row| table.row(bytes, row)).collect();
-        Some(Picture { table, rows })
+        let parts_of = |row| (1..=table.files).map(|file| table.part(bytes, row, file)).collect();
+        let parts = (1..=table.used).map(parts_of).collect();
+        Some(Picture { table, rows, parts })
     }
 
     pub fn row(&self, row: usize) -> &Row {
         &self.rows[row - 1]
+    }
+
+    pub fn part(&self, row: usize, file: usize) -> &Part {
+        &self.parts[row - 1][file - 1]
+    }
+
+    /// The file of this number, if there is one.
+    pub fn file(&self, number: u64) -> Option<usize> {
+        (1..=self.files as u64).contains(&number).then_some(number as usize)
+    }
+
+    /// The files that the set is not current for: it has no unmarked row, or a marked one desires more than those have.
+    pub fn stale_files(&self, set: u64) -> Vec<usize> {
+        let is_current = |file: usize| {
+            let parts = rows::members(set).map(|row| self.part(row, file));
+            let (stale, unmarked): (Vec<&Part>, Vec<&Part>) = parts.partition(|part| part.stale);
+            let newest = unmarked.iter().map(|part| part.version).max();
+            newest.is_some_and(|version| stale.iter().all(|part| part.desired <= version))
+        };
+        (1..=self.files).filter(|&file| !is_current(file)).collect()
     }
 
     /// The rows with an empty list.
@@ -73,31 +98,46 @@ pub struct Size {
     pub used: usize,
     pub capacity: usize,
     pub file_len: usize,
+    pub files: usize,
 }
 
 impl Size {
-    /// Mostly small, at times as large as a table can be.
+    /// Mostly small, at times as large as a table can be. Many files are mostly short, and in tables with few unused rows: they take
+    /// their time.
     pub fn pick(random: &mut Random) -> Size {
+        let files = match random.between(0, 9) {
+            0..=3 => 1,
+            4..=5 => 2,
+            6 => 3,
+            7 => 8,
+            _ => random.between(1, 8),
+        };
         let used = match random.between(0, 8) {
             0..=4 => random.between(1, 7),
             5..=6 => random.between(1, 16),
             7 => 5,
             _ => random.between(1, 64),
         };
+        let few = files <= 2;
         let capacity = match random.between(0, 3) {
             0..=1 => used,
-            2 => random.between(used, (used + 3).min(64)),
-            _ => random.between(used, 64),
+            3 if few || random.chance(1, 10) => random.between(used, 64),
+            _ => random.between(used, (used + 3).min(64)),
         };
         let file_len = match random.between(0, 99) {
             0..=49 => random.between(1, 6),
             50..=69 => random.between(7, 40),
             70..=93 => random.pick(&[31, 32, 33, 34, 40, 64]),
             94..=97 => random.between(41, 300),
-            98 => random.between(301, 4095),
-            _ => 4096,
+            98 => random.between(301, MAX_FILE - 1),
+            _ => MAX_FILE,
         };
-        Size { used, capacity, file_len }
+        let file_len = match file_len {
+            _ if few => file_len,
+            _ if random.chance(1, 50) => random.between(65, MAX_FILE + 400).min(MAX_FILE),
+            _ => file_len.min(64),
+        };
+        Size { used, capacity, file_len, files }
     }
 }
 
@@ -124,22 +164,18 @@ pub fn names_in_bytes(names: &[u16]) -> Vec<u8> {
 
 /// A well-formed table of this form.
 pub fn well_formed_by(random: &mut Random, size: Size, rules: Rules) -> Vec<u8> {
-    match rules {
-        Rules::Newest => well_formed(random, size),
-        Rules::Windowless => without_windows(&well_formed(random, size), rules),
-        Rules::Published => without_windows(&published(random, size), rules),
-    }
+    let lists = if rules == Rules::Published { PUBLISHED } else { any_lists(random) };
+    made(random, size, rules, lists)
 }
 
-/// A well-formed table with a shuffled chain, several epochs, marks, lists and windows.
+/// A well-formed table of the newest form with a shuffled chain, several epochs, marks, lists and windows.
 pub fn well_formed(random: &mut Random, size: Size) -> Vec<u8> {
-    let lists = any_lists(random);
-    made(random, size, lists)
+    well_formed_by(random, size, Rules::Newest)
 }
 
-/// The same, with a list in the published grid in each row.
-pub fn published(random: &mut Random, size: Size) -> Vec<u8> {
-    made(random, size, Lists { shape: Shape::Wide, unlisted: 0, marked: false })
+/// The same of any form, with a list in the published grid in each row.
+pub fn published(random: &mut Random, size: Size, rules: Rules) -> Vec<u8> {
+    made(random, size, rules, PUBLISHED)
 }
 
 /// Which lists a table has.
@@ -152,38 +188,57 @@ struct Lists {
     marked: bool,
 }
 
+/// As the scope alone lays them.
+const PUBLISHED: Lists = Lists { shape: Shape::Wide, unlisted: 0, marked: false };
+
 /// In half of the tables some rows, or all, have an empty list. A third of the tables are tall.
 fn any_lists(random: &mut Random) -> Lists {
     let unlisted = random.pick(&[0, 0, 0, 0, 1, 3, 6, 10]);
     Lists { shape: shape(random), unlisted, marked: true }
 }
 
-fn made(random: &mut Random, size: Size, lists: Lists) -> Vec<u8> {
-    let Size { used, capacity, file_len } = size;
+fn made(random: &mut Random, size: Size, rules: Rules, lists: Lists) -> Vec<u8> {
+    let Size { used, capacity, file_len, .. } = size;
+    let files = size.files.min(rules.most_files());
     let mut chain: Vec<usize> = (1..=used).collect();
     random.shuffle(&mut chain);
-    let rules = Rules::Newest;
-    let table = Table { rules, capacity, used, file_len, chain: chain.iter().copied().collect() };
-    let mut bytes = vec![0; Table::length(capacity, file_len)];
+    let table = Table::new(rules, capacity, used, file_len, files, chain.iter().copied().collect());
+    let mut bytes = vec![0; rules.table_length(capacity, file_len, files)];
     table.write_header(&mut bytes, chain[0]);
     for (row, state) in (1..).zip(used_rows(random, &chain, lists)) {
         table.write_row(&mut bytes, row, &state);
-        random.fill(table.contents_mut(&mut bytes, row));
-        any_window(random, &table, &mut bytes, row);
+    }
+    // All files may have stale parts, or one of them, or none.
+    let (any, one) = (random.chance(1, 2), random.between(0, files));
+    for file in 1..=files {
+        for (row, part) in (1..).zip(used_parts(random, used, any || file == one)) {
+            put_part(random, &table, &mut bytes, row, file, &part);
+        }
     }
     bytes
 }
 
-/// Gives a row a window of any patches, no more of them than it has versions.
-fn any_window(random: &mut Random, table: &Table, bytes: &mut [u8], row: usize) {
-    let most = RECORDS.min(table.row(bytes, row).version as usize);
-    let any = random.between(0, most);
-    let count = random.pick(&[0, 1, 15, 16, 16, any]).min(most);
-    put_window(random, table, bytes, row, count);
+/// Gives a row this part for a file, with any contents and a window of any patches, no more of them than it has versions.
+fn put_part(random: &mut Random, table: &Table, bytes: &mut [u8], row: usize, file: usize, part: &Part) {
+    table.write_part(bytes, row, file, part);
+    random.fill(table.contents_mut(bytes, row, file));
+    if table.rules.has_windows() {
+        let most = RECORDS.min(part.version as usize);
+        let any = random.between(0, most);
+        let count = random.pick(&[0, 1, 15, 16, 16, any]).min(most);
+        put_window(random, table, bytes, row, file, count);
+    }
 }
 
-/// Gives a row a window of so many patches, chained through its first records in any order; gives that order.
-pub fn put_window(random: &mut Random, table: &Table, bytes: &mut [u8], row: usize, count: usize) -> Vec<u8> {
+/// Gives a row a window on a file of so many patches, chained through its first records in any order; gives that order.
+pub fn put_window(
+    random: &mut Random,
+    table: &Table,
+    bytes: &mut [u8],
+    row: usize,
+    file: usize,
+    count: usize,
+) -> Vec<u8> {
     let mut order: Vec<u8> = (1..=count as u8).collect();
     random.shuffle(&mut order);
     let mut window = [0; WINDOW];
@@ -198,74 +253,83 @@ pub fn put_window(random: &mut Random, table: &Table, bytes: &mut [u8], row: usi
         record[2..4].copy_from_slice(&(offset as u16).to_le_bytes());
         random.fill(&mut record[4..4 + length]);
     }
-    *table.window_mut(bytes, row) = window;
-    let state = Row { oldest: order.first().copied().unwrap_or(0), ..table.row(bytes, row) };
-    table.write_row(bytes, row, &state);
+    *table.window_mut(bytes, row, file) = window;
+    let part = Part { oldest: order.first().copied().unwrap_or(0), ..table.part(bytes, row, file) };
+    table.write_part(bytes, row, file, &part);
     order
 }
 
-/// How many patches the window of a row has.
-pub fn patches(table: &Table, bytes: &[u8], row: usize) -> usize {
-    window::chain(table.window(bytes, row), table.row(bytes, row).oldest).0
+/// How many patches the window of a row on a file has.
+pub fn patches(table: &Table, bytes: &[u8], row: usize, file: usize) -> usize {
+    window::chain(table.window(bytes, row, file), table.part(bytes, row, file).oldest).0
 }
 
-/// A well-formed table of the newest form as one of an older form, whose lists its rules allow: its rows without their windows.
-pub fn without_windows(bytes: &[u8], rules: Rules) -> Vec<u8> {
-    let table = Table::decode(bytes).expect("well formed");
-    let mut older = bytes[..HEADER].to_vec();
-    older[0] = rules.form();
-    for row in 1..=table.capacity {
-        older.extend_from_slice(&bytes[table.row_at(row)..table.window_at(row)]);
-        let head = older.len() - table.file_len - ROW_HEADER;
-        older[head + 25] = 0;
-    }
-    older
+/// One file of a well-formed table of any form as a table of another form; see below.
+pub fn alone(bytes: &[u8], file: usize, rules: Rules) -> Vec<u8> {
+    alone_of(&Picture::of_any_form(bytes).expect("well formed"), bytes, file, rules)
 }
 
-/// A table of an older form as one of the newest: its rows, each with an empty window.
-pub fn with_empty_windows(bytes: &[u8]) -> Vec<u8> {
-    let mut newest = bytes[..HEADER].to_vec();
-    newest[0] = Rules::Newest.form();
-    for row in bytes[HEADER..].chunks((bytes.len() - HEADER) / usize::from(bytes[1])) {
-        newest.extend_from_slice(row);
-        newest.resize(newest.len() + WINDOW, 0);
+/// One file of a well-formed table as a table of another form, whose rules allow its lists: the heads with the parts of that file.
+/// Windows stay where both forms have them; elsewhere they are left out, or empty.
+pub fn alone_of(own: &Table, bytes: &[u8], file: usize, rules: Rules) -> Vec<u8> {
+    let table = Table::new(rules, own.capacity, own.used, own.file_len, 1, own.chain);
+    let mut alone = vec![0; rules.table_length(own.capacity, own.file_len, 1)];
+    table.write_header(&mut alone, own.chain[0].into());
+    for row in 1..=own.used {
+        table.write_row(&mut alone, row, &own.row(bytes, row));
+        let mut part = own.part(bytes, row, file);
+        if own.rules.has_windows() && rules.has_windows() {
+            *table.window_mut(&mut alone, row, 1) = *own.window(bytes, row, file);
+        } else {
+            part.oldest = 0;
+        }
+        table.write_part(&mut alone, row, 1, &part);
+        table.contents_mut(&mut alone, row, 1).copy_from_slice(own.contents(bytes, row, file));
     }
-    newest
+    alone
 }
 
 fn used_rows(random: &mut Random, chain: &[usize], lists: Lists) -> Vec<Row> {
     let count = chain.len();
     let names = names(random, count);
     let epochs = epochs(random, count, lists);
-    let lowest_version = random.pick(&[0, 0, 0, 1, 14, 16, 30, LIMIT - 3, LIMIT - 1]);
-    let stale_chance = random.pick(&[0, 0, 1, 5]);
-    let spread = random.pick(&[1, 2, 4, 18]);
-    let mut rows = Vec::new();
-    for row in 1..=count {
+    let row = |row: usize| {
         let place = chain.iter().position(|&member| member == row).expect("every row is in the chain");
         let (epoch, list) = epochs[row - 1];
+        let next = chain.get(place + 1).copied().unwrap_or(0);
+        Row { epoch, ..Row::new(names[place], next, list) }
+    };
+    (1..=count).map(row).collect()
+}
+
+/// What so many rows say of a file; windows are still empty. Unless some may be stale, every set of them is current.
+fn used_parts(random: &mut Random, count: usize, may_be_stale: bool) -> Vec<Part> {
+    let lowest_version = random.pick(&[0, 0, 0, 1, 14, 16, 30, LIMIT - 3, LIMIT - 1]);
+    let stale_chance = if may_be_stale { random.pick(&[0, 0, 1, 5]) } else { 0 };
+    let spread = random.pick(&[1, 2, 4, 18]);
+    let mut parts = Vec::new();
+    for _ in 0..count {
         let version = (lowest_version + random.between(0, spread - 1) as u32).min(LIMIT);
         let stale = version < LIMIT && random.chance(stale_chance, 10);
         let desired = if stale { (version + random.between(1, 3) as u32).min(LIMIT) } else { 0 };
-        let next = chain.get(place + 1).copied().unwrap_or(0);
-        rows.push(Row { stale, version, desired, epoch, ..Row::new(names[place], next, list) });
+        parts.push(Part { stale, version, desired, oldest: 0 });
     }
-    if count > 1 && random.chance(1, 3) {
-        put_behind(random, &mut rows);
+    if may_be_stale && count > 1 && random.chance(1, 3) {
+        put_behind(random, &mut parts);
     }
-    rows
+    parts
 }
 
-/// Marks a row that is behind another one: by one version, by as many as a window may reach back, or by one more or less.
-fn put_behind(random: &mut Random, rows: &mut [Row]) {
-    let from = random.between(0, rows.len() - 1);
-    let to = (from + random.between(1, rows.len() - 1)) % rows.len();
+/// Marks a part that is behind another one: by one version, by as many as a window may reach back, or by one more or less.
+fn put_behind(random: &mut Random, parts: &mut [Part]) {
+    let from = random.between(0, parts.len() - 1);
+    let to = (from + random.between(1, parts.len() - 1)) % parts.len();
     let behind = random.pick(&[1, 15, 16, 17]);
-    let version = rows[from].version.max(behind + random.pick(&[0, 0, 1, 9]));
+    let version = parts[from].version.max(behind + random.pick(&[0, 0, 1, 9]));
     let older = version - behind;
     let desired = random.between(older as usize + 1, version as usize) as u32;
-    rows[from] = Row { stale: false, version, desired: 0, ..rows[from] };
-    rows[to] = Row { stale: true, version: older, desired, ..rows[to] };
+    parts[from] = Part { stale: false, version, desired: 0, oldest: 0 };
+    parts[to] = Part { stale: true, version: older, desired, oldest: 0 };
 }
 
 /// An epoch number that only rows with an empty list have in a generated table.
@@ -346,14 +410,27 @@ pub fn twin(random: &mut Random, bytes: &[u8], table: &Table, answering: u64) ->
             state.epoch = free.next().expect("more epochs than rows");
             state.list = list(random, table.all_used(), rows::only(row), 5, shape);
         }
-        state.version = random.pick(&[0, 1, 7, 16, LIMIT - 1]);
-        state.stale = random.chance(1, 2);
-        state.desired = if state.stale { state.version + 1 } else { 0 };
         table.write_row(&mut twin, row, &state);
-        random.fill(table.contents_mut(&mut twin, row));
-        any_window(random, table, &mut twin, row);
+        (1..=table.files).for_each(|file| put_any_part(random, table, &mut twin, row, file));
     }
     twin
+}
+
+/// The same table with other bytes in every part of every other file; header and heads stay.
+pub fn twin_within_others(random: &mut Random, bytes: &[u8], table: &Table, file: Option<usize>) -> Vec<u8> {
+    let mut twin = bytes.to_vec();
+    for row in 1..=table.used {
+        let others = (1..=table.files).filter(|&other| Some(other) != file);
+        others.for_each(|other| put_any_part(random, table, &mut twin, row, other));
+    }
+    twin
+}
+
+fn put_any_part(random: &mut Random, table: &Table, bytes: &mut [u8], row: usize, file: usize) {
+    let version = random.pick(&[0, 1, 7, 16, LIMIT - 1]);
+    let stale = random.chance(1, 2);
+    let desired = if stale { version + 1 } else { 0 };
+    put_part(random, table, bytes, row, file, &Part { stale, version, desired, oldest: 0 });
 }
 
 #[cfg(test)]
@@ -370,7 +447,39 @@ mod tests {
             let table = Table::decode(&bytes).expect("well formed");
             let answering = random.next();
             assert!(Table::decode(&twin(&mut random, &bytes, &table, answering)).is_some());
+            let file = random.pick(&[None, Some(1), Some(table.files)]);
+            let twin = twin_within_others(&mut random, &bytes, &table, file);
+            assert!(Table::decode(&twin).is_some());
+            // What stays: header, heads, unused rows and the parts of the file.
+            let head = |bytes: &[u8], row| bytes[table.row_at(row)..table.part_at(row, 1)].to_vec();
+            assert!((1..=table.used).all(|row| head(&twin, row) == head(&bytes, row)));
+            let part = |bytes: &[u8], row, file| {
+                bytes[table.part_at(row, file)..table.part_at(row, file + 1)].to_vec()
+            };
+            if let Some(file) = file {
+                assert!((1..=table.used).all(|row| part(&twin, row, file) == part(&bytes, row, file)));
+            }
         }
+    }
+
+    /// All numbers of files, some with long files; none, one or several of them stale.
+    #[test]
+    fn groups_of_every_kind_are_made() {
+        let (mut files, mut long, mut stale) = ([0; 9], 0, [0; 3]);
+        for case in 0..4_000 {
+            let mut random = Random::new(1, case);
+            let size = Size::pick(&mut random);
+            files[size.files] += 1;
+            long += usize::from(size.files > 2 && size.file_len > 64);
+            if size.file_len <= 64 {
+                let bytes = well_formed(&mut random, size);
+                let table = Picture::of(&bytes).expect("well formed");
+                assert_eq!(table.files, size.files);
+                stale[table.stale_files(table.all_used()).len().min(2)] += usize::from(size.files > 2);
+            }
+        }
+        assert!(files[1..].iter().all(|&count| count > 50) && files[0] == 0, "{files:?}");
+        assert!(long > 10 && stale.into_iter().all(|count| count > 50), "{long} {stale:?}");
     }
 
     /// None, one or both in a wide table, and so among the rows of a twin that did not answer; and tall ones by themselves.
@@ -407,15 +516,19 @@ mod tests {
             let size = Size::pick(&mut random);
             let bytes = well_formed(&mut random, size);
             let table = Picture::of(&bytes).expect("well formed");
-            for row in 1..=table.used {
-                let count = patches(&table, &bytes, row);
+            for (row, file) in (1..=table.used).flat_map(|row| (1..=table.files).map(move |file| (row, file)))
+            {
+                let count = patches(&table, &bytes, row, file);
                 counts[count] += 1;
-                let records = (1..=count as u8).map(|index| window::record(table.window(&bytes, row), index));
+                let window = table.window(&bytes, row, file);
+                let records = (1..=count as u8).map(|index| window::record(window, index));
                 let records: Vec<window::Record> = records.collect();
                 records.iter().for_each(|record| lengths[record.length] += 1);
                 shuffled += usize::from((2..).zip(&records).any(|(next, record)| record.next != next));
-                for sender in table.rows.iter().filter(|sender| !sender.stale && table.row(row).stale) {
-                    let more = sender.version.saturating_sub(table.row(row).version) as usize;
+                let receiver = table.part(row, file);
+                let senders = table.parts.iter().map(|parts| parts[file - 1]);
+                for sender in senders.filter(|sender| !sender.stale && receiver.stale) {
+                    let more = sender.version.saturating_sub(receiver.version) as usize;
                     behind[more.min(17)] += 1;
                 }
             }
@@ -435,21 +548,37 @@ mod tests {
                 let table = Picture::of_any_form(&bytes).expect("well formed");
                 assert_eq!((bytes[0], table.rules), (rules.form(), rules));
             }
-            assert_eq!(Ground::of(Picture::of(&published(&mut random, size)).as_ref()), Ground::Published);
+            for rules in Rules::ALL {
+                let table = Picture::of_any_form(&published(&mut random, size, rules));
+                assert_eq!(Ground::of(table.as_ref()), Ground::Published);
+            }
         }
     }
 
+    /// A file by itself is what the group has of it; windows come off and on.
     #[test]
-    fn windows_come_off_and_on() {
+    fn a_file_alone_is_a_table_of_an_older_form() {
         for case in 0..500 {
             let mut random = Random::new(1, case);
             let size = Size::pick(&mut random);
             let mut bytes = well_formed(&mut random, size);
-            let older = without_windows(&bytes, Rules::Windowless);
-            assert!(Picture::of_any_form(&older).is_some() && Picture::of(&older).is_none());
-            let table = Table::decode(&bytes).expect("well formed");
-            (1..=table.used).for_each(|row| drop(put_window(&mut random, &table, &mut bytes, row, 0)));
-            assert!(with_empty_windows(&older) == bytes && older.len() < bytes.len());
+            let file = random.between(1, size.files);
+            let one_file = alone(&bytes, file, Rules::OneFile);
+            let (table, group) = (Picture::of_any_form(&one_file), Picture::of(&bytes));
+            let (table, group) = (table.expect("well formed"), group.expect("well formed"));
+            assert_eq!((table.rules, &table.rows), (Rules::OneFile, &group.rows));
+            for row in 1..=table.used {
+                assert_eq!(table.part(row, 1), group.part(row, file));
+                assert_eq!(table.contents(&one_file, row, 1), group.contents(&bytes, row, file));
+                assert_eq!(table.window(&one_file, row, 1), group.window(&bytes, row, file));
+            }
+            assert_eq!(alone(&one_file, 1, Rules::OneFile), one_file);
+            let back = alone(&one_file, 1, Rules::Newest);
+            assert_eq!(back == bytes, size.files == 1);
+            let older = alone(&one_file, 1, Rules::Windowless);
+            assert!(Picture::of_any_form(&older).is_some() && older.len() < one_file.len());
+            (1..=size.used).for_each(|row| drop(put_window(&mut random, &group, &mut bytes, row, file, 0)));
+            assert_eq!(alone(&older, 1, Rules::OneFile), alone(&bytes, file, Rules::OneFile));
         }
     }
 
@@ -487,10 +616,10 @@ mod tests {
             grounds.push(Ground::of(Some(&table)));
             let listed = table.rows.iter().filter(|row| !row.list.is_empty());
             let epochs: Vec<u32> = listed.map(|row| row.epoch).collect();
-            for row in table.rows.iter().filter(|row| row.list.is_empty()) {
+            for (row, parts) in table.rows.iter().zip(&table.parts).filter(|(row, _)| row.list.is_empty()) {
                 lone += usize::from(row.epoch == LONE_EPOCH);
                 shared += usize::from(epochs.contains(&row.epoch));
-                stale += usize::from(row.stale);
+                stale += usize::from(parts.iter().any(|part| part.stale));
             }
         }
         for ground in Ground::ALL.into_iter().filter(|&ground| ground != Ground::Malformed) {

@@ -6,18 +6,18 @@ use crate::guard::Edge;
 use crate::ledger::Ledger;
 use crate::random::Random;
 use crate::relay::{Relay, Slip};
-use crate::report::{choice_told, Added, Ground, Moved, Sent, Step};
+use crate::report::{choice_told, Added, Checked, Ground, Moved, Sent, Step};
 use crate::tables::{self, Picture};
 use crate::wrapper;
-use reference::window::WINDOW;
-use reference::{rows, Engine, Grid, Laid, Layout, Quorum, Row, Rules, Shape, Table, FORM, HEADER, TALL};
+use reference::{rows, Engine, Grid, Laid, Layout, Part, Quorum, Rules, Shape, Table, FORM, HEADER, TALL};
 
-/// Tables that are longer without their windows have no twin, and are not looked at through the wrapper: both take their time.
-const LONGEST: usize = 6_000;
+/// Tables that have more bytes of contents have no twin, and are not looked at through the wrapper: both take their time.
+const LONGEST: usize = 4_000;
 
 fn is_long(table: &[u8]) -> bool {
-    let windows = table.get(1).map_or(0, |&capacity| usize::from(capacity) * WINDOW);
-    table.len() > LONGEST + windows
+    let Some(&[_, capacity, _, _, low, high, files]) = table.first_chunk() else { return false };
+    let contents = usize::from(u16::from_le_bytes([low, high])) * usize::from(files.max(1));
+    usize::from(capacity) * contents > LONGEST
 }
 
 /// A table and the calls made on it.
@@ -100,57 +100,44 @@ impl<'a> Trial<'a> {
         let sent = send_frame(call, &answer, judged.as_ref(), &before, &self.table, founded)?;
         let moved = self.move_frame(call, &answer, judged.as_ref(), &before)?;
         let added = added(call, &answer, judged.as_ref(), &before, &self.table);
-        let published = self.ask_published(call, &answer, &before, ground, sent)?;
-        frame(call, &answer, &before, &self.table)?;
+        let published = self.ask_published(call, &answer, &before, judged.as_ref(), sent)?;
+        frame(call, &answer, judged.as_ref(), &before, &self.table)?;
         called_frame(call, &answer, judged.as_ref())?;
         let chosen = choice_frame(call, &answer, judged.as_ref())?;
-        let (decided, twin_of) = match &judged {
-            Some(table) => {
-                (deciding_mark(call, &answer, table), self.ask_twin(call, &answer, &before, table)?)
-            }
-            None => (None, None),
+        let checked = judged.as_ref().and_then(|table| checked(call, &answer, table, &self.table));
+        let mut step = Step {
+            published,
+            lent: lent(call),
+            called: (answer.called.len() == 1).then(|| answer.called[0]),
+            chosen,
+            sent,
+            added,
+            moved,
+            checked,
+            ..Step::of(answer.result, ground)
         };
-        // Every call but a move finds a table of an older form malformed; the book does not hear of it.
-        if answer.result >> 32 != 1 || before.first() == Some(&FORM) {
-            self.ledger.hear(call, &answer)?;
+        if let Some(table) = &judged {
+            step.files = Some(table.files);
+            step.decided = deciding_mark(call, &answer, table);
+            step.stayed = step.called.and_then(|called| stayed(call, called, table));
+            step.alone = self.ask_alone(call, &answer, &before, table)?;
+            step.twin_of = self.ask_twin(call, &answer, &before, table)?;
+            step.other_files = self.ask_twin_within_others(call, &answer, &before, table)?;
         }
-        let relayed = self.relay.is_some();
+        self.ledger.hear(call, &answer)?;
+        step.relayed = self.relay.is_some();
         if let Some(relay) = &mut self.relay {
             relay.call(self.archive, call, &answer, &self.table)?;
         }
         if let (Call::Move { taken: true, .. }, 0) = (call, answer.result >> 32) {
             self.table.clone_from(&answer.buffer);
-            self.relay = None;
         }
         if self.ledger.is_open() && (self.table != before || !founded) {
-            let table =
-                Picture::of_any_form(&self.table).ok_or("a founded history leaves a malformed table")?;
+            let table = Picture::of(&self.table).ok_or("a founded history leaves a malformed table")?;
             one_state_a_version(&table, &self.table)?;
         }
-        let sends = self.look(&before)?;
-        let called = (answer.called.len() == 1).then(|| answer.called[0]);
-        let lent = match call {
-            Call::Choice { set, .. } => Some(set.len()),
-            _ => call.called().map(<[u8]>::len),
-        };
-        let stayed = judged.as_ref().and_then(|table| stayed(call, called?, table));
-        let result = answer.result;
-        Ok(Step {
-            result,
-            ground,
-            twin_of,
-            published,
-            decided,
-            lent,
-            called,
-            stayed,
-            chosen,
-            relayed,
-            sends,
-            sent,
-            added,
-            moved,
-        })
+        step.sends = self.look(&before)?;
+        Ok(step)
     }
 
     /// Looks through the wrapper at the table, if it is the first one or a call altered it: at every small table, and at one in
@@ -162,10 +149,10 @@ impl<'a> Trial<'a> {
         }
         self.tables += 1;
         let judged = Picture::of(&self.table);
-        if self.tables % 8 != 0 && judged.as_ref().is_some_and(|table| table.used > SMALL) {
+        if !self.tables.is_multiple_of(8) && judged.as_ref().is_some_and(|table| table.used > SMALL) {
             return Ok(None);
         }
-        wrapper::look(self.reference, &self.table, judged.as_ref())
+        wrapper::look(self.reference, &self.table, judged.as_ref(), SMALL)
     }
 
     /// A done move has the rows used as its value, and in its buffer the same rows, without windows or with empty ones. Back again
@@ -178,11 +165,10 @@ impl<'a> Trial<'a> {
         before: &[u8],
     ) -> Result<Option<Moved>, String> {
         let Call::Move { form, to, taken } = call else { return Ok(None) };
-        let taken = *taken;
         let Some(table) = table else {
             return if answer.result >> 32 == 1 { Ok(None) } else { Err("a malformed table moved".into()) };
         };
-        let went_on = taken && self.ledger.is_open() && answer.result >> 32 == 0;
+        let went_on = *taken && answer.result >> 32 == 0;
         let moved = Moved { went_on, ..Moved::of(table, *form, to.len()) };
         if moved.over == 0 {
             wrapper::carry(before, *form, answer)?;
@@ -191,15 +177,14 @@ impl<'a> Trial<'a> {
             return Ok(Some(moved));
         }
         let rules = u8::try_from(*form).ok().and_then(Rules::of_form).ok_or("a move to no form was done")?;
-        let emptied = if table.rules == Rules::Newest {
-            tables::with_empty_windows(&tables::without_windows(before, Rules::Windowless))
-        } else {
-            before.to_vec()
+        let emptied = match table.rules {
+            Rules::OneFile => {
+                tables::alone(&tables::alone_of(table, before, 1, Rules::Windowless), 1, Rules::OneFile)
+            }
+            Rules::Newest => return Err("a move from form 4 was done".into()),
+            _ => before.to_vec(),
         };
-        let expected = match rules {
-            Rules::Newest => tables::with_empty_windows(before),
-            _ => tables::without_windows(before, rules),
-        };
+        let expected = tables::alone_of(table, before, 1, rules);
         same_bytes("moved table", &answer.buffer, &expected)?;
         if answer.result != table.used as u64 || Picture::of_any_form(&answer.buffer).is_none() {
             return Err(format!("a move leaves no table, or gives {}", answer.result));
@@ -220,37 +205,88 @@ impl<'a> Trial<'a> {
         compare(answer, &self.table, &expected, &expected_table)
     }
 
-    /// A table whose rows all have a list in the published grid gives, without its windows, what the scope's rules alone make
-    /// of it, unless a check lays a list of five. Where no founding leads, a send by window leaves other contents. Says whether
+    /// A table of one file whose rows all have a list in the published grid gives, without its windows, what the scope's rules alone
+    /// make of it, unless a check lays a list of five. Where no founding leads, a send by window leaves other contents. Says whether
     /// they were asked.
     fn ask_published(
         &self,
         call: &Call,
         answer: &Answer,
         before: &[u8],
-        ground: Ground,
+        table: Option<&Picture>,
         sent: Option<Sent>,
     ) -> Result<bool, String> {
-        let of_the_scope = call.answering().is_some() && ground == Ground::Published;
+        let Some(table) = table.filter(|table| table.files == 1) else { return Ok(false) };
+        let of_the_scope = call.answering().is_some()
+            && Ground::of(Some(table)) == Ground::Published
+            && call.file().is_none_or(|file| file == 1);
         let by_five = matches!(call, Call::Check { answering, .. } if answering.count_ones() == 5);
         if !of_the_scope || by_five && self.table != before {
             return Ok(false);
         }
         let engine = Engine { rules: Rules::Published, ..self.reference };
-        let mut expected_table = tables::without_windows(before, engine.rules);
+        let mut expected_table = tables::alone_of(table, before, 1, engine.rules);
         let expected = call.refer(engine, &mut expected_table);
-        let after = match Table::decode(&self.table) {
-            Some(_) => tables::without_windows(&self.table, engine.rules),
-            // A check where no founding leads may leave a malformed table; then only the answers are compared.
-            None => expected_table.clone(),
-        };
+        let left = Table::decode(&self.table);
+        let after = self.left_alone(left.as_ref(), 1, engine.rules, &expected_table);
         if let (Call::Send { to, .. }, Some(Sent { like_whole: false, .. })) = (call, sent) {
             let table = Table::decode_by(engine.rules, &expected_table).ok_or("a send left no table")?;
-            let contents = table.contents(&after, *to as usize);
-            table.contents_mut(&mut expected_table, *to as usize).copy_from_slice(contents);
+            let contents = table.contents(&after, *to as usize, 1);
+            table.contents_mut(&mut expected_table, *to as usize, 1).copy_from_slice(contents);
         }
         let compared = compare(answer, &after, &expected, &expected_table);
         compared.map(|()| true).map_err(|what| format!("by the scope's rules alone: {what}"))
+    }
+
+    /// What a call left of a file, in another form. A check where no founding leads may leave a malformed table; then only the
+    /// answers are compared.
+    fn left_alone(&self, left: Option<&Table>, file: usize, rules: Rules, expected: &[u8]) -> Vec<u8> {
+        left.map_or_else(|| expected.to_vec(), |table| tables::alone_of(table, &self.table, file, rules))
+    }
+
+    /// The heads of a group and the parts of one file are a table of form 3: by its rules it gives a read, write or send of that file
+    /// the same answer and rows; so does each file for a joining and a choice, and for a check unless another file has it refused by 7.
+    /// Says how many files the group has, if they were asked.
+    fn ask_alone(
+        &self,
+        call: &Call,
+        answer: &Answer,
+        before: &[u8],
+        table: &Picture,
+    ) -> Result<Option<usize>, String> {
+        if is_long(before) && table.files > 1 {
+            return Ok(None);
+        }
+        let files: Vec<usize> = match call {
+            Call::Found { .. } | Call::Chart { .. } | Call::Move { .. } => return Ok(None),
+            Call::Check { .. } | Call::Join { .. } => (1..=table.files).collect(),
+            Call::Choice { .. } => vec![table.files],
+            _ => match call.file().and_then(|file| table.file(file)) {
+                Some(file) => vec![file],
+                None => return Ok(None),
+            },
+        };
+        let engine = Engine { rules: Rules::OneFile, ..self.reference };
+        let mut of_one_file = call.clone();
+        of_one_file.rename_file(1);
+        let left = Table::decode(&self.table);
+        let mut refused_by_7 = false;
+        for file in files {
+            let mut expected_table = tables::alone_of(table, before, file, engine.rules);
+            let expected = of_one_file.refer(engine, &mut expected_table);
+            let by_another = answer.result >> 32 == 7 && matches!(call, Call::Check { .. });
+            refused_by_7 |= expected.result >> 32 == 7;
+            if by_another && matches!(expected.result >> 32, 0 | 8) {
+                continue;
+            }
+            let after = self.left_alone(left.as_ref(), file, engine.rules, &expected_table);
+            let compared = compare(answer, &after, &expected, &expected_table);
+            compared.map_err(|what| format!("file {file} as a table of one file: {what}"))?;
+        }
+        if answer.result >> 32 == 7 && !refused_by_7 {
+            return Err("refused by 7, and every file is current".into());
+        }
+        Ok(Some(table.files))
     }
 
     /// Rows that did not answer have no part in a call beyond names and links: another table that differs in them gives
@@ -284,11 +320,65 @@ impl<'a> Trial<'a> {
                 expected[place.clone()].copy_from_slice(&self.table[place]);
             }
         }
-        if twin == expected {
-            return Ok(Some(table.used));
+        match difference(&twin, &expected) {
+            Some(at) => Err(format!("rows that did not answer alter byte {at}")),
+            None => Ok(Some(table.used)),
         }
-        let at = twin.iter().zip(&expected).position(|(one, other)| one != other);
-        Err(format!("rows that did not answer alter byte {at:?}"))
+    }
+
+    /// Other files have no part in a read, write or send: another group that differs only within them gives the same, and keeps
+    /// its own parts of them. Gives the number of files, if there is such a group.
+    fn ask_twin_within_others(
+        &mut self,
+        call: &Call,
+        answer: &Answer,
+        before: &[u8],
+        table: &Picture,
+    ) -> Result<Option<usize>, String> {
+        let Some(number) = call.file() else { return Ok(None) };
+        let file = table.file(number);
+        if is_long(before) || file.is_some() && table.files == 1 {
+            return Ok(None);
+        }
+        let mut random = Random::new(number, answer.result ^ before.len() as u64);
+        let mut twin = tables::twin_within_others(&mut random, before, table, file);
+        let mut expected = twin.clone();
+        for (row, file) in (1..=table.used).filter_map(|row| Some((row, file?))) {
+            let part = table.part_at(row, file)..table.part_at(row, file + 1);
+            expected[part.clone()].copy_from_slice(&self.table[part]);
+        }
+        if self.archive.call(&mut twin, call)? != *answer {
+            return Err("other files alter the answer".into());
+        }
+        same_bytes("with other files: table", &twin, &expected)?;
+        Ok(Some(table.files))
+    }
+}
+
+/// The length of the list for the number called, or for a choice, if one was lent.
+fn lent(call: &Call) -> Option<usize> {
+    match call {
+        Call::Choice { set, .. } => Some(set.len()),
+        _ => call.called().map(<[u8]>::len),
+    }
+}
+
+/// What the files had to do with a check that was done, or refused by 7.
+fn checked(call: &Call, answer: &Answer, table: &Picture, after: &[u8]) -> Option<Checked> {
+    let Call::Check { answering, .. } = *call else { return None };
+    let files = table.files;
+    match answer.result >> 32 {
+        0 => {
+            let altered = |&file: &usize| {
+                (1..=table.used).any(|row| Table::part(table, after, row, file) != *table.part(row, file))
+            };
+            Some(Checked::Done { marked: (1..=files).filter(altered).count(), files })
+        }
+        7 => {
+            let stale = table.stale_files(answering);
+            Some(Checked::NotCurrent { only: if let [only] = stale[..] { Some(only) } else { None }, files })
+        }
+        _ => None,
     }
 }
 
@@ -335,19 +425,32 @@ fn compare(answer: &Answer, table: &[u8], expected: &Answer, expected_table: &[u
 }
 
 fn same_bytes(of: &str, archive: &[u8], reference: &[u8]) -> Result<(), String> {
-    if archive == reference {
-        return Ok(());
-    }
-    match archive.iter().zip(reference).position(|(one, other)| one != other) {
+    match difference(archive, reference) {
         Some(at) => {
             Err(format!("{of} byte {at}: archive {:02x}, reference {:02x}", archive[at], reference[at]))
         }
+        None if archive.len() == reference.len() => Ok(()),
         None => Err(format!("{of}: archive {} bytes, reference {}", archive.len(), reference.len())),
     }
 }
 
-/// A refused call has value 0 and alters nothing but the number called; a done one, founding and joining aside, alters only rows that answered.
-fn frame(call: &Call, answer: &Answer, before: &[u8], after: &[u8]) -> Result<(), String> {
+/// The first byte that differs. Equal bytes, of which there are many, are compared at once.
+fn difference(one: &[u8], other: &[u8]) -> Option<usize> {
+    if one == other {
+        return None;
+    }
+    one.iter().zip(other).position(|(one, other)| one != other)
+}
+
+/// A refused call has value 0 and alters nothing but the number called; a done one, founding and joining aside, alters only rows that
+/// answered, and a write or send of these only the parts of its file.
+fn frame(
+    call: &Call,
+    answer: &Answer,
+    table: Option<&Picture>,
+    before: &[u8],
+    after: &[u8],
+) -> Result<(), String> {
     if answer.result >> 32 != 0 {
         let lent_kept = call.lent().is_none_or(|lent| lent == answer.buffer);
         if before != after || !lent_kept || answer.result as u32 != 0 {
@@ -365,15 +468,21 @@ fn frame(call: &Call, answer: &Answer, before: &[u8], after: &[u8]) -> Result<()
     } else if let Call::Join { name } = *call {
         return joining_frame(name, answer.result, before, after);
     } else if let (Some(answering), true) = (call.answering(), before != after) {
-        let stride = stride(before);
-        let [rows_before, rows_after] = [before, after].map(|table| table[HEADER..].chunks(stride));
-        let mut altered =
-            (1..).zip(rows_before.zip(rows_after)).filter(|(_, (before, after))| before != after);
-        if let Some((row, _)) = altered.find(|(row, _)| !rows::has(answering, *row)) {
-            return Err(format!("row {row} altered, and it did not answer"));
+        let table = table.ok_or("a malformed table altered")?;
+        let mut expected = before.to_vec();
+        for row in rows::members(answering) {
+            let place = match call.file() {
+                // Within a row of a write or send, the part of its file.
+                Some(file) => {
+                    let file = table.file(file).ok_or("a write or send of no file was done")?;
+                    table.part_at(row, file)..table.part_at(row, file + 1)
+                }
+                None => table.row_at(row)..table.row_at(row + 1),
+            };
+            expected[place.clone()].copy_from_slice(&after[place]);
         }
-        if before[..HEADER] != after[..HEADER] {
-            return Err("the header altered".into());
+        if let Some(at) = difference(&expected, after) {
+            return Err(format!("byte {at} altered, in no row that answered or not of the file"));
         }
     }
     Ok(())
@@ -389,18 +498,19 @@ fn send_frame(
     after: &[u8],
     founded: bool,
 ) -> Result<Option<Sent>, String> {
-    let (Call::Send { from, to, .. }, 0) = (call, answer.result >> 32) else { return Ok(None) };
+    let (Call::Send { from, to, file, .. }, 0) = (call, answer.result >> 32) else { return Ok(None) };
     let table = table.ok_or("a send on a malformed table was done")?;
     let (from, to) = (*from as usize, *to as usize);
-    let (sender, receiver) = (*table.row(from), *table.row(to));
-    let expected =
-        Row { version: sender.version, stale: false, desired: 0, oldest: sender.oldest, ..receiver };
-    if Table::row(table, after, to) != expected || table.window(after, to) != table.window(before, from) {
-        return Err(format!("a send leaves row {to} as {:?}", Table::row(table, after, to)));
+    let file = table.file(*file).ok_or("a send of no file was done")?;
+    let (sender, receiver) = (*table.part(from, file), *table.part(to, file));
+    let expected = Part { stale: false, desired: 0, ..sender };
+    let left = Table::part(table, after, to, file);
+    if left != expected || table.window(after, to, file) != table.window(before, from, file) {
+        return Err(format!("a send leaves row {to} with {left:?}"));
     }
-    let like_whole = table.contents(after, to) == table.contents(before, from);
+    let like_whole = table.contents(after, to, file) == table.contents(before, from, file);
     let behind = (sender.version - receiver.version) as usize;
-    let sent = Sent { founded, behind, patches: tables::patches(table, before, from), like_whole };
+    let sent = Sent { founded, behind, patches: tables::patches(table, before, from, file), like_whole };
     if !like_whole && (founded || !sent.by_window()) {
         return Err(format!("other contents than of a whole send: {sent:?}"));
     }
@@ -415,25 +525,30 @@ fn added(
     before: &[u8],
     after: &[u8],
 ) -> Option<Added> {
-    let (Call::Write { patch, .. }, 0) = (call, answer.result >> 32) else { return None };
-    let table = table?;
-    let took = |&row: &usize| Table::row(table, after, row).version != table.row(row).version;
+    let (Call::Write { patch, file, .. }, 0) = (call, answer.result >> 32) else { return None };
+    let (table, file) = (table?, table?.file(*file)?);
+    let took = |&row: &usize| Table::part(table, after, row, file).version != table.part(row, file).version;
     let row = (1..=table.used).find(took)?;
-    Some(Added { length: patch.len(), patches: tables::patches(table, before, row) })
+    Some(Added { length: patch.len(), patches: tables::patches(table, before, row, file) })
 }
 
-/// In a founded history rows of one version have the same contents and the same window.
+/// In a founded history rows of one version of a file have the same contents and the same window.
 fn one_state_a_version(table: &Picture, bytes: &[u8]) -> Result<(), String> {
-    let mut rows: Vec<usize> = (1..=table.used).collect();
-    rows.sort_by_key(|&row| table.row(row).version);
-    let state = |row: usize| (table.row(row).oldest, &bytes[table.contents_at(row)..table.row_at(row + 1)]);
-    let differ = rows.windows(2).find(|pair| {
-        table.row(pair[0]).version == table.row(pair[1]).version && state(pair[0]) != state(pair[1])
-    });
-    match differ {
-        Some(pair) => Err(format!("rows {pair:?} have one version, and other contents or windows")),
-        None => Ok(()),
+    for file in 1..=table.files {
+        let version = |row: usize| table.part(row, file).version;
+        let end = |row: usize| table.part_at(row, file + 1);
+        let state =
+            |row: usize| (table.part(row, file).oldest, &bytes[table.contents_at(row, file)..end(row)]);
+        let mut rows: Vec<usize> = (1..=table.used).collect();
+        rows.sort_by_key(|&row| version(row));
+        let alike = |pair: &[usize]| version(pair[0]) != version(pair[1]) || state(pair[0]) == state(pair[1]);
+        if let Some(pair) = rows.windows(2).find(|pair| !alike(pair)) {
+            return Err(format!(
+                "rows {pair:?} have one version of file {file}, and other contents or windows"
+            ));
+        }
     }
+    Ok(())
 }
 
 /// The own choice of the coordinator of a read or write, which answers, and the grid of its own list.
@@ -456,7 +571,7 @@ fn stayed(call: &Call, called: u8, table: &Picture) -> Option<bool> {
 }
 
 /// A list for the number called that has not one byte stays as it was. In one of one byte there is 0 if the call was refused
-/// by 1 to 5; all used rows if it was refused by 6 or 7; and otherwise these, or at most as many as the grid of the own list
+/// by 1 to 5 or 16; all used rows if it was refused by 6 or 7; and otherwise these, or at most as many as the grid of the own list
 /// has rows and columns, less one, for a write, and as many as it has columns for a read.
 fn called_frame(call: &Call, answer: &Answer, table: Option<&Picture>) -> Result<(), String> {
     let Some(lent) = call.called() else { return Ok(()) };
@@ -470,7 +585,7 @@ fn called_frame(call: &Call, answer: &Answer, table: Option<&Picture>) -> Result
     };
     let called = usize::from(called);
     let told = match (answer.result >> 32, table) {
-        (1..=5, _) => called == 0,
+        (1..=5 | 16, _) => called == 0,
         (6 | 7, Some(table)) => called == table.used,
         (_, Some(table)) => {
             let own = own_choice(call, table);
@@ -561,7 +676,7 @@ fn joining_frame(name: u16, value: u64, before: &[u8], after: &[u8]) -> Result<(
     joined.fill(0);
     joined[..2].copy_from_slice(&name.to_le_bytes());
     joined[LINK] = before[link];
-    match expected.iter().zip(after).position(|(one, other)| one != other) {
+    match difference(&expected, after) {
         Some(at) => {
             Err(format!("a joining leaves {:02x} in byte {at}, and not {:02x}", after[at], expected[at]))
         }
@@ -574,16 +689,16 @@ fn joining_frame(name: u16, value: u64, before: &[u8], after: &[u8]) -> Result<(
 mod tests {
     use super::*;
     use crate::tables::{self, Size};
-    use reference::OLDEST;
 
     /// Every byte counts: with another value in any one of them the joining is found out.
     #[test]
     fn the_frame_of_a_joining_is_every_byte() {
         let engine = Engine::default();
-        for case in 0..300 {
+        for case in 0..100 {
             let mut random = Random::new(5, case);
             let used = random.between(1, 9);
-            let size = Size { used, capacity: random.between(used + 1, 12), file_len: random.between(1, 9) };
+            let (capacity, file_len) = (random.between(used + 1, 12), random.between(1, 9));
+            let size = Size { used, capacity, file_len, files: random.between(1, 2) };
             let before = tables::well_formed(&mut random, size);
             let name = random.between(1, 65_535) as u16;
             let mut after = before.clone();
@@ -603,7 +718,7 @@ mod tests {
     fn a_chart_that_strays_is_found_out() {
         let frame = |result, buffer: &[u8]| {
             let answer = Answer { result, buffer: buffer.to_vec(), called: Vec::new() };
-            frame(&Call::Chart { length: 4, mark: 0, list: vec![9; 7] }, &answer, &[1], &[1])
+            frame(&Call::Chart { length: 4, mark: 0, list: vec![9; 7] }, &answer, None, &[1], &[1])
         };
         assert_eq!(frame(2, &[3, 0, 6, 0, 9, 9, 9]), Ok(()));
         for strayed in
@@ -620,8 +735,8 @@ mod tests {
     /// Four machines, columns {1, 3} and {2, 4}; row 5 has no list.
     #[test]
     fn a_wrong_choice_is_found_out() {
-        let mut bytes = vec![0; Table::length(5, 1)];
-        Engine::default().found(&mut bytes, 5, 1, &tables::names_in_bytes(&[10, 20, 30, 40]), 0);
+        let mut bytes = vec![0; Table::length(5, 1, 1)];
+        Engine::default().found(&mut bytes, 5, 1, &tables::names_in_bytes(&[10, 20, 30, 40]), 0, 1);
         Engine::default().join(&mut bytes, 50);
         let table = Picture::of(&bytes);
         let told = |coordinator, kind, result, set: u64| {
@@ -640,7 +755,8 @@ mod tests {
         // A refused one leaves the list, and no choice alters the table.
         let call = Call::Choice { coordinator: 1, kind: 0, set: vec![9; 8] };
         let frame = |result, set: u8, after: u8| {
-            frame(&call, &Answer { result, buffer: vec![set; 8], called: Vec::new() }, &[1], &[after]).is_ok()
+            let answer = Answer { result, buffer: vec![set; 8], called: Vec::new() };
+            frame(&call, &answer, table.as_ref(), &[1], &[after]).is_ok()
         };
         assert_eq!([frame(5 << 32, 9, 1), frame(5 << 32, 0, 1), frame(2, 0, 1)], [true, false, true]);
         assert_eq!([frame(5 << 32, 9, 0), frame(2, 0, 0), frame(5 << 32 | 1, 9, 1)], [false; 3]);
@@ -649,23 +765,23 @@ mod tests {
     /// Four machines, columns {1, 3} and {2, 4}: a write's choice has three of them, a read's two.
     #[test]
     fn a_wrong_number_called_is_found_out() {
-        let mut bytes = vec![0; Table::length(4, 1)];
-        Engine::default().found(&mut bytes, 4, 1, &tables::names_in_bytes(&[10, 20, 30, 40]), 0);
+        let mut bytes = vec![0; Table::length(4, 1, 1)];
+        Engine::default().found(&mut bytes, 4, 1, &tables::names_in_bytes(&[10, 20, 30, 40]), 0, 1);
         let table = Picture::of(&bytes);
-        let (coordinator, answering, offset, length) = (1, 15, 0, 1);
+        let (coordinator, answering, offset, length, file) = (1, 15, 0, 1, 1);
         let told = |refusal: u64, lent: &[u8], after: &[u8]| {
             let answer = Answer { result: refusal << 32, buffer: Vec::new(), called: after.to_vec() };
             let (buffer, patch, called) = (vec![0], vec![0], lent.to_vec());
             let calls = [
-                Call::Read { coordinator, answering, offset, length, buffer, called: called.clone() },
-                Call::Write { coordinator, answering, offset, patch, called },
+                Call::Read { coordinator, answering, offset, length, buffer, called: called.clone(), file },
+                Call::Write { coordinator, answering, offset, patch, called, file },
             ];
             calls.map(|call| called_frame(&call, &answer, table.as_ref()).is_ok())
         };
         assert_eq!([0, 1, 2, 3, 4, 5].map(|called| told(0, &[9], &[called])), {
             [[false, false], [false, true], [true, true], [false, true], [true, true], [false, false]]
         });
-        for refusal in 1..=5 {
+        for refusal in [1, 2, 3, 4, 5, 16] {
             assert_eq!(
                 [0, 2, 4].map(|called| told(refusal, &[9], &[called])),
                 [[true; 2], [false; 2], [false; 2]]
@@ -682,54 +798,67 @@ mod tests {
         assert_eq!((told(0, &[], &[]), told(0, &[9, 9], &[9, 9])), ([false; 2], [false; 2]));
     }
 
-    /// Four machines; a send that went by window left the receiver as it should be, and another byte anywhere in its row is found
-    /// out, that of its contents in a founded history.
+    /// Four machines, two files; a send of the second one that went by window left the receiver as it should be, and another byte
+    /// anywhere is found out, that of its contents in a founded history.
     #[test]
     fn a_wrong_send_is_found_out() {
-        let mut before = vec![0; Table::length(4, 3)];
-        let engine = Engine::default();
-        engine.found(&mut before, 4, 3, &tables::names_in_bytes(&[10, 20, 30, 40]), 0);
+        let mut before = vec![0; Table::length(4, 3, 2)];
+        let (engine, file) = (Engine::default(), 2);
+        engine.found(&mut before, 4, 3, &tables::names_in_bytes(&[10, 20, 30, 40]), 0, 2);
         engine.check(&mut before, 1, 0b0111);
         for byte in 1..=3 {
-            assert_eq!(engine.write(&mut before, 1, 0b0111, 0, &[byte], &mut [0]), byte.into());
+            assert_eq!(engine.write(&mut before, 1, 0b0111, 0, &[byte], &mut [0], 2), byte.into());
         }
         engine.check(&mut before, 1, 0b1111);
         let table = Picture::of(&before);
         let mut after = before.clone();
-        let call = Call::Send { from: 1, to: 4, answering: 0b1111 };
+        let call = Call::Send { from: 1, to: 4, answering: 0b1111, file: 2 };
         let answer = call.refer(engine, &mut after);
-        let frame =
+        let sent =
             |after: &[u8], founded| send_frame(&call, &answer, table.as_ref(), &before, after, founded);
-        let sent = Sent { founded: true, behind: 3, patches: 3, like_whole: true };
-        assert_eq!(frame(&after, true), Ok(Some(sent)));
+        let expected = Sent { founded: true, behind: 3, patches: 3, like_whole: true };
+        assert_eq!(sent(&after, true), Ok(Some(expected)));
+        let kept = |after: &[u8]| frame(&call, &answer, table.as_ref(), &before, after).is_ok();
+        assert!(kept(&after));
         let judged = Picture::of(&after).expect("well formed");
         assert_eq!(one_state_a_version(&judged, &after), Ok(()));
-        let contents = judged.contents_at(4)..judged.window_at(4);
-        for at in judged.row_at(4)..judged.row_at(5) {
+        let part = judged.part_at(4, file)..judged.row_at(5);
+        let contents = judged.contents_at(4, file)..judged.window_at(4, file);
+        for at in part.clone() {
             let mut altered = after.clone();
             altered[at] ^= 1;
-            // Bytes 26 to 31 of a row are zero in every well-formed table.
-            let of_no_field = (26..32).contains(&(at - judged.row_at(4)));
-            assert_eq!(frame(&altered, true).is_ok(), of_no_field, "byte {at}");
-            assert_eq!(frame(&altered, false).is_ok(), of_no_field || contents.contains(&at), "byte {at}");
-            let state = at >= judged.contents_at(4) || at == judged.row_at(4) + OLDEST;
+            // Bytes 2 and 3 of a part are zero in every well-formed table.
+            let of_no_field = (2..4).contains(&(at - part.start));
+            assert_eq!(sent(&altered, true).is_ok(), of_no_field, "byte {at}");
+            assert_eq!(sent(&altered, false).is_ok(), of_no_field || contents.contains(&at), "byte {at}");
+            assert!(kept(&altered), "byte {at}");
+            let oldest = part.start + 1;
             let mut seen = judged.clone();
-            seen.rows[3].oldest = altered[judged.row_at(4) + OLDEST];
+            seen.parts[3][file - 1].oldest = altered[oldest];
+            let state = at >= contents.start || at == oldest;
             assert_eq!(one_state_a_version(&seen, &altered).is_err(), state, "byte {at}");
+        }
+        // The parts of the file in all rows that answered may alter, and nothing else.
+        for at in 0..after.len() {
+            let of_the_file =
+                (1..=4).any(|row| (judged.part_at(row, 2)..judged.part_at(row, 3)).contains(&at));
+            let mut altered = after.clone();
+            altered[at] ^= 1;
+            assert_eq!(kept(&altered), of_the_file, "byte {at}");
         }
         // A whole send leaves the sender's contents wherever it is made.
         for row in 1..=4 {
-            judged.window_mut(&mut before, row).fill(0);
-            before[judged.row_at(row) + OLDEST] = 0;
+            judged.window_mut(&mut before, row, file).fill(0);
+            before[judged.part_at(row, file) + 1] = 0;
         }
         let table = Picture::of(&before);
         let mut after = before.clone();
         let answer = call.refer(engine, &mut after);
-        let frame = |after: &[u8]| send_frame(&call, &answer, table.as_ref(), &before, after, false).is_ok();
-        assert!(frame(&after));
+        let sent = |after: &[u8]| send_frame(&call, &answer, table.as_ref(), &before, after, false).is_ok();
+        assert!(sent(&after));
         for at in contents {
             after[at] ^= 1;
-            assert!(!frame(&after), "byte {at}");
+            assert!(!sent(&after), "byte {at}");
             after[at] ^= 1;
         }
     }
@@ -739,17 +868,14 @@ mod tests {
     fn a_wrong_move_is_found_out() {
         let mut archive = Archive::new();
         for (rules, form) in
-            [(Rules::Published, 3), (Rules::Windowless, 3), (Rules::Newest, 1), (Rules::Newest, 2)]
+            [(Rules::Published, 3), (Rules::Windowless, 3), (Rules::OneFile, 1), (Rules::OneFile, 2)]
         {
             let mut random = Random::new(5, form);
-            let size = Size { used: 3, capacity: 4, file_len: 2 };
-            let mut before = tables::published(&mut random, size);
-            if rules != Rules::Newest {
-                before = tables::without_windows(&before, rules);
-            }
+            let size = Size { used: 3, capacity: 4, file_len: 2, files: 1 };
+            let mut before = tables::published(&mut random, size, rules);
             let table = Picture::of_any_form(&before);
             let target = Rules::of_form(form as u8).expect("a form");
-            let call = Call::Move { form, to: vec![7; target.table_length(4, 2)], taken: false };
+            let call = Call::Move { form, to: vec![7; target.table_length(4, 2, 1)], taken: false };
             let answer = call.refer(Engine::default(), &mut before);
             let mut trial = Trial::resume(&mut archive, Engine::default(), before.clone(), Ledger::default());
             let mut frame =
@@ -769,12 +895,85 @@ mod tests {
         }
     }
 
+    /// Three files on four machines, the second of which row 4 is behind in, and a third one that nobody wrote.
+    fn group() -> Vec<u8> {
+        let mut table = vec![0; Table::length(4, 2, 3)];
+        let engine = Engine::default();
+        engine.found(&mut table, 4, 2, &tables::names_in_bytes(&[10, 20, 30, 40]), 0, 3);
+        for (file, answering) in [(1, 0b0111), (2, 0b0111), (2, 0b1011)] {
+            assert_eq!(engine.write(&mut table, 1, answering, 0, &[7], &mut [0], file) >> 32, 0);
+        }
+        table
+    }
+
+    /// Every byte of the parts of the file counts, and every byte of other files that a call leaves.
+    #[test]
+    fn other_files_that_have_a_part_are_found_out() {
+        let (mut archive, before) = (Archive::new(), group());
+        let table = Picture::of(&before).expect("well formed");
+        let called = vec![0];
+        let (coordinator, answering, offset, patch, file) = (1, 0b1111, 1, vec![9], 2);
+        let write = Call::Write { coordinator, answering, offset, patch, called, file };
+        let mut after = before.clone();
+        let answer = write.refer(Engine::default(), &mut after);
+        let mut asked = |answer: &Answer, after: &[u8]| {
+            let mut trial = Trial::resume(&mut archive, Engine::default(), after.to_vec(), Ledger::default());
+            let alone = trial.ask_alone(&write, answer, &before, &table).is_ok();
+            [trial.ask_twin_within_others(&write, answer, &before, &table).is_ok(), alone]
+        };
+        assert_eq!(asked(&answer, &after), [true; 2]);
+        assert_eq!(asked(&Answer { result: answer.result + 1, ..answer.clone() }, &after), [false; 2]);
+        assert_eq!(asked(&Answer { called: vec![9], ..answer.clone() }, &after), [false; 2]);
+        for at in table.part_at(2, 2)..table.part_at(2, 3) {
+            let mut altered = after.clone();
+            altered[at] ^= 1;
+            assert!(!asked(&answer, &altered)[0], "byte {at}");
+            // By itself the file is compared as the reference reads it, if it is well formed.
+            let judged = Table::decode(&altered).is_some();
+            assert_eq!(asked(&answer, &altered)[1], !judged, "byte {at}");
+        }
+    }
+
+    /// A check of four or three machines marks in each file by itself, and is refused by 7 if one file has it so.
+    #[test]
+    fn a_wrong_check_of_a_group_is_found_out() {
+        let (mut archive, mut before) = (Archive::new(), group());
+        let engine = Engine::default();
+        let mut asked = |call: &Call, result, before: &[u8], after: &[u8]| {
+            let answer = Answer { result, buffer: Vec::new(), called: Vec::new() };
+            let table = Picture::of(before).expect("well formed");
+            let trial = Trial::resume(&mut archive, engine, after.to_vec(), Ledger::default());
+            let alone = trial.ask_alone(call, &answer, before, &table);
+            (alone, checked(call, &answer, &table, after))
+        };
+        let check = |coordinator, answering| Call::Check { coordinator, answering };
+        let mut after = before.clone();
+        assert_eq!(engine.check(&mut after, 1, 0b1101), 1);
+        let three = check(1, 0b1101);
+        let marked = Some(Checked::Done { marked: 2, files: 3 });
+        assert_eq!(asked(&three, 1, &before, &after), (Ok(Some(3)), marked));
+        let table = Picture::of(&after).expect("well formed");
+        // Row 4 desires version 1 of the first file, and version 2 of the second.
+        for (file, desired) in [(1, 2), (2, 3)] {
+            let mut altered = after.clone();
+            table.write_part(&mut altered, 4, file, &Part { desired, ..*table.part(4, file) });
+            assert!(asked(&three, 1, &before, &altered).0.is_err(), "file {file}");
+        }
+        assert!(asked(&three, 7 << 32, &before, &before).0.is_err(), "every file is current");
+        // Rows 3 and 4 are stale in the second file, and of the first one row 3 has the write.
+        before = after;
+        let two = check(3, 0b1100);
+        let refused = Some(Checked::NotCurrent { only: Some(2), files: 3 });
+        assert_eq!(asked(&two, 7 << 32, &before, &before), (Ok(Some(3)), refused));
+        assert!(asked(&two, 2, &before, &before).0.is_err(), "the second file is not");
+    }
+
     /// A row in the wrong place of the chain has one link before it too, but the names no longer rise.
     #[test]
     fn a_joining_out_of_order_is_found_out() {
         let blundering = Engine { blunder: Some(reference::Blunder::LinkTooFar), ..Engine::default() };
-        let mut before = vec![0; Table::length(3, 1)];
-        blundering.found(&mut before, 3, 1, &tables::names_in_bytes(&[10, 20]), 0);
+        let mut before = vec![0; Table::length(3, 1, 1)];
+        blundering.found(&mut before, 3, 1, &tables::names_in_bytes(&[10, 20]), 0, 1);
         let mut after = before.clone();
         let value = blundering.join(&mut after, 15);
         assert_eq!(

@@ -1,14 +1,19 @@
-//! What the wrapper tells of a table, against the reference: its rows with their windows, and the sends that would be done; and the
-//! moves that it makes.
+//! What the wrapper tells of a table, against the reference: its rows with their copies of each file and the windows on them, and
+//! the sends that would be done; and the moves that it makes.
 
 use crate::call::Answer;
 use crate::tables::Picture;
-use dyngrid::{OlderForm, Table};
+use dyngrid::{Form3Table, OlderForm, Table};
 use reference::{window, Engine};
 
 /// Looks at a table, which is judged by the reference; gives how many sends would be done, or says how the wrapper differs. None
-/// if it is malformed.
-pub fn look(engine: Engine, bytes: &[u8], judged: Option<&Picture>) -> Result<Option<usize>, String> {
+/// if it is malformed. In a table of more rows than the small ones, sends of the last file only are listed: every two rows are asked.
+pub fn look(
+    engine: Engine,
+    bytes: &[u8],
+    judged: Option<&Picture>,
+    small: usize,
+) -> Result<Option<usize>, String> {
     let (table, picture) = match (Table::from_bytes(bytes.to_vec()), judged) {
         (Ok(table), Some(picture)) => (table, picture),
         (Err(_), None) => return Ok(None),
@@ -17,47 +22,62 @@ pub fn look(engine: Engine, bytes: &[u8], judged: Option<&Picture>) -> Result<Op
     };
     for (row, state) in (1..).zip(&picture.rows) {
         let told = table.row(row).filter(|view| {
-            let numbers = (view.stale, view.version, view.desired, view.epoch);
-            (view.row, view.name, view.list.bits(), view.grid_mark)
-                == (row, state.name, state.list.members, state.list.mark)
-                && numbers == (state.stale, state.version, state.desired, state.epoch)
+            (view.row, view.name, view.list.bits(), view.grid_mark, view.epoch)
+                == (row, state.name, state.list.members, state.list.mark, state.epoch)
+                && view.copies.len() == picture.files
         });
         if told.is_none() || table.row_named(state.name) != told {
             return Err(format!("row {row} by the wrapper: {:?}", table.row(row)));
         }
-        if !same_window(&table, picture, bytes, row) {
-            return Err(format!("window of row {row} by the wrapper: {:?}", table.window(row)));
+        for file in 1..=picture.files {
+            if !same_copy(&table, picture, bytes, row, file) {
+                let (copy, window) = (table.file(file).copy(row), table.file(file).window(row));
+                return Err(format!("file {file} of row {row} by the wrapper: {copy:?}, {window:?}"));
+            }
         }
     }
-    let (sends, expected) = (table.sends(), engine.sends(picture, bytes));
-    if sends != expected {
-        return Err(format!("sends: by the wrapper {sends:?}, by the reference {expected:?}"));
+    let mut count = 0;
+    for file in if picture.used > small { picture.files } else { 1 }..=picture.files {
+        let (sends, expected) = (table.file(file).sends(), engine.sends(picture, bytes, file));
+        if sends != expected {
+            return Err(format!(
+                "sends of file {file}: by the wrapper {sends:?}, by the reference {expected:?}"
+            ));
+        }
+        count += sends.len();
     }
-    Ok(Some(sends.len()))
+    Ok(Some(count))
 }
 
-/// Does the wrapper tell the patches of a row's window, oldest first, as the reference reads them?
-fn same_window(table: &Table, picture: &Picture, bytes: &[u8], row: usize) -> bool {
-    let (window, state) = (picture.window(bytes, row), picture.row(row));
-    let told = table.window(row);
-    let (count, _) = window::chain(window, state.oldest);
-    let mut index = state.oldest;
-    let same = told.iter().zip(state.version - count as u32 + 1..).all(|(patch, version)| {
+/// Does the wrapper tell the numbers of a row's copy of a file, and the patches of its window, oldest first, as the reference reads
+/// them?
+fn same_copy(table: &Table, picture: &Picture, bytes: &[u8], row: usize, file: usize) -> bool {
+    let (window, part) = (picture.window(bytes, row, file), picture.part(row, file));
+    let (count, _) = window::chain(window, part.oldest);
+    let copy = table.row(row).and_then(|view| view.copies.get(file - 1).copied());
+    let same_numbers = copy.is_some_and(|copy| {
+        (copy.file, copy.stale, copy.version, copy.desired, copy.patches)
+            == (file, part.stale, part.version, part.desired, count)
+    });
+    let told = table.file(file).window(row);
+    let mut index = part.oldest;
+    let same_patches = told.iter().zip(part.version - count as u32 + 1..).all(|(patch, version)| {
         let record = window::record(window, index);
         index = record.next;
         let expected = &window[record.at..record.at + record.length];
         (patch.version, patch.offset, patch.bytes) == (version, record.offset, expected)
     });
-    same && told.len() == count && table.row(row).is_some_and(|view| view.patches == count)
+    same_numbers && same_patches && told.len() == count && table.file(file).copy(row) == copy
 }
 
 /// Moves a well-formed table through the wrapper, if it has such a move; it must give and refuse what the archive did with a
 /// buffer of the right length.
 pub fn carry(bytes: &[u8], form: u64, answer: &Answer) -> Result<(), String> {
     let carried = match (bytes.first(), form) {
-        (Some(1 | 2), 3) => Table::carry_up(bytes).map(Table::into_bytes),
+        (Some(_), 3) => Form3Table::carry_up(bytes).map(Form3Table::into_bytes),
         (Some(3), 1 | 2) => {
-            let table = Table::from_bytes(bytes.to_vec()).map_err(|error| format!("no table: {error}"))?;
+            let table =
+                Form3Table::from_bytes(bytes.to_vec()).map_err(|error| format!("no table: {error}"))?;
             table.carry_down(if form == 1 { OlderForm::One } else { OlderForm::Two })
         }
         _ => return Ok(()),
@@ -92,7 +112,7 @@ mod tests {
             let size = Size::pick(&mut random);
             let bytes = tables::well_formed(&mut random, size);
             let picture = Picture::of(&bytes);
-            let look = |blunder| look(Engine { blunder, ..Engine::default() }, &bytes, picture.as_ref());
+            let look = |blunder| look(Engine { blunder, ..Engine::default() }, &bytes, picture.as_ref(), 8);
             sends += look(None).unwrap_or_else(|what| panic!("case {case}: {what}")).expect("well formed");
             for (found, blunder) in found.iter_mut().zip(blunders) {
                 *found += usize::from(look(Some(blunder)).is_err());
@@ -116,7 +136,7 @@ mod tests {
             let names: Vec<String> = names.collect();
             let drawn: Vec<String> =
                 names.chunks(layout.grid.columns.max(1)).map(|row| row.join("  ")).collect();
-            let lines: Vec<&str> = shown.lines().skip(2 + size.used).collect();
+            let lines: Vec<&str> = shown.lines().skip(2 + size.used * size.files).collect();
             match lines[..] {
                 ["no row has a list"] => assert!(names.is_empty(), "case {case}:\n{shown}"),
                 [head, ref grid @ ..] => {
@@ -138,8 +158,8 @@ mod tests {
         for case in 0..2_000 {
             let mut random = Random::new(11, case);
             let rules = random.pick(&Rules::ALL);
-            let (_, bytes, _) = damage::damaged(&mut random, rules);
-            assert_eq!(look(Engine::default(), &bytes, None), Ok(None), "case {case}");
+            let bytes = damage::damaged(&mut random, rules).bytes;
+            assert_eq!(look(Engine::default(), &bytes, None, 8), Ok(None), "case {case}");
             let error = Table::from_bytes(bytes).expect_err("damaged").to_string();
             assert!(error.contains("no table") || error.contains("of form "), "case {case}: {error}");
         }

@@ -5,17 +5,17 @@ use dyngrid::{Done, Refusal, Rows, Shape, Table};
 fn main() -> Result<(), Refusal> {
     let mut table = Table::found(4, 16, &[10, 20, 30, 40], Shape::Wide)?;
 
-    // Machine 10 is row 1. It imports a score while row 4 is away.
-    let Done { version, called } = table.write(1, Rows::of(&[1, 2, 3])?, 0, b"1-0")?;
+    // Machine 10 is row 1. It imports a score while row 4 is away. The table has one file, of number 1.
+    let Done { version, called } = table.file_mut(1).write(1, Rows::of(&[1, 2, 3])?, 0, b"1-0")?;
     println!("write: version {version}, {called} machines called");
 
     // Row 4 is back and reads with row 3: one row of each column of the grid.
     let mut score = [0; 3];
-    let Done { version, called } = table.read(4, Rows::of(&[3, 4])?, 0, &mut score)?;
+    let Done { version, called } = table.file(1).read(4, Rows::of(&[3, 4])?, 0, &mut score)?;
     println!("read: version {version}, {called} machines called, {}", String::from_utf8_lossy(&score));
 
     // Alone it cannot read: an old score would look like any other.
-    match table.read(4, Rows::of(&[4])?, 0, &mut score) {
+    match table.file(1).read(4, Rows::of(&[4])?, 0, &mut score) {
         Err(refused) => println!("read by row 4 alone: {refused}"),
         Ok(done) => println!("read by row 4 alone: version {}", done.version),
     }

@@ -1,18 +1,26 @@
-//! A table of an older season: reads the table that one file holds, whatever its form, and writes it in form 3 to another.
-//! Run with `cargo run --example season -- OLD NEW`; keep OLD until NEW is safe.
+//! A table of an older season: reads the table that one file holds, and writes it in form 3 to another, or in form 1 or 2 if that is
+//! named. Run with `cargo run --example season -- OLD NEW [FORM]`; keep OLD until NEW is safe.
+//!
+//! Nothing carries a table to form 4: for that, found a new one, and write the file into it.
 
-use dyngrid::{NotATable, Table};
+use dyngrid::{Form3Table, OlderForm};
 use std::error::Error;
 use std::process::ExitCode;
 use std::{env, fs};
 
 fn main() -> ExitCode {
-    let files: Vec<String> = env::args().skip(1).collect();
-    let [old, new] = &files[..] else {
-        eprintln!("name two files: season OLD NEW");
-        return ExitCode::FAILURE;
+    let arguments: Vec<String> = env::args().skip(1).collect();
+    let words: Vec<&str> = arguments.iter().map(String::as_str).collect();
+    let (old, new, form) = match words[..] {
+        [old, new] | [old, new, "3"] => (old, new, OlderForm::Three),
+        [old, new, "2"] => (old, new, OlderForm::Two),
+        [old, new, "1"] => (old, new, OlderForm::One),
+        _ => {
+            eprintln!("name two files, and a form from 1 to 3: season OLD NEW [FORM]");
+            return ExitCode::FAILURE;
+        }
     };
-    match carry(old, new) {
+    match carry(old, new, form) {
         Ok(()) => ExitCode::SUCCESS,
         Err(error) => {
             eprintln!("{old} is not carried over: {error}");
@@ -21,20 +29,13 @@ fn main() -> ExitCode {
     }
 }
 
-fn carry(old: &str, new: &str) -> Result<(), Box<dyn Error>> {
-    let table = Table::from_bytes(fs::read(old)?).or_else(newest)?;
-    fs::write(new, table.as_bytes())?;
-    println!("{table}");
+fn carry(old: &str, new: &str, form: OlderForm) -> Result<(), Box<dyn Error>> {
+    let kept = fs::read(old)?;
+    let carried = match form {
+        OlderForm::Three => Form3Table::carry_up(&kept)?.into_bytes(),
+        _ => Form3Table::from_bytes(kept)?.carry_down(form)?,
+    };
+    fs::write(new, &carried)?;
+    println!("{} bytes of form {}", carried.len(), form.number());
     Ok(())
-}
-
-/// Of the bytes of an older form the table in form 3. Others are no table, and the error says why.
-fn newest(bytes: NotATable) -> Result<Table, Box<dyn Error>> {
-    match bytes.older_form() {
-        Some(form) => {
-            println!("form {} is carried up to form 3", form.number());
-            Ok(Table::carry_up(bytes.as_bytes())?)
-        }
-        None => Err(bytes.into()),
-    }
 }

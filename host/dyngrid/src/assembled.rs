@@ -46,7 +46,7 @@ impl fmt::Display for NotAssembled {
             NotAssembled::WrongLength { row, length } => {
                 write!(
                     f,
-                    "{length} bytes are not row {row} of this table: a row takes 608 bytes and the file (576 less in an older form, which is to be carried up)"
+                    "{length} bytes are not row {row} of this table: a row takes 32 bytes, and for each file 588 and the file's length"
                 )
             }
             NotAssembled::OtherName { row, name } => {

@@ -8,8 +8,8 @@ const LIST: usize = 128;
 /// members that are enough for a write or a check, and no longer are if any one of them is taken out.
 ///
 /// A set is a number, bit k - 1 for the k-th member in name order. The sets rise. A row that has a list tells its
-/// [grid mark](crate::RowView::grid_mark): 2 in a tall table, and in a wide one 1 for five and 0 for every other length (also for
-/// five in a table that comes from form 1).
+/// [grid mark](crate::RowView::grid_mark): 2 in a tall table, and in a wide one 1 for five and 0 for every other length (in a table
+/// of form 1 also for five).
 ///
 /// ```
 /// use dyngrid::{chart, Refusal};

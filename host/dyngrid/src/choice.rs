@@ -15,8 +15,8 @@ impl Table {
     /// its own list. Empty if its own list is empty: then all rows in use are called.
     ///
     /// The coordinator need not be in it, but must answer its call: call the choice and the coordinator. If all of them
-    /// answer, its own list is the list in force and some row of the choice has every done write, that is enough; else call
-    /// all rows in use. Question 1 is put to the whole table, as in every call; after it the choice goes by header, names,
+    /// answer, its own list is the list in force and some row of the choice has every done write of the file, that is enough; else
+    /// call all rows in use. Question 1 is put to the whole table, as in every call; after it the choice goes by header, names,
     /// links and the coordinator's own row alone, so that a table [assembled](Table::assemble) from its own row tells it too.
     ///
     /// ```
@@ -25,7 +25,7 @@ impl Table {
     /// let mut table = Table::found(9, 16, &[1, 2, 3, 4, 5, 6, 7, 8, 9], Shape::Wide)?;
     /// let first = table.choice(4, Kind::Write)?;
     /// assert_eq!(first, Rows::of(&[2, 4, 5, 6, 8])?);
-    /// assert_eq!(table.write(4, first, 0, b"1-0")?.called, 5);
+    /// assert_eq!(table.file_mut(1).write(4, first, 0, b"1-0")?.called, 5);
     /// assert_eq!(table.choice(10, Kind::Read), Err(Refusal::NoSuchRow));
     /// # Ok::<(), Refusal>(())
     /// ```

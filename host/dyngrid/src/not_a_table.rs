@@ -2,7 +2,7 @@ use crate::{OlderForm, Refusal};
 use std::error::Error;
 use std::fmt;
 
-/// Bytes that are no well-formed table of the newest form, and how the library refused them.
+/// Bytes that are no well-formed table of the form that was asked for, and how the library refused them.
 #[derive(Clone, PartialEq, Eq)]
 pub struct NotATable {
     bytes: Vec<u8>,
@@ -30,18 +30,18 @@ impl NotATable {
         self.refusal
     }
 
-    /// The form of the bytes if they are a well-formed table of an older one, which [`Table::carry_up`](crate::Table::carry_up)
-    /// carries over.
+    /// The form of the bytes if they are a well-formed table of an older one. No call but a move takes it, as
+    /// [`Form3Table`](crate::Form3Table) does.
     pub fn older_form(&self) -> Option<OlderForm> {
         self.older
     }
 
-    /// The bytes that were given to [`Table::from_bytes`](crate::Table::from_bytes).
+    /// The bytes that were given.
     pub fn as_bytes(&self) -> &[u8] {
         &self.bytes
     }
 
-    /// The bytes that were given to [`Table::from_bytes`](crate::Table::from_bytes), without a copy.
+    /// The bytes that were given, without a copy.
     pub fn into_bytes(self) -> Vec<u8> {
         self.bytes
     }
@@ -61,11 +61,15 @@ impl fmt::Display for NotATable {
     fn fmt(&self, f: &mut fmt::Formatter) -> fmt::Result {
         let length = self.bytes.len();
         match self.older {
-            Some(form) => write!(f, "{length} bytes are a table of form {}: carry it up to form 3", form.number()),
+            Some(form) => write!(
+                f,
+                "{length} bytes are a table of form {}, which no call but a move takes: found a new table, and write its file into that",
+                form.number()
+            ),
             None if self.joined => write!(
                 f,
-                "{length} bytes are a table of form 1 with grid marks or rows without a list, as only form 2 has them: set byte 0 to 2, \
-                 and carry it up to form 3"
+                "{length} bytes are a table of form 1 with grid marks or rows without a list, as only form 2 has them: to carry it up \
+                 to form 3, set byte 0 to 2"
             ),
             None => write!(f, "{length} bytes are no table: {}", self.refusal),
         }

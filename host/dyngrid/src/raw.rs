@@ -1,6 +1,7 @@
 //! The functions of the archive as `dyngrid.h` declares them.
 //!
-//! A list is a pointer and then its length in bytes. A result is the refusal number times 2^32, plus the value.
+//! A list is a pointer and then its length in bytes. Files are counted from 1. A result is the refusal number times 2^32, plus the
+//! value.
 //! The slices of one call must not overlap. Reads, choices and moves of one table may run at the same time, each with its own
 //! buffer or list; while any other call runs on a table, nothing else may touch it.
 //!
@@ -11,7 +12,7 @@ use std::sync::OnceLock;
 
 /// Rises with every signature below that is new or changed, as in the archive, and with nothing else: a table tells its form
 /// itself.
-pub const INTERFACE: u64 = 7;
+pub const INTERFACE: u64 = 8;
 
 /// The choices of a founding: a wide table, or a tall one.
 pub const WIDE: u64 = 0;
@@ -42,7 +43,7 @@ extern "C" {
     /// The number of the archive's interface.
     pub fn grid_interface() -> u64;
 
-    /// Founds a table; the choice is [`WIDE`] or [`TALL`]. Value: the rows used.
+    /// Founds a table of 1 to 8 files; the choice is [`WIDE`] or [`TALL`]. Value: the rows used.
     pub fn grid_found(
         table: *mut u8,
         table_len: usize,
@@ -51,9 +52,10 @@ extern "C" {
         names: *const u8,
         names_len: usize,
         choice: u64,
+        files: u64,
     ) -> u64;
 
-    /// Reads a range into the buffer; says in one byte how many machines were called. Value: the version read.
+    /// Reads a range of a file into the buffer; says in one byte how many machines were called. Value: the version read.
     pub fn grid_read(
         table: *const u8,
         table_len: usize,
@@ -65,6 +67,7 @@ extern "C" {
         buffer_len: usize,
         called: *mut u8,
         called_len: usize,
+        file: u64,
     ) -> u64;
 
     /// Lays the patch over the file; says in one byte how many machines were called. Value: the new version.
@@ -78,10 +81,11 @@ extern "C" {
         patch_len: usize,
         called: *mut u8,
         called_len: usize,
+        file: u64,
     ) -> u64;
 
-    /// Brings the stale row `to` up to the state of the row `from`. Value: the version it then has.
-    pub fn grid_send(table: *mut u8, table_len: usize, from: u64, to: u64, answering: u64) -> u64;
+    /// Brings the stale copy of a file in row `to` up to the state of that in row `from`. Value: the version it then has.
+    pub fn grid_send(table: *mut u8, table_len: usize, from: u64, to: u64, answering: u64, file: u64) -> u64;
 
     /// Makes the answering rows the list in force. Value: the epoch number in force.
     pub fn grid_check(table: *mut u8, table_len: usize, coordinator: u64, answering: u64) -> u64;
@@ -103,7 +107,7 @@ extern "C" {
         set_len: usize,
     ) -> u64;
 
-    /// Carries a table over to another form, into a second buffer. Value: the rows used.
+    /// Carries a table of form 1 or 2 over to form 3, or back, into a second buffer. Value: the rows used.
     pub fn grid_move(table: *const u8, table_len: usize, form: u64, to: *mut u8, to_len: usize) -> u64;
 }
 
@@ -118,9 +122,9 @@ mod tests {
 
     #[test]
     #[should_panic(
-        expected = "has interface 8, and this wrapper needs 7: build archive and wrapper from one checkout"
+        expected = "has interface 9, and this wrapper needs 8: build archive and wrapper from one checkout"
     )]
     fn another_archive_is_refused() {
-        agree(8);
+        agree(9);
     }
 }

@@ -30,7 +30,7 @@ pub enum Refusal {
     ReceiverNotBehind,
     /// 11: the names are not 1 to 64, strictly rising, none 0, or the choice is neither wide nor tall.
     BadNames,
-    /// 12: capacity and file length do not fit, or a table is to be carried up that is of form 3 already.
+    /// 12: capacity, file length and number of files do not fit, or a table is to be carried over to the form that it has.
     BadSize,
     /// 13: the name of a joining is 0 or in use.
     NameNotFree,
@@ -38,6 +38,8 @@ pub enum Refusal {
     NoRoom,
     /// 15: form 1 cannot hold the table, since a grid mark is not 0 or a row has no list.
     NotForm1,
+    /// 16: the group has no file of that number.
+    NoSuchFile,
     /// 17: a chart of no member or of more than nine, or with a grid mark that no list of that length can have.
     NoChart,
     /// A number that this wrapper has no name for: the archive is newer than the wrapper.
@@ -46,7 +48,7 @@ pub enum Refusal {
 
 impl Refusal {
     /// Every refusal that has a name, in the order of their numbers.
-    pub const ALL: [Refusal; 16] = [
+    pub const ALL: [Refusal; 17] = [
         Refusal::Malformed,
         Refusal::NoSuchRow,
         Refusal::NotAnswering,
@@ -62,6 +64,7 @@ impl Refusal {
         Refusal::NameNotFree,
         Refusal::NoRoom,
         Refusal::NotForm1,
+        Refusal::NoSuchFile,
         Refusal::NoChart,
     ];
 
@@ -83,6 +86,7 @@ impl Refusal {
             Refusal::NameNotFree => 13,
             Refusal::NoRoom => 14,
             Refusal::NotForm1 => 15,
+            Refusal::NoSuchFile => 16,
             Refusal::NoChart => 17,
             Refusal::Unknown(number) => number,
         }
@@ -98,8 +102,8 @@ impl Refusal {
     pub fn sentence(self) -> &'static str {
         match self {
             Refusal::Malformed => {
-                "the table is malformed: restore its bytes from a good copy, or found it anew (of an older form: carry it up; of \
-                 form 1 with machines that joined: set byte 0 to 2 before)"
+                "the table is malformed: restore its bytes from a good copy, or found it anew (of an older form: no call but a \
+                 move takes it; found a new group, and write its file into that)"
             }
             Refusal::NoSuchRow => "a row is not in use, or a send names one row twice: name rows from 1 to the rows used",
             Refusal::NotAnswering => "the coordinator, or an end of a send, is not among the rows that answered: add it",
@@ -112,8 +116,11 @@ impl Refusal {
                  to a choice: eight; to a chart: at least 128)"
             }
             Refusal::NoQuorum => "the rows that answered hold no quorum: try again when more of them answer",
-            Refusal::NotCurrent => "no row that answered has the newest version: try again with a row that has it",
-            Refusal::AtLimit => "a version or an epoch is at 1,000,000: found a new table and carry the file over",
+            Refusal::NotCurrent => {
+                "no row that answered has the newest version: try again with a row that has it (for a check: of every file; send the \
+                 file that is stale)"
+            }
+            Refusal::AtLimit => "a version or an epoch is at 1,000,000: found a new table and write the files into it",
             Refusal::SenderStale => "the sending row is stale itself: send from a row without a stale mark",
             Refusal::ReceiverNotBehind => {
                 "the receiving row is not stale, or desires a newer version: send to a stale row, from a newer one"
@@ -123,14 +130,15 @@ impl Refusal {
                  sort the names, each once"
             }
             Refusal::BadSize => {
-                "the sizes do not fit: up to 64 rows, no fewer than the names, and a file of 1 to 4,096 bytes (for a move: from \
-                 form 1 or 2 to 3 or back, into a buffer of exactly the new length)"
+                "the sizes do not fit: up to 64 rows, no fewer than the names, and 1 to 8 files of 1 to 4,096 bytes (for a move: \
+                 from form 1 or 2 to 3 or back, into a buffer of exactly the new length)"
             }
             Refusal::NameNotFree => "the name is 0 or in use: join with a name from 1 to 65,535 that no row has",
-            Refusal::NoRoom => "every row of the table is in use: found a table of more rows and carry the file over",
+            Refusal::NoRoom => "every row of the table is in use: found a table of more rows and write the files into it",
             Refusal::NotForm1 => {
                 "form 1 cannot hold the table, since a grid mark is not 0 or a row has no list: carry it down to form 2"
             }
+            Refusal::NoSuchFile => "the group has no such file: count its files from 1 to the number it was founded with",
             Refusal::NoChart => {
                 "there is no such chart: name 1 to 9 members, and the grid mark 0, 2 or, of five, 1 (a list's is byte 24 of its row)"
             }
@@ -163,8 +171,9 @@ mod tests {
         assert_eq!(split(7), Ok(7));
         assert_eq!(split(6 << 32), Err(Refusal::NoQuorum));
         assert_eq!(split(14 << 32), Err(Refusal::NoRoom));
-        assert_eq!(split(16 << 32 | 5), Err(Refusal::Unknown(16)));
+        assert_eq!(split(16 << 32), Err(Refusal::NoSuchFile));
         assert_eq!(split(17 << 32), Err(Refusal::NoChart));
+        assert_eq!(split(18 << 32 | 5), Err(Refusal::Unknown(18)));
         assert_eq!(split(u64::MAX), Err(Refusal::Unknown(u32::MAX)));
     }
 }

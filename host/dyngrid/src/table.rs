@@ -1,13 +1,13 @@
-use crate::called::answer;
 use crate::refusal::split;
-use crate::{raw, Done, NotATable, NotAssembled, Refusal, Refused, Rows};
+use crate::{copy, raw, File, FileMut, NotATable, NotAssembled, Refusal, Rows};
 use std::fmt;
 use std::ops::Range;
 
-const HEADER: usize = 16;
-const ROW_HEADER: usize = 32;
-/// Behind the contents of a row come the records of its window.
-const RECORDS: usize = 576;
+pub(crate) const HEADER: usize = 16;
+/// Where the header has the number of files.
+pub(crate) const FILES: usize = 6;
+/// The head of a row; behind it comes a copy of each file.
+pub(crate) const HEAD: usize = 32;
 /// A row begins with its name, and then its link.
 const NAME: usize = 2;
 const NAME_AND_LINK: usize = 3;
@@ -24,44 +24,78 @@ pub enum Shape {
     Tall,
 }
 
-/// A grid table that owns its bytes.
+/// A grid table that owns its bytes: a group of 1 to 8 files of one length, of which each row has a copy.
 ///
-/// It is of the newest form, 3. Its length always agrees with its header, and no buffer, patch or list of names can overlap it.
-/// Rows have the numbers 1 to [`Table::used`].
+/// It is of the newest form, 4. Its length always agrees with its header, and no buffer, patch or list of names can overlap it.
+/// Rows have the numbers 1 to [`Table::used`], files the numbers 1 to [`Table::files`].
 ///
-/// Reads, choices and [moves](Table::carry_down) of one table may run at the same time, also from several threads: they take the
-/// table by shared reference and alter nothing of it, and the library keeps no state of its own. Every other call has the table
-/// to itself.
+/// Reads, writes and sends are of one [file](Table::file): they look at the copies of that file, and alter no other. Epochs and
+/// lists are shared, so that one [check](Table::check) serves all files.
+///
+/// Reads and choices of one table may run at the same time, also from several threads: they take the table by shared reference
+/// and alter nothing of it, and the library keeps no state of its own. Every other call has the table to itself.
 #[derive(Clone, PartialEq, Eq)]
 pub struct Table {
     pub(crate) bytes: Vec<u8>,
 }
 
 impl Table {
-    /// Founds a table of `capacity` rows for a file of `file_len` zero bytes on the machines `names`, which must rise; all its
-    /// lists, those that checks lay too, have this shape.
+    /// Founds a table of `capacity` rows for one file of `file_len` zero bytes on the machines `names`, which must rise; all its
+    /// lists, those that checks lay too, have this shape. The file has the number 1.
     ///
     /// Panics if the archive has another interface than this wrapper.
     pub fn found(capacity: usize, file_len: usize, names: &[u16], shape: Shape) -> Result<Table, Refusal> {
+        Table::found_group(capacity, file_len, names, shape, 1)
+    }
+
+    /// The same for a group of 1 to 8 files, all of one length.
+    ///
+    /// ```
+    /// use dyngrid::{Refusal, Rows, Shape, Table};
+    ///
+    /// let mut table = Table::found_group(4, 16, &[10, 20, 30, 40], Shape::Wide, 2)?;
+    /// let three = Rows::of(&[1, 2, 3])?;
+    /// assert_eq!(table.file_mut(2).write(1, three, 0, b"0:47")?.version, 1);
+    /// assert_eq!(table.file(1).read(1, three, 0, &mut [0; 4])?.version, 0);
+    /// assert_eq!(table.file(3).read(1, three, 0, &mut [0; 4]).unwrap_err().refusal, Refusal::NoSuchFile);
+    /// # Ok::<(), Refusal>(())
+    /// ```
+    ///
+    /// Panics if the archive has another interface than this wrapper.
+    pub fn found_group(
+        capacity: usize,
+        file_len: usize,
+        names: &[u16],
+        shape: Shape,
+        files: usize,
+    ) -> Result<Table, Refusal> {
         raw::assert_interface();
-        let mut bytes = vec![0; length(capacity, file_len).unwrap_or(0)];
+        let mut bytes = vec![0; length(capacity, file_len, files).unwrap_or(0)];
         let names: Vec<u8> = names.iter().flat_map(|name| name.to_le_bytes()).collect();
-        let (capacity, file_len) = (capacity as u64, file_len as u64);
-        let (table, table_len) = (bytes.as_mut_ptr(), bytes.len());
         let choice = match shape {
             Shape::Wide => raw::WIDE,
             Shape::Tall => raw::TALL,
         };
         // SAFETY: both vectors are live for the call, and they are two.
         let result = unsafe {
-            raw::grid_found(table, table_len, capacity, file_len, names.as_ptr(), names.len(), choice)
+            raw::grid_found(
+                bytes.as_mut_ptr(),
+                bytes.len(),
+                capacity as u64,
+                file_len as u64,
+                names.as_ptr(),
+                names.len(),
+                choice,
+                files as u64,
+            )
         };
         split(result).map(|_| Table { bytes })
     }
 
     /// Takes over the bytes of a table, as kept on a disk. If they are no well-formed table, the error gives them back.
     ///
-    /// A table of an older form is not taken as it is: the error names its form, and [`Table::carry_up`] carries it over.
+    /// A table of an older form is not taken: the error names its form. Forms 1, 2 and 3 are carried over to each other
+    /// ([`Form3Table`](crate::Form3Table)), and none of them to form 4: found a new table, and write the file into it.
     ///
     /// Panics if the archive has another interface than this wrapper.
     pub fn from_bytes(bytes: Vec<u8>) -> Result<Table, NotATable> {
@@ -75,7 +109,7 @@ impl Table {
 
     /// Is the table well formed? A send between rows 0 is never done, and tells.
     fn judge(&mut self) -> Result<(), Refusal> {
-        match self.send(0, 0, Rows::EMPTY) {
+        match self.file_mut(1).send(0, 0, Rows::EMPTY) {
             Err(Refusal::NoSuchRow) => Ok(()),
             Err(refusal) => Err(refusal),
             Ok(_) => unreachable!("a send between rows 0 was done"),
@@ -92,9 +126,25 @@ impl Table {
         usize::from(self.bytes[2])
     }
 
-    /// The length of the file.
+    /// The length of each file.
     pub fn file_len(&self) -> usize {
         usize::from(u16::from_le_bytes([self.bytes[4], self.bytes[5]]))
+    }
+
+    /// How many files there are.
+    pub fn files(&self) -> usize {
+        usize::from(self.bytes[FILES])
+    }
+
+    /// The file of this number, from 1 on, to read it and to look at its copies. A number that the group does not have is
+    /// refused by the calls.
+    pub fn file(&self, number: usize) -> File<'_> {
+        File::new(self, number)
+    }
+
+    /// The same to write it and to send it.
+    pub fn file_mut(&mut self, number: usize) -> FileMut<'_> {
+        FileMut::new(self, number)
     }
 
     /// All rows in use.
@@ -109,7 +159,7 @@ impl Table {
 
     /// Where a row lies in the table, if it is in use.
     pub(crate) fn place(&self, row: usize) -> Option<Range<usize>> {
-        let stride = ROW_HEADER + self.file_len() + RECORDS;
+        let stride = stride(self.file_len(), self.files());
         self.rows().contains(row).then(|| HEADER + (row - 1) * stride..HEADER + row * stride)
     }
 
@@ -131,7 +181,8 @@ impl Table {
     ///
     /// Every read, write, send and check by these rows answers as on the table of all rows, and leaves these rows as it would
     /// there; so does the [choice](Table::choice) of one of them. What is then to be shipped, [`Table::changed`] says. The
-    /// link of a row is the frame's: a joining may have altered it while the machine was away.
+    /// link of a row is the frame's: a joining may have altered it while the machine was away. For a read, write or send a row may
+    /// come with zeros for its copies of other files, which have no part in it ([`File::range`]).
     ///
     /// ```
     /// use dyngrid::{Rows, Shape, Table};
@@ -145,11 +196,12 @@ impl Table {
     /// let answering = Rows::first(3);
     /// let before = Table::assemble(&frame, answering.iter().map(|row| (row, &machines[row - 1])))?;
     /// let mut table = before.clone();
-    /// table.write(1, answering, 0, b"1-0")?;
+    /// table.file_mut(1).write(1, answering, 0, b"1-0")?;
     /// for row in table.changed(&before) {
     ///     machines[row - 1] = table.row_bytes(row).ok_or("in use")?.to_vec();
     /// }
-    /// assert!(machines[2][32..].starts_with(b"1-0"));
+    /// let contents = frame.file(1).contents_range().ok_or("a file of the group")?;
+    /// assert!(machines[2][contents].starts_with(b"1-0"));
     /// # Ok(())
     /// # }
     /// ```
@@ -196,135 +248,30 @@ impl Table {
         self.bytes
     }
 
-    /// Reads as many bytes from `offset` on as the buffer holds; gives the version read, and how many machines were called.
-    pub fn read(
-        &self,
-        coordinator: usize,
-        answering: Rows,
-        offset: usize,
-        buffer: &mut [u8],
-    ) -> Result<Done, Refused> {
-        let mut called = 0;
-        // SAFETY: `&self`, `&mut buffer` and `called` are live for the call and cannot overlap.
-        let result = unsafe {
-            raw::grid_read(
-                self.bytes.as_ptr(),
-                self.bytes.len(),
-                coordinator as u64,
-                answering.bits(),
-                offset as u64,
-                buffer.len() as u64,
-                buffer.as_mut_ptr(),
-                buffer.len(),
-                &mut called,
-                1,
-            )
-        };
-        answer(result, called)
-    }
-
-    /// Lays the patch over the file from `offset` on; gives the new version, and how many machines were called.
+    /// Makes the rows that answered the list in force, for all files; gives the epoch number in force.
+    ///
+    /// The new list has the shape of the table. A list of five, founded or laid by a check, lies in 3 rows and 2 columns: any
+    /// one of its machines may be away. A check by the list in force changes nothing.
+    ///
+    /// **One stale file blocks the check for all**: unless the rows that answered are current for every file, a check that would
+    /// change the list is refused by 7. [Send](FileMut::send) that file, from a row that has its newest version, and check again.
     ///
     /// ```
     /// use dyngrid::{Refusal, Rows, Shape, Table};
     ///
-    /// let mut table = Table::found(4, 16, &[10, 20, 30, 40], Shape::Wide)?;
-    /// // The own choice of row 1 is {1, 2, 3}: it was enough. With row 3 away all four had to be called.
-    /// assert_eq!(table.write(1, Rows::first(4), 0, b"1-0")?.called, 3);
-    /// assert_eq!(table.write(1, Rows::of(&[1, 2, 4])?, 0, b"0-1")?.called, 4);
-    /// // All were called, and too few answered.
-    /// let refused = table.write(1, Rows::of(&[1, 4])?, 0, b"0-0").unwrap_err();
-    /// assert_eq!((refused.refusal, refused.called), (Refusal::NoQuorum, 4));
+    /// let mut table = Table::found_group(4, 16, &[10, 20, 30, 40], Shape::Wide, 2)?;
+    /// // Of file 2, row 4 misses the first write and row 3 the second; file 1 is current everywhere.
+    /// table.file_mut(2).write(1, Rows::of(&[1, 2, 3])?, 0, b"0:47")?;
+    /// table.file_mut(2).write(1, Rows::of(&[1, 2, 4])?, 0, b"1:02")?;
+    /// // Machine 20 goes away, and then machine 10.
+    /// table.check(1, Rows::of(&[1, 3, 4])?)?;
+    /// let left = Rows::of(&[3, 4])?;
+    /// assert_eq!(table.check(3, left), Err(Refusal::NotCurrent));
+    /// // Had file 2 been sent while machine 10 was up, the check would be done.
+    /// table.file_mut(2).send(1, 3, Rows::of(&[1, 3])?)?;
+    /// assert_eq!(table.check(3, left), Ok(2));
     /// # Ok::<(), Refusal>(())
     /// ```
-    pub fn write(
-        &mut self,
-        coordinator: usize,
-        answering: Rows,
-        offset: usize,
-        patch: &[u8],
-    ) -> Result<Done, Refused> {
-        let mut called = 0;
-        // SAFETY: `&mut self`, `&patch` and `called` are live for the call and cannot overlap.
-        let result = unsafe {
-            raw::grid_write(
-                self.bytes.as_mut_ptr(),
-                self.bytes.len(),
-                coordinator as u64,
-                answering.bits(),
-                offset as u64,
-                patch.as_ptr(),
-                patch.len(),
-                &mut called,
-                1,
-            )
-        };
-        answer(result, called)
-    }
-
-    /// Brings the stale row `to` up to the state of the row `from`; gives the version it then has.
-    ///
-    /// Where the [window](Table::window) of `from` reaches back to the version of `to`, only the missing patches are laid, else
-    /// the whole file is copied; in a table that a founding led to, the copy comes out the same. The window of `from` is taken over.
-    pub fn send(&mut self, from: usize, to: usize, answering: Rows) -> Result<u32, Refusal> {
-        let (from, to) = (from as u64, to as u64);
-        // SAFETY: `&mut self` is live for the call, and its only slice.
-        split(unsafe {
-            raw::grid_send(self.bytes.as_mut_ptr(), self.bytes.len(), from, to, answering.bits())
-        })
-    }
-
-    /// The sends that would be done now if all machines answered, as pairs of sender and receiver; by receiver, then by sender.
-    /// Any of a receiver's senders may send, and then it needs no other. In an [assembled](Table::assemble) table both ends are
-    /// rows that answered.
-    ///
-    /// The library itself is asked for every two rows, on a copy, which takes some 4 ms for 64 machines; on a malformed table no
-    /// send would be done.
-    ///
-    /// ```
-    /// use dyngrid::{Rows, Shape, Table};
-    ///
-    /// let mut table = Table::found(4, 16, &[10, 20, 30, 40], Shape::Wide)?;
-    /// table.write(1, Rows::of(&[1, 2, 3])?, 0, b"1-0")?;
-    /// table.write(1, Rows::of(&[1, 2, 4])?, 0, b"0-1")?; // marks row 4; row 3 keeps the old score
-    /// assert_eq!(table.sends(), [(1, 4), (2, 4)]);
-    /// for (from, to) in table.sends_from_newest() {
-    ///     table.send(from, to, table.rows())?;
-    /// }
-    /// assert_eq!(table.sends(), []);
-    /// # Ok::<(), dyngrid::Refusal>(())
-    /// ```
-    pub fn sends(&self) -> Vec<(usize, usize)> {
-        let mut sends = Vec::new();
-        // Whether a send is done does not hang on windows, and without them question 1 takes a fraction of its time.
-        let asked = self.without_windows();
-        let mut copy = asked.clone();
-        for (to, place) in self.rows().iter().filter_map(|to| Some((to, self.place(to)?))) {
-            for from in self.rows() {
-                if copy.send(from, to, self.rows()).is_ok() {
-                    copy.bytes[place.clone()].copy_from_slice(&asked.bytes[place.clone()]);
-                    sends.push((from, to));
-                }
-            }
-        }
-        sends
-    }
-
-    /// Of the [`sends`](Table::sends) one for each receiver: from a sender of the newest version, the lowest row of these. They
-    /// may be done in any order, and leave no other send to be done.
-    pub fn sends_from_newest(&self) -> Vec<(usize, usize)> {
-        let version = |row| self.row(row).map(|row| row.version);
-        let of_one =
-            |sends: &[(usize, usize)]| sends.iter().rev().copied().max_by_key(|&(from, _)| version(from));
-        self.sends().chunk_by(|one, next| one.1 == next.1).filter_map(of_one).collect()
-    }
-
-    /// Makes the rows that answered the list in force; gives the epoch number in force.
-    ///
-    /// The new list has the shape of the table. A list of five, founded or laid by a check, lies in 3 rows and 2 columns: any
-    /// one of its machines may be away. A check by the list in force changes nothing. So five in a table that comes from form 1
-    /// stay in the published grid, of which nobody can read while the third machine in name order is away, until two checks with
-    /// that machine on lay them anew: one by four of the five, and one by all five.
     pub fn check(&mut self, coordinator: usize, answering: Rows) -> Result<u32, Refusal> {
         let coordinator = coordinator as u64;
         // SAFETY: `&mut self` is live for the call, and its only slice.
@@ -344,12 +291,12 @@ impl Table {
     /// use dyngrid::{Refusal, Rows, Shape, Table};
     ///
     /// let mut table = Table::found(3, 16, &[10, 20], Shape::Wide)?;
-    /// table.write(1, Rows::first(2), 0, b"1-0")?;
+    /// table.file_mut(1).write(1, Rows::first(2), 0, b"1-0")?;
     /// assert_eq!(table.join(15)?, 3);
     /// // It is not marked yet: a check takes it in and marks it, and then a send brings it the file.
-    /// assert_eq!(table.send(1, 3, Rows::first(3)), Err(Refusal::ReceiverNotBehind));
+    /// assert_eq!(table.file_mut(1).send(1, 3, Rows::first(3)), Err(Refusal::ReceiverNotBehind));
     /// table.check(1, Rows::first(3))?;
-    /// assert_eq!(table.send(1, 3, Rows::first(3))?, 1);
+    /// assert_eq!(table.file_mut(1).send(1, 3, Rows::first(3))?, 1);
     /// # Ok::<(), dyngrid::Refusal>(())
     /// ```
     pub fn join(&mut self, name: u16) -> Result<usize, Refusal> {
@@ -366,6 +313,7 @@ impl fmt::Debug for Table {
             .field("capacity", &self.capacity())
             .field("used", &self.used())
             .field("file_len", &self.file_len())
+            .field("files", &self.files())
             .finish_non_exhaustive()
     }
 }
@@ -384,12 +332,12 @@ impl TryFrom<Vec<u8>> for Table {
     }
 }
 
-/// How many bytes a table takes; none if capacity or file length are beyond what a table can have.
-pub(crate) fn length(capacity: usize, file_len: usize) -> Option<usize> {
-    (capacity <= 64 && file_len <= 4096).then(|| HEADER + capacity * (ROW_HEADER + file_len + RECORDS))
+/// How many bytes a row takes.
+fn stride(file_len: usize, files: usize) -> usize {
+    HEAD + files * copy::length(file_len)
 }
 
-/// How many bytes less it takes in an older form, whose rows have no records.
-pub(crate) fn saved(capacity: usize) -> usize {
-    capacity * RECORDS
+/// How many bytes a table takes; none if capacity, file length or files are beyond what a table can have.
+pub(crate) fn length(capacity: usize, file_len: usize, files: usize) -> Option<usize> {
+    (capacity <= 64 && file_len <= 4096 && files <= 8).then(|| HEADER + capacity * stride(file_len, files))
 }

@@ -1,22 +1,16 @@
-use crate::window::patches;
-use crate::{Rows, Table};
+use crate::copy::number;
+use crate::{CopyView, Rows, Table};
 
-/// What a row tells of its machine, the contents aside.
+/// What a row tells of its machine: its head, and its copy of each file, the contents aside.
 ///
 /// Later versions may tell more.
-#[derive(Clone, Copy, Debug, PartialEq, Eq, Hash)]
+#[derive(Clone, Debug, PartialEq, Eq, Hash)]
 #[non_exhaustive]
 pub struct RowView {
     /// The number of the row.
     pub row: usize,
     /// The name of the machine.
     pub name: u16,
-    /// Is it marked as stale? Then a [send](Table::sends) can bring it up.
-    pub stale: bool,
-    /// The version of its copy.
-    pub version: u32,
-    /// The version that it desires, above its own; 0 without the mark.
-    pub desired: u32,
     /// The number of its epoch.
     pub epoch: u32,
     /// The list of that epoch, its own row among the members; empty from a joining on until a check takes it in, and in a
@@ -24,8 +18,8 @@ pub struct RowView {
     pub list: Rows,
     /// The mark of the grid that its list lies in: 0 published, 1 the new five, 2 tall; 0 with an empty list.
     pub grid_mark: u8,
-    /// How many patches its [window](Table::window) has, 0 to 16.
-    pub patches: usize,
+    /// Its copies, that of file q at place q - 1; [`File::copy`](crate::File::copy) tells one of them.
+    pub copies: Vec<CopyView>,
 }
 
 impl Table {
@@ -37,30 +31,25 @@ impl Table {
     /// ```
     /// use dyngrid::{Rows, Shape, Table};
     ///
-    /// let mut table = Table::found(4, 16, &[10, 20, 30, 40], Shape::Wide)?;
-    /// table.write(1, Rows::of(&[1, 2, 3])?, 0, b"1-0")?;
-    /// table.write(1, Rows::of(&[1, 2, 4])?, 0, b"0-1")?;
+    /// let mut table = Table::found_group(4, 16, &[10, 20, 30, 40], Shape::Wide, 2)?;
+    /// table.file_mut(1).write(1, Rows::of(&[1, 2, 3])?, 0, b"1-0")?;
+    /// table.file_mut(2).write(1, Rows::of(&[1, 2, 4])?, 0, b"0:47")?;
     /// let row = table.row(4).ok_or(dyngrid::Refusal::NoSuchRow)?;
-    /// assert_eq!((row.name, row.stale, row.version, row.desired), (40, true, 0, 2));
-    /// assert_eq!((row.epoch, row.list, row.grid_mark), (0, Rows::first(4), 0));
+    /// assert_eq!((row.name, row.epoch, row.list, row.grid_mark), (40, 0, Rows::first(4), 0));
+    /// assert_eq!(row.copies.iter().map(|copy| copy.version).collect::<Vec<_>>(), [0, 1]);
     /// assert_eq!(table.row_named(40), Some(row));
     /// assert_eq!((table.row(5), table.row_named(50)), (None, None));
     /// # Ok::<(), dyngrid::Refusal>(())
     /// ```
     pub fn row(&self, row: usize) -> Option<RowView> {
         let bytes = self.row_bytes(row)?;
-        let header = bytes.first_chunk::<32>()?;
-        let number = |at: usize| u32::from_le_bytes([0, 1, 2, 3].map(|byte| header[at + byte]));
         Some(RowView {
             row,
-            name: u16::from_le_bytes([header[0], header[1]]),
-            stale: header[3] == 1,
-            version: number(4),
-            desired: number(8),
-            epoch: number(12),
-            list: Rows::from_bits(u64::from(number(20)) << 32 | u64::from(number(16))),
-            grid_mark: header[24],
-            patches: patches(bytes),
+            name: u16::from_le_bytes([bytes[0], bytes[1]]),
+            epoch: number(bytes, 12),
+            list: Rows::from_bits(u64::from(number(bytes, 20)) << 32 | u64::from(number(bytes, 16))),
+            grid_mark: bytes[24],
+            copies: (1..=self.files()).filter_map(|file| self.file(file).copy(row)).collect(),
         })
     }
 

@@ -1,11 +1,13 @@
-use crate::{RowView, Table};
+use crate::{CopyView, File, Table};
+use std::iter;
 use std::ops::Range;
 
-/// Where a row has the index of the oldest record of its window.
-const OLDEST: usize = 25;
-/// The records end the row; each is the next younger one's index, the length, the offset, and the patch.
+/// Where a copy has the index of the oldest record of its window.
+const OLDEST: usize = 1;
+/// The records end the copy; each is the next younger one's index, the length, the offset, and the patch.
 const PLACES: usize = 16;
 const RECORD: usize = 36;
+pub const RECORDS: usize = PLACES * RECORD;
 const NEXT: usize = 0;
 const LENGTH: usize = 1;
 const OFFSET: usize = 2;
@@ -14,7 +16,7 @@ const PATCH: usize = 4;
 /// Changed ranges that fewer bytes lie between are one: to name a range costs as much.
 const APART: usize = 4;
 
-/// A patch that the window of a row keeps.
+/// A patch that the window of a copy keeps.
 #[derive(Clone, Copy, Debug, PartialEq, Eq, Hash)]
 pub struct Patch<'a> {
     /// The version that the write gave to the copy.
@@ -25,51 +27,41 @@ pub struct Patch<'a> {
     pub bytes: &'a [u8],
 }
 
-impl RowView {
-    /// The version from which on the window has every patch. A send from this row to a row of that version, or of a newer one,
+impl CopyView {
+    /// The version from which on the window has every patch. A send from this copy to one of that version, or of a newer one,
     /// lays the missing patches and nothing else; to an older one it carries the whole file.
     pub fn reaches_back_to(&self) -> u32 {
         self.version.saturating_sub(self.patches as u32)
     }
 }
 
-impl Table {
-    /// The window of a row: its latest patches, up to 16, older first. A patch of more than 32 bytes empties it. A row that is not
-    /// in use has none.
+impl<'a> File<'a> {
+    /// The window of a row's copy: its latest patches, up to 16, older first. A patch of more than 32 bytes empties it. A row that is
+    /// not in use has none.
     ///
     /// ```
     /// use dyngrid::{Patch, Rows, Shape, Table};
     ///
     /// let mut table = Table::found(4, 64, &[10, 20, 30, 40], Shape::Wide)?;
-    /// table.write(1, Rows::of(&[1, 2, 3])?, 0, b"1-0")?;
-    /// table.write(1, Rows::of(&[1, 2, 3])?, 8, b"1/2")?;
-    /// let window = table.window(1);
+    /// table.file_mut(1).write(1, Rows::of(&[1, 2, 3])?, 0, b"1-0")?;
+    /// table.file_mut(1).write(1, Rows::of(&[1, 2, 3])?, 8, b"1/2")?;
+    /// let window = table.file(1).window(1);
     /// assert_eq!(window[0], Patch { version: 1, offset: 0, bytes: b"1-0" });
     /// assert_eq!(window[1], Patch { version: 2, offset: 8, bytes: b"1/2" });
     ///
-    /// let row = table.row(1).ok_or(dyngrid::Refusal::NoSuchRow)?;
-    /// assert_eq!((row.version, row.patches, row.reaches_back_to()), (2, 2, 0));
+    /// let copy = table.file(1).copy(1).ok_or(dyngrid::Refusal::NoSuchRow)?;
+    /// assert_eq!((copy.version, copy.patches, copy.reaches_back_to()), (2, 2, 0));
     /// # Ok::<(), dyngrid::Refusal>(())
     /// ```
-    pub fn window(&self, row: usize) -> Vec<Patch<'_>> {
-        let (Some(view), Some(bytes)) = (self.row(row), self.row_bytes(row)) else { return Vec::new() };
+    pub fn window(self, row: usize) -> Vec<Patch<'a>> {
+        let (Some(view), Some(bytes)) = (self.copy(row), self.copy_bytes(row)) else { return Vec::new() };
         let versions = view.reaches_back_to() + 1..;
         let patch = |(version, record)| patch_in(version, record);
         versions.zip(records(bytes)).map(patch).collect()
     }
+}
 
-    /// The same table with empty windows.
-    pub(crate) fn without_windows(&self) -> Table {
-        let mut table = self.clone();
-        for place in self.rows().iter().filter_map(|row| self.place(row)) {
-            let row = &mut table.bytes[place];
-            let records = row.len() - PLACES * RECORD;
-            row[OLDEST] = 0;
-            row[records..].fill(0);
-        }
-        table
-    }
-
+impl Table {
     /// Where the bytes of a row differ from those in the table before a call: what is to be shipped to a machine that holds the
     /// row as it was. After a small write, or a send that lays few patches, it is some tens of bytes, however long the file is.
     ///
@@ -81,11 +73,11 @@ impl Table {
     ///
     /// let before = Table::found(4, 4096, &[10, 20, 30, 40], Shape::Wide)?;
     /// let mut table = before.clone();
-    /// table.write(1, Rows::of(&[1, 2, 3])?, 100, b"1-0")?;
+    /// table.file_mut(1).write(1, Rows::of(&[1, 2, 3])?, 100, b"1-0")?;
     ///
-    /// // The version, the oldest record's index, the patch in the file, and the patch in its record.
+    /// // The oldest record's index and the version, the patch in the file, and the patch in its record.
     /// let ranges = table.changed_ranges(&before, 2);
-    /// assert_eq!(ranges, [4..5, 25..26, 132..135, 4129..4135]);
+    /// assert_eq!(ranges, [33..37, 144..147, 4141..4147]);
     ///
     /// // The machine lays them over the row that it holds.
     /// let mut held = before.row_bytes(2).ok_or(Refusal::NoSuchRow)?.to_vec();
@@ -100,21 +92,28 @@ impl Table {
         let Some(now) = self.row_bytes(row) else { return Vec::new() };
         match before.row_bytes(row).filter(|then| then.len() == now.len()) {
             Some(then) => differing(now, then),
-            None => vec![0..now.len()],
+            None => iter::once(0..now.len()).collect(),
         }
     }
 }
 
-/// How many patches the window of a row has.
-pub fn patches(row: &[u8]) -> usize {
-    records(row).count()
+/// How many patches the window of a copy has.
+pub fn patches(copy: &[u8]) -> usize {
+    records(copy).count()
+}
+
+/// Takes the patches out of the window of a copy.
+pub fn empty(copy: &mut [u8]) {
+    let records = copy.len() - RECORDS;
+    copy[OLDEST] = 0;
+    copy[records..].fill(0);
 }
 
 /// The records along the chain, older first.
-fn records(row: &[u8]) -> impl Iterator<Item = &[u8]> {
-    let all = &row[row.len() - PLACES * RECORD..];
+fn records(copy: &[u8]) -> impl Iterator<Item = &[u8]> {
+    let all = &copy[copy.len() - RECORDS..];
     let record = move |index: u8| all.chunks_exact(RECORD).nth(usize::from(index).checked_sub(1)?);
-    std::iter::successors(record(row[OLDEST]), move |older| record(older[NEXT])).take(PLACES)
+    iter::successors(record(copy[OLDEST]), move |older| record(older[NEXT])).take(PLACES)
 }
 
 fn patch_in(version: u32, record: &[u8]) -> Patch<'_> {

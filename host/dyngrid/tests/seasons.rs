@@ -1,13 +1,17 @@
-//! Tables of form 1 as the library of an earlier season left them: carried up, used, and carried down again.
+//! Tables of form 1 as the library of an earlier season left them: carried up and down again. Their calls are made anew on a table of
+//! one file, with the same answers.
 //!
 //! `season/NAME.calls` has calls from the founding on, with the answers of the library at commit db1ed72, which founded tables of
 //! form 1: behind `=` the refusal number, the value, and what was read. Sets have bit i - 1 for row i; what is written and read is
 //! in hexadecimal. That library left the table `NAME.table` where it says `kept`, and `NAME.after` at the end.
 
-use dyngrid::{raw, OlderForm, Refusal, Rows, Shape, Table};
+use dyngrid::{raw, Form3Table, OlderForm, Refusal, Rows, Shape, Table};
 
+const HEADER: usize = 16;
 const HEAD: usize = 32;
+const COPY_HEAD: usize = 12;
 const RECORDS: usize = 576;
+const GRID_MARK: usize = 24;
 
 struct Season {
     name: &'static str,
@@ -81,7 +85,7 @@ fn call(table: &mut Table, line: &str) {
     let got = match words[..] {
         ["read", by, up, offset, length] => {
             let mut buffer = vec![0; number(length)];
-            let result = table.read(number(by), set(up), number(offset), &mut buffer);
+            let result = table.file(1).read(number(by), set(up), number(offset), &mut buffer);
             let read: String = buffer.iter().map(|byte| format!("{byte:02x}")).collect();
             let answer = answer(result.map(|done| done.version).map_err(Refusal::from));
             if result.is_ok() {
@@ -91,110 +95,109 @@ fn call(table: &mut Table, line: &str) {
             }
         }
         ["write", by, up, offset, patch] => {
-            let result = table.write(number(by), set(up), number(offset), &bytes(patch));
+            let result = table.file_mut(1).write(number(by), set(up), number(offset), &bytes(patch));
             answer(result.map(|done| done.version).map_err(Refusal::from))
         }
-        ["send", from, to, up] => answer(table.send(number(from), number(to), set(up))),
+        ["send", from, to, up] => answer(table.file_mut(1).send(number(from), number(to), set(up))),
         ["check", by, up] => answer(table.check(number(by), set(up))),
         _ => panic!("no such call: {line}"),
     };
     assert_eq!(got, answered, "{line}");
 }
 
-fn up(older: &[u8]) -> Table {
-    Table::carry_up(older).expect("a table of an older form")
+fn up(older: &[u8]) -> Form3Table {
+    Form3Table::carry_up(older).expect("a table of an older form")
+}
+
+/// The same rows in form 3: what is in the one copy of a row lay in its head.
+fn in_form_3(table: &Table) -> Form3Table {
+    assert_eq!(table.files(), 1);
+    let (header, rows) = table.as_bytes().split_at(HEADER);
+    let mut bytes = header.to_vec();
+    (bytes[0], bytes[6]) = (3, 0);
+    for row in rows.chunks(rows.len() / table.capacity()) {
+        let (head, copy) = row.split_at(HEAD);
+        let mut head = head.to_vec();
+        (head[3], head[25]) = (copy[0], copy[1]);
+        head[4..12].copy_from_slice(&copy[4..COPY_HEAD]);
+        bytes.extend_from_slice(&head);
+        bytes.extend_from_slice(&copy[COPY_HEAD..]);
+    }
+    Form3Table::from_bytes(bytes).expect("the rules are the same")
+}
+
+/// The same lists in the published grid, as a season before laid them.
+fn published(table: Table) -> Table {
+    let mut bytes = table.into_bytes();
+    let (capacity, used) = (usize::from(bytes[1]), usize::from(bytes[2]));
+    let rows = &mut bytes[HEADER..];
+    let stride = rows.len() / capacity;
+    rows.chunks_mut(stride).take(used).for_each(|row| row[GRID_MARK] = 0);
+    Table::from_bytes(bytes).expect("well formed")
 }
 
 /// Up and down gives the original bytes; on the way down to form 2 only the first byte is another.
 #[test]
 fn up_and_down_gives_the_original_bytes() {
     for (name, kept) in all().flat_map(|season| [(season.name, season.table), (season.name, season.after)]) {
-        let error = Table::from_bytes(kept.to_vec()).expect_err("form 1");
-        assert_eq!(error.older_form(), Some(OlderForm::One), "{name}");
         let table = up(kept);
         assert_eq!(table.carry_down(OlderForm::One).as_deref(), Ok(kept), "{name}");
         let form_2 = table.carry_down(OlderForm::Two).expect("form 2 holds every table");
         assert_eq!((form_2[0], &form_2[1..]), (2, &kept[1..]), "{name}");
         assert_eq!(up(&form_2), table, "{name}");
         // Each row is the same, and its window is empty.
-        let stride = HEAD + table.file_len();
-        for (row, old) in table.rows().iter().zip(kept[16..].chunks(stride)) {
-            let new = table.row_bytes(row).expect("in use");
-            assert_eq!((&new[..stride], &new[stride..]), (old, &[0; RECORDS][..]), "{name}, row {row}");
+        let bytes = table.as_bytes();
+        assert_eq!((bytes[0], &bytes[1..HEADER]), (3, &kept[1..HEADER]), "{name}");
+        let stride = (kept.len() - HEADER) / usize::from(kept[1]);
+        for (new, old) in bytes[HEADER..].chunks(stride + RECORDS).zip(kept[HEADER..].chunks(stride)) {
+            assert_eq!((&new[..stride], &new[stride..]), (old, &[0; RECORDS][..]), "{name}");
         }
     }
 }
 
-/// Where each machine holds its own row, each carries its own, in a frame of form 2.
+/// Founded now, the same calls have the same answers and leave the same rows.
 #[test]
-fn each_machine_carries_its_own_row() {
-    for season in all() {
-        let table = up(season.table);
-        let stride = HEAD + table.file_len();
-        let place = |row: usize| 16 + (row - 1) * stride..16 + row * stride;
-        let mut frame = vec![0; season.table.len()];
-        frame[..16].copy_from_slice(&season.table[..16]);
-        frame[0] = 2;
-        for at in table.rows().iter().map(|row| place(row).start) {
-            frame[at..at + 3].copy_from_slice(&season.table[at..at + 3]);
-        }
-        assert_eq!(up(&frame), table.frame(), "{}", season.name);
-        for row in table.rows() {
-            let mut own = frame.clone();
-            own[place(row)].copy_from_slice(&season.table[place(row)]);
-            assert_eq!(up(&own).row_bytes(row), table.row_bytes(row), "{}, row {row}", season.name);
-        }
-    }
-}
-
-/// Carried up, they answer as they did, and the library of that season could go on with what they leave.
-#[test]
-fn the_season_goes_on() {
+fn the_season_from_its_founding_on() {
     let mut by_window = 0;
     for season in all() {
-        let mut table = up(season.table);
-        for line in &season.parts()[1] {
-            let before = table.clone();
-            call(&mut table, line);
-            if let ["send", from, to, ..] = line.split(' ').collect::<Vec<_>>()[..] {
-                let [from, to] = [from, to].map(|row| before.row(number(row)).expect("in use"));
-                by_window += u32::from(table != before && from.reaches_back_to() <= to.version);
+        let [before, after] = season.parts();
+        let mut table = published(founded(before[0]));
+        let mut calls = |lines: &[&str], left: &[u8]| {
+            for line in lines {
+                let then = table.clone();
+                call(&mut table, line);
+                if let ["send", from, to, ..] = line.split(' ').collect::<Vec<_>>()[..] {
+                    let [from, to] = [from, to].map(|row| then.file(1).copy(number(row)).expect("in use"));
+                    by_window += u32::from(table != then && from.reaches_back_to() <= to.version);
+                }
             }
-        }
-        assert_eq!(table.carry_down(OlderForm::One).as_deref(), Ok(season.after), "{}", season.name);
+            assert_eq!(in_form_3(&table).carry_down(OlderForm::One).as_deref(), Ok(left), "{}", season.name);
+        };
+        calls(&before[1..], season.table);
+        calls(&after, season.after);
     }
     println!("{by_window} sends by window");
     assert!(by_window > 5, "{by_window}");
-}
-
-/// Founded now, the same calls have the same answers and leave the same table.
-#[test]
-fn the_season_from_its_founding_on() {
-    for season in OTHERS {
-        let [before, after] = season.parts();
-        let mut table = founded(before[0]);
-        before[1..].iter().for_each(|line| call(&mut table, line));
-        assert_eq!(table.carry_down(OlderForm::One).as_deref(), Ok(season.table), "{}", season.name);
-        after.iter().for_each(|line| call(&mut table, line));
-        assert_eq!(table.carry_down(OlderForm::One).as_deref(), Ok(season.after), "{}", season.name);
-    }
     // Five are laid in another grid now, which form 1 does not know.
-    let five = founded(FIVE.parts()[0][0]);
+    let five = in_form_3(&founded(FIVE.parts()[0][0]));
     assert_eq!(five.carry_down(OlderForm::One), Err(Refusal::NotForm1));
 }
 
-/// The third machine is a column by itself until two checks that it answers have laid the five anew.
+/// In the published grid the third machine is a column by itself until two checks that it answers have laid the five anew.
 #[test]
 fn five_are_laid_anew_by_two_checks() {
-    let mut table = up(FIVE.table);
+    let [before, _] = FIVE.parts();
+    let mut table = published(founded(before[0]));
+    before[1..].iter().for_each(|line| call(&mut table, line));
     let but_the_third = Rows::of(&[1, 2, 4, 5]).expect("rows");
-    let refused = |table: &Table| table.read(1, but_the_third, 0, &mut [0; 15]).map_err(Refusal::from);
+    let refused =
+        |table: &Table| table.file(1).read(1, but_the_third, 0, &mut [0; 15]).map_err(Refusal::from);
     assert_eq!(refused(&table), Err(Refusal::NoQuorum));
     assert_eq!(table.check(1, Rows::first(5)), Ok(0), "they are the list in force");
     assert_eq!(refused(&table), Err(Refusal::NoQuorum));
     assert_eq!((table.check(1, Rows::first(4)), table.check(1, Rows::first(5))), (Ok(1), Ok(2)));
     assert_eq!(refused(&table).map(|done| done.version), Ok(2));
-    assert_eq!(table.carry_down(OlderForm::One), Err(Refusal::NotForm1));
+    assert_eq!(in_form_3(&table).carry_down(OlderForm::One), Err(Refusal::NotForm1));
 }
 
 /// Down and up: the same rows with empty windows. A machine that joined, and a tall table, go down to form 2 alone.
@@ -202,21 +205,76 @@ fn five_are_laid_anew_by_two_checks() {
 fn down_and_up_empties_the_windows() {
     for shape in [Shape::Wide, Shape::Tall] {
         let mut table = Table::found(6, 16, &[10, 20, 30, 40], shape).expect("a plain founding");
-        table.write(1, Rows::first(4), 0, b"1-0").expect("a quorum answers");
-        table.write(1, Rows::of(&[1, 2, 4]).expect("rows"), 8, b"0-1").expect("a quorum answers");
+        table.file_mut(1).write(1, Rows::first(4), 0, b"1-0").expect("a quorum answers");
+        let three = Rows::of(&[1, 2, 4]).expect("rows");
+        table.file_mut(1).write(1, three, 8, b"0-1").expect("a quorum answers");
+        assert!(table.file(1).copy(1).is_some_and(|copy| copy.patches == 2));
         let plain = shape == Shape::Wide;
-        assert_eq!(table.carry_down(OlderForm::One).is_ok(), plain);
+        assert_eq!(in_form_3(&table).carry_down(OlderForm::One).is_ok(), plain);
         table.join(50).expect("room");
+        let table = in_form_3(&table);
         assert_eq!(table.carry_down(OlderForm::One), Err(Refusal::NotForm1));
+        assert_eq!(table.carry_down(OlderForm::Three), Err(Refusal::BadSize), "it is there already");
         let again = up(&table.carry_down(OlderForm::Two).expect("form 2 holds every table"));
-        assert_eq!(again.as_bytes()[..16], table.as_bytes()[..16]);
-        assert!(table.row(1).is_some_and(|row| row.patches == 2));
-        for row in table.rows() {
-            let [now, then] = [&again, &table].map(|table| table.row_bytes(row).expect("in use"));
+        let [then, now] = [&table, &again].map(|table| table.as_bytes().split_at(HEADER));
+        assert_eq!(then.0, now.0);
+        let stride = HEAD + 16 + RECORDS;
+        for (now, then) in now.1.chunks(stride).zip(then.1.chunks(stride)) {
             assert_eq!((&now[..25], &now[26..HEAD + 16]), (&then[..25], &then[26..HEAD + 16]));
             assert_eq!((now[25], &now[HEAD + 16..]), (0, &[0; RECORDS][..]));
         }
     }
+}
+
+/// The error names the form; only a move takes the bytes.
+#[test]
+fn a_table_of_an_older_form_is_told() {
+    let kept = OTHERS[0].table;
+    let form_3 = up(kept);
+    for form in [OlderForm::One, OlderForm::Two, OlderForm::Three] {
+        let bytes = form_3.carry_down(form).unwrap_or_else(|_| form_3.as_bytes().to_vec());
+        assert_eq!(bytes[0], form.number());
+        let error = Table::from_bytes(bytes.clone()).expect_err("an older form");
+        assert_eq!((error.refusal(), error.older_form()), (Refusal::Malformed, Some(form)));
+        let text = format!(
+            "{} bytes are a table of form {}, which no call but a move takes: found a new table, and write its file into that",
+            bytes.len(),
+            form.number()
+        );
+        assert_eq!(error.to_string(), text);
+        assert_eq!(error.into_bytes(), bytes);
+        let taken = Form3Table::from_bytes(bytes.clone());
+        match form {
+            OlderForm::Three => {
+                assert_eq!(taken.as_ref(), Ok(&form_3));
+                assert_eq!(Form3Table::carry_up(&bytes), Err(Refusal::BadSize), "it is there already");
+            }
+            _ => {
+                assert_eq!(taken.map_err(|error| error.older_form()), Err(Some(form)));
+                assert_eq!(up(&bytes), form_3);
+            }
+        }
+        // With a rule broken, or of another form, it is no table of that form.
+        for (byte, value) in [(0, 0), (0, 4), (0, 5), (1, 5), (HEADER + 3, 2), (HEADER + 25, 17)] {
+            let mut bytes = bytes.clone();
+            bytes[byte] = value;
+            assert_eq!(Form3Table::carry_up(&bytes), Err(Refusal::Malformed));
+            for error in [
+                Table::from_bytes(bytes.clone()).expect_err("damaged"),
+                Form3Table::from_bytes(bytes.clone()).expect_err("damaged"),
+            ] {
+                assert_eq!(error.older_form(), None);
+                let text = format!("{} bytes are no table: refused by 1: ", bytes.len());
+                assert!(error.to_string().starts_with(&text), "{error}");
+            }
+        }
+    }
+    assert_eq!(format!("{form_3:?}"), "Form3Table { length: 2512, .. }");
+    // A table of form 4 is none of form 3, and nothing carries it there.
+    let table = founded(OTHERS[0].parts()[0][0]);
+    assert_eq!(Form3Table::carry_up(table.as_bytes()), Err(Refusal::BadSize));
+    let error = Form3Table::from_bytes(table.into_bytes()).expect_err("form 4");
+    assert_eq!(error.older_form(), None);
 }
 
 /// Between two seasons a table of form 1 could have machines that joined: it is one of form 2 but for the first byte.
@@ -224,12 +282,13 @@ fn down_and_up_empties_the_windows() {
 fn a_table_of_form_1_that_a_machine_joined() {
     let mut table = Table::found(5, 4, &[10, 20, 30, 40], Shape::Wide).expect("a plain founding");
     table.join(50).expect("room");
+    let table = in_form_3(&table);
     let mut kept = table.carry_down(OlderForm::Two).expect("form 2 holds every table");
     kept[0] = 1;
-    assert_eq!(Table::carry_up(&kept), Err(Refusal::Malformed));
+    assert_eq!(Form3Table::carry_up(&kept), Err(Refusal::Malformed));
     let error = Table::from_bytes(kept.clone()).expect_err("form 1");
     assert_eq!((error.older_form(), error.refusal()), (None, Refusal::Malformed));
-    assert!(error.to_string().ends_with("set byte 0 to 2, and carry it up to form 3"), "{error}");
+    assert!(error.to_string().ends_with("to carry it up to form 3, set byte 0 to 2"), "{error}");
     assert_eq!(error.as_bytes(), kept);
     kept[0] = 2;
     assert_eq!(up(&kept), table);
@@ -247,7 +306,7 @@ fn damaged_tables_are_refused() {
         bytes
     });
     for bytes in lengths.chain(bits) {
-        match Table::carry_up(&bytes) {
+        match Form3Table::carry_up(&bytes) {
             Ok(table) => {
                 let form = if bytes[0] == 1 { OlderForm::One } else { OlderForm::Two };
                 assert_eq!(table.carry_down(form).as_deref(), Ok(&bytes[..]));
@@ -263,19 +322,20 @@ fn damaged_tables_are_refused() {
     assert!(carried > 500 && refused > 500, "{carried} {refused}");
 }
 
-/// As C calls it: 15 before 12, and a refusal leaves the second buffer.
+/// As C calls it: 15 before 12, and a refusal leaves the second buffer. No table goes to form 4, or from it.
 #[test]
 fn moves_are_refused_by_number() {
-    let form_1 = FIVE.table.to_vec();
-    let form_3 = up(&form_1);
-    let mut marked = form_3.clone();
-    (marked.check(1, Rows::first(4)).and(marked.check(1, Rows::first(5)))).expect("quorums answer");
-    let form_2 = marked.carry_down(OlderForm::Two).expect("form 2 holds every table");
+    let five = founded(FIVE.parts()[0][0]);
+    let (newest, marked) = (published(five.clone()), in_form_3(&five));
+    let form_3 = in_form_3(&newest);
+    let [form_1, form_2] = [(&form_3, OlderForm::One), (&marked, OlderForm::Two)]
+        .map(|(table, form)| table.carry_down(form).expect("the form holds it"));
     let (short, long) = (form_1.len(), form_3.as_bytes().len());
-    let tables = [&form_1, &form_2, form_3.as_bytes(), marked.as_bytes()];
+    let tables = [&form_1, &form_2, form_3.as_bytes(), marked.as_bytes(), newest.as_bytes(), five.as_bytes()];
     for form in [0, 1, 2, 3, 4, 5, 6, 255, 256 + 3, (1 << 32) + 3, u64::MAX] {
         for (which, table) in (0..).zip(tables) {
-            for length in [0, short - 1, short, short + 1, long - 1, long, long + 1] {
+            for length in [0, short - 1, short, short + 1, long - 1, long, long + 1, newest.as_bytes().len()]
+            {
                 let mut to = vec![0xa5; length];
                 // SAFETY: both slices are live for the call, and they are two.
                 let result =
@@ -283,12 +343,20 @@ fn moves_are_refused_by_number() {
                 let goes = matches!((table[0], form, length), (1 | 2, 3, length) if length == long)
                     || matches!((table[0], form, length), (3, 1 | 2, length) if length == short);
                 let expected: u64 = match (which, form) {
-                    (1 | 3, 1) => 15 << 32,
+                    (1 | 3 | 5, 1) => 15 << 32,
                     _ if goes => 5,
                     _ => 12 << 32,
                 };
                 assert_eq!(result, expected, "table {which} to form {form} and {length} bytes");
-                assert!((result >> 32 == 0) != to.iter().all(|&byte| byte == 0xa5));
+                if !goes || expected >> 32 != 0 {
+                    assert!(to.iter().all(|&byte| byte == 0xa5), "a refusal leaves the buffer");
+                } else if form == 3 {
+                    assert_eq!(to, up(table).as_bytes(), "whatever the buffer held");
+                } else {
+                    let form = if form == 1 { OlderForm::One } else { OlderForm::Two };
+                    let table = Form3Table::from_bytes(table.to_vec()).expect("of form 3");
+                    assert_eq!(Ok(to), table.carry_down(form), "whatever the buffer held");
+                }
             }
         }
     }

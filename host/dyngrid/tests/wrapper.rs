@@ -1,9 +1,9 @@
 //! The wrapper keeps its promises: nothing panics, refusals have the right number, tables keep their length.
 
-use dyngrid::{chart, Done, Kind, NotAssembled, OlderForm, Refusal, Refused, Rows, Shape, Table};
+use dyngrid::{chart, Done, Kind, NotAssembled, Refusal, Refused, Rows, Shape, Table};
 
-/// The bytes of a row of a file of 4 bytes.
-const ROW: usize = 32 + 4 + 576;
+/// The bytes of a row with a copy of one file of 4 bytes.
+const ROW: usize = 32 + 588 + 4;
 
 /// The version, or the refusal, of a read or write.
 fn version_of(answer: Result<Done, Refused>) -> Result<u32, Refusal> {
@@ -15,9 +15,9 @@ fn four() -> Table {
 }
 
 #[test]
-fn refusals_are_numbered_1_to_15_and_17() {
+fn refusals_are_numbered_1_to_17() {
     let numbers: Vec<u32> = Refusal::ALL.iter().map(|refusal| refusal.number()).collect();
-    assert_eq!(numbers, (1..=15).chain([17]).collect::<Vec<_>>());
+    assert_eq!(numbers, (1..=17).collect::<Vec<_>>());
     for refusal in Refusal::ALL {
         assert_eq!(Refusal::from_number(refusal.number()), Some(refusal));
     }
@@ -26,7 +26,7 @@ fn refusals_are_numbered_1_to_15_and_17() {
 #[test]
 fn a_number_without_a_name_is_kept() {
     assert_eq!(Refusal::from_number(0), None);
-    for number in [16, 18, u32::MAX] {
+    for number in [18, 19, u32::MAX] {
         let refusal = Refusal::from_number(number).expect("a refusal");
         assert_eq!((refusal, refusal.number()), (Refusal::Unknown(number), number));
         assert!(refusal.to_string().starts_with(&format!("refused by {number}: ")));
@@ -48,38 +48,10 @@ fn a_table_of_wrong_length_cannot_be_made() {
 #[test]
 fn what_is_shown_is_short() {
     let table = Table::found(64, 4096, &[1, 2], Shape::Wide).expect("a plain founding");
-    assert_eq!(format!("{table:?}"), "Table { capacity: 64, used: 2, file_len: 4096, .. }");
+    assert_eq!(format!("{table:?}"), "Table { capacity: 64, used: 2, file_len: 4096, files: 1, .. }");
     let error = Table::from_bytes(vec![0; 100_000]).expect_err("no table");
     assert_eq!(format!("{error:?}"), "NotATable { length: 100000, refusal: Malformed, .. }");
     assert!(error.to_string().starts_with("100000 bytes are no table: refused by 1: "));
-}
-
-/// The error names the form, and the table is carried up.
-#[test]
-fn a_table_of_an_older_form_is_told() {
-    let table = four();
-    for form in [OlderForm::One, OlderForm::Two] {
-        let bytes = table.carry_down(form).expect("no joined row, no grid mark");
-        assert_eq!((bytes[0], bytes.len()), (form.number(), 160));
-        let error = Table::from_bytes(bytes.clone()).expect_err("an older form");
-        assert_eq!((error.refusal(), error.older_form()), (Refusal::Malformed, Some(form)));
-        assert_eq!(
-            error.to_string(),
-            format!("160 bytes are a table of form {}: carry it up to form 3", form.number())
-        );
-        assert_eq!(Table::carry_up(error.as_bytes()), Ok(table.clone()));
-        assert_eq!(error.into_bytes(), bytes);
-        // With another rule broken, or of another form, it is no table of that form.
-        for (byte, value) in [(0, 0), (0, 3), (0, 4), (1, 5), (16 + 3, 2), (16 + 25, 1)] {
-            let mut bytes = bytes.clone();
-            bytes[byte] = value;
-            assert_eq!(Table::carry_up(&bytes), Err(Refusal::Malformed));
-            let error = Table::from_bytes(bytes).expect_err("damaged");
-            assert_eq!(error.older_form(), None);
-            assert!(error.to_string().starts_with("160 bytes are no table: refused by 1: "), "{error}");
-        }
-    }
-    assert_eq!(Table::carry_up(table.as_bytes()), Err(Refusal::BadSize), "it is there already");
 }
 
 #[test]
@@ -90,8 +62,8 @@ fn five_bear_the_loss_of_any_one() {
         let left = five.rows() - Rows::of(&[lost]).expect("a row");
         let by = left.iter().next().expect("four rows");
         let mut table = five.clone();
-        assert_eq!(version_of(table.read(by, left, 0, &mut [0; 3])), Ok(0));
-        assert_eq!(version_of(table.write(by, left, 0, b"1-0")), Ok(1));
+        assert_eq!(version_of(table.file(1).read(by, left, 0, &mut [0; 3])), Ok(0));
+        assert_eq!(version_of(table.file_mut(1).write(by, left, 0, b"1-0")), Ok(1));
         assert_eq!(table.check(by, left), Ok(1));
         assert!(left.iter().all(|row| table.row_bytes(row).is_some_and(|row| row[24] == 0)));
     }
@@ -107,26 +79,26 @@ fn a_tall_table_stays_tall() {
     let mut table = Table::found(6, 4, &[10, 20], Shape::Tall).expect("a plain founding");
     let mut got = [0; 3];
     assert_eq!(
-        [1, 2].map(|row| version_of(table.read(row, Rows::from_bits(row as u64), 0, &mut got))),
+        [1, 2].map(|row| version_of(table.file(1).read(row, Rows::from_bits(row as u64), 0, &mut got))),
         [Ok(0); 2]
     );
-    assert_eq!(version_of(table.write(1, Rows::first(1), 0, b"1-0")), Err(Refusal::NoQuorum));
-    assert_eq!(version_of(table.write(1, Rows::first(2), 0, b"1-0")), Ok(1));
+    assert_eq!(version_of(table.file_mut(1).write(1, Rows::first(1), 0, b"1-0")), Err(Refusal::NoQuorum));
+    assert_eq!(version_of(table.file_mut(1).write(1, Rows::first(2), 0, b"1-0")), Ok(1));
     assert_eq!(
-        version_of(table.read(2, Rows::from_bits(2), 0, &mut got)).map(|version| (version, &got)),
+        version_of(table.file(1).read(2, Rows::from_bits(2), 0, &mut got)).map(|version| (version, &got)),
         Ok((1, b"1-0"))
     );
     assert_eq!([30, 40, 50, 60].map(|name| table.join(name)), [3, 4, 5, 6].map(Ok));
     assert_eq!(marks(&table), [2, 2, 0, 0, 0, 0]);
     assert_eq!(table.check(6, table.rows()), Ok(1));
     assert_eq!(marks(&table), [2; 6]);
-    assert_eq!(version_of(table.read(1, Rows::first(2), 0, &mut got)), Ok(1));
+    assert_eq!(version_of(table.file(1).read(1, Rows::first(2), 0, &mut got)), Ok(1));
     let mut wide = Table::found(6, 4, &[10, 20, 30, 40, 50, 60], Shape::Wide).expect("a plain founding");
-    assert_eq!(version_of(wide.read(1, Rows::first(2), 0, &mut got)), Err(Refusal::NoQuorum));
+    assert_eq!(version_of(wide.file(1).read(1, Rows::first(2), 0, &mut got)), Err(Refusal::NoQuorum));
     // Columns {1, 4}, {2, 5} and {3, 6} against {1, 3, 5} and {2, 4, 6}.
-    assert_eq!(version_of(wide.write(1, Rows::first(4), 0, b"0-1")), Ok(1));
-    assert_eq!(version_of(table.write(1, Rows::first(4), 0, b"0-1")), Err(Refusal::NoQuorum));
-    assert_eq!(version_of(table.write(1, Rows::first(5), 0, b"0-1")), Ok(2));
+    assert_eq!(version_of(wide.file_mut(1).write(1, Rows::first(4), 0, b"0-1")), Ok(1));
+    assert_eq!(version_of(table.file_mut(1).write(1, Rows::first(4), 0, b"0-1")), Err(Refusal::NoQuorum));
+    assert_eq!(version_of(table.file_mut(1).write(1, Rows::first(5), 0, b"0-1")), Ok(2));
 }
 
 #[test]
@@ -159,7 +131,7 @@ fn a_chart_says_who_can_write() {
             let enough = quorums.iter().any(|&quorum| u64::from(quorum) & !bits == 0);
             let expected = if enough { Ok(1) } else { Err(Refusal::NoQuorum) };
             assert_eq!(
-                version_of(founded.clone().write(by, answering, 0, &[1])),
+                version_of(founded.clone().file_mut(1).write(by, answering, 0, &[1])),
                 expected,
                 "{answering}, {shape:?}"
             );
@@ -180,10 +152,10 @@ fn the_choice_and_the_coordinator_are_enough() {
             let [read, write] =
                 [Kind::Read, Kind::Write].map(|kind| founded.choice(by, kind).expect("in use"));
             assert!(!read.is_empty() && read.is_subset(write) && write.is_subset(founded.rows()));
-            let answer = founded.read(by, read | own, 0, &mut [0]);
+            let answer = founded.file(1).read(by, read | own, 0, &mut [0]);
             assert_eq!(answer, Ok(Done { version: 0, called: read.len() }));
             let mut written = founded.clone();
-            let answer = written.write(by, write | own, 0, &[1]);
+            let answer = written.file_mut(1).write(by, write | own, 0, &[1]);
             assert_eq!(answer, Ok(Done { version: 1, called: write.len() }));
             let altered: Rows = founded
                 .rows()
@@ -193,7 +165,7 @@ fn the_choice_and_the_coordinator_are_enough() {
             assert_eq!(altered, write);
             let away = Rows::from_bits(1 << (read.iter().find(|&row| row != by).unwrap_or(by) - 1));
             if away != own && read != founded.rows() {
-                let answer = founded.read(by, founded.rows() - away, 0, &mut [0]);
+                let answer = founded.file(1).read(by, founded.rows() - away, 0, &mut [0]);
                 assert!(matches!(
                     answer,
                     Ok(Done { called, .. }) | Err(Refused { called, .. }) if called == machines
@@ -230,8 +202,8 @@ fn choices_over_the_own_list() {
 #[test]
 fn a_row_is_what_its_machine_holds() {
     let mut table = four();
-    table.write(1, Rows::first(3), 1, b"ab").expect("a quorum answers");
-    assert_eq!(table.row_bytes(1).map(|row| (row.len(), &row[32..36])), Some((ROW, &b"\0ab\0"[..])));
+    table.file_mut(1).write(1, Rows::first(3), 1, b"ab").expect("a quorum answers");
+    assert_eq!(table.row_bytes(1).map(|row| (row.len(), &row[44..48])), Some((ROW, &b"\0ab\0"[..])));
     let rows: Vec<u8> =
         table.rows().iter().flat_map(|row| table.row_bytes(row).expect("in use").to_vec()).collect();
     assert_eq!(rows, table.as_bytes()[16..]);
@@ -242,7 +214,7 @@ fn a_row_is_what_its_machine_holds() {
 #[test]
 fn a_table_is_assembled_from_the_rows_that_answered() {
     let mut table = Table::found(6, 4, &[10, 20, 30, 40], Shape::Wide).expect("a plain founding");
-    table.write(1, Rows::of(&[1, 2, 4]).expect("rows"), 0, b"1-0").expect("a quorum answers");
+    table.file_mut(1).write(1, Rows::of(&[1, 2, 4]).expect("rows"), 0, b"1-0").expect("a quorum answers");
     table.join(25).expect("room");
     table.check(1, Rows::of(&[1, 2, 3, 5]).expect("rows")).expect("a quorum answers");
     for bits in 0..1 << table.used() {
@@ -296,7 +268,7 @@ fn rows_that_do_not_fit_are_told() {
     assert!(matches!(&refused, NotAssembled::Malformed(error) if error.refusal() == Refusal::Malformed));
     assert!(refused
         .to_string()
-        .starts_with("the rows do not fit together: 2464 bytes are no table: refused by 1"));
+        .starts_with("the rows do not fit together: 2512 bytes are no table: refused by 1"));
     assert_eq!(Refusal::from(refused), Refusal::Malformed);
     assert_eq!(Refusal::from(NotAssembled::NoSuchRow { row: 7 }), Refusal::NoSuchRow);
     assert_eq!(assemble(Vec::new()), Ok(table.frame()));
@@ -312,16 +284,16 @@ fn changed_rows_are_to_be_shipped() {
     );
     let mut table = founded.clone();
     // The choice of 10; then all that answered; then the row that a send brings up.
-    table.write(1, table.rows(), 0, b"1-0").expect("a quorum answers");
+    table.file_mut(1).write(1, Rows::first(4), 0, b"1-0").expect("a quorum answers");
     assert_eq!(table.changed(&founded), rows(&[1, 2, 3]));
     let before = table.clone();
-    table.write(1, rows(&[1, 2, 4]), 0, b"1-0").expect("a quorum answers");
+    table.file_mut(1).write(1, rows(&[1, 2, 4]), 0, b"1-0").expect("a quorum answers");
     assert_eq!(table.changed(&before), rows(&[1, 2, 4]));
     let before = table.clone();
-    table.send(1, 4, rows(&[1, 4])).expect("row 4 is stale");
+    table.file_mut(1).send(1, 4, rows(&[1, 4])).expect("row 4 is stale");
     assert_eq!(table.changed(&before), rows(&[4]));
     assert_eq!(table.check(1, table.rows()), Ok(0));
-    assert_eq!(table.read(1, table.rows(), 0, &mut [0; 3]).map(|done| done.version), Ok(2));
+    assert_eq!(table.file(1).read(1, table.rows(), 0, &mut [0; 3]).map(|done| done.version), Ok(2));
     assert_eq!(table.changed(&before), rows(&[4]), "neither changes anything");
     // A joining: the new row, and the row whose link leads to it. In the other direction too, and for another size all.
     let before = table.clone();
@@ -339,7 +311,7 @@ fn several_threads_read_one_table() {
     let mut table =
         Table::found(9, 100, &[1, 2, 3, 4, 5, 6, 7, 8, 9], Shape::Wide).expect("a plain founding");
     let file: Vec<u8> = (0..100).collect();
-    assert_eq!(version_of(table.write(5, table.rows(), 0, &file)), Ok(1));
+    assert_eq!(version_of(table.file_mut(1).write(5, Rows::first(9), 0, &file)), Ok(1));
     let (table, before) = (shared(table.clone()), table);
     std::thread::scope(|scope| {
         for coordinator in table.rows() {
@@ -347,7 +319,10 @@ fn several_threads_read_one_table() {
             scope.spawn(move || {
                 for offset in (0..file.len()).cycle().take(20_000) {
                     let mut got = vec![0; file.len() - offset];
-                    assert_eq!(version_of(table.read(coordinator, table.rows(), offset, &mut got)), Ok(1));
+                    assert_eq!(
+                        version_of(table.file(1).read(coordinator, table.rows(), offset, &mut got)),
+                        Ok(1)
+                    );
                     assert_eq!(got, file[offset..]);
                 }
             });
@@ -359,7 +334,7 @@ fn several_threads_read_one_table() {
 #[test]
 fn a_table_knows_its_size() {
     let table = Table::found(9, 300, &[5, 6], Shape::Wide).expect("a plain founding");
-    assert_eq!((table.capacity(), table.used(), table.file_len()), (9, 2, 300));
+    assert_eq!((table.capacity(), table.used(), table.file_len(), table.files()), (9, 2, 300, 1));
 }
 
 #[test]
@@ -377,12 +352,12 @@ fn refused_calls_alter_nothing() {
     let mut table = four();
     let all = Rows::first(4);
     let mut buffer = [7; 2];
-    assert_eq!(version_of(table.read(0, all, 0, &mut buffer)), Err(Refusal::NoSuchRow));
-    assert_eq!(version_of(table.read(1, Rows::EMPTY, 0, &mut buffer)), Err(Refusal::NotAnswering));
-    assert_eq!(version_of(table.read(1, all, usize::MAX, &mut buffer)), Err(Refusal::OutOfRange));
-    assert_eq!(version_of(table.read(1, Rows::first(1), 0, &mut buffer)), Err(Refusal::NoQuorum));
-    assert_eq!(version_of(table.write(1, all, 0, &[])), Err(Refusal::OutOfRange));
-    assert_eq!(table.send(1, 2, all), Err(Refusal::ReceiverNotBehind));
+    assert_eq!(version_of(table.file(1).read(0, all, 0, &mut buffer)), Err(Refusal::NoSuchRow));
+    assert_eq!(version_of(table.file(1).read(1, Rows::EMPTY, 0, &mut buffer)), Err(Refusal::NotAnswering));
+    assert_eq!(version_of(table.file(1).read(1, all, usize::MAX, &mut buffer)), Err(Refusal::OutOfRange));
+    assert_eq!(version_of(table.file(1).read(1, Rows::first(1), 0, &mut buffer)), Err(Refusal::NoQuorum));
+    assert_eq!(version_of(table.file_mut(1).write(1, all, 0, &[])), Err(Refusal::OutOfRange));
+    assert_eq!(table.file_mut(1).send(1, 2, all), Err(Refusal::ReceiverNotBehind));
     assert_eq!(buffer, [7; 2]);
     assert_eq!(table, four());
 }
@@ -394,7 +369,7 @@ fn a_joining_links_the_row_in_name_order() {
     assert_eq!([40, 10, 25].map(|name| table.join(name)), [Ok(3), Ok(4), Ok(5)]);
     assert_eq!((table.used(), table.rows()), (5, Rows::first(5)));
     let bytes = table.as_bytes();
-    assert_eq!(bytes[..4], [3, 5, 5, 4], "form 3, and the chain begins with row 4");
+    assert_eq!(bytes[..4], [4, 5, 5, 4], "form 4, and the chain begins with row 4");
     let names_and_links = table.rows().iter().map(|row| table.row_bytes(row).expect("in use")[..3].to_vec());
     let expected = [[20, 0, 5], [30, 0, 3], [40, 0, 0], [10, 0, 1], [25, 0, 2]];
     assert_eq!(names_and_links.collect::<Vec<_>>(), expected);
@@ -425,18 +400,21 @@ fn a_joined_row_counts_once_a_check_takes_it_in() {
     let mut table = Table::found(3, 4, &[10, 20], Shape::Wide).expect("a plain founding");
     let (both, all) = (Rows::first(2), Rows::first(3));
     let mut got = [0; 3];
-    assert_eq!(version_of(table.write(1, both, 0, b"1-0")), Ok(1));
+    assert_eq!(version_of(table.file_mut(1).write(1, both, 0, b"1-0")), Ok(1));
     assert_eq!(table.join(30), Ok(3));
-    assert_eq!(version_of(table.read(3, Rows::from_bits(4), 0, &mut got)), Err(Refusal::NoQuorum));
-    assert_eq!(version_of(table.read(3, all, 0, &mut got)).map(|version| (version, &got)), Ok((1, b"1-0")));
-    assert_eq!(version_of(table.write(3, Rows::from_bits(6), 0, b"0-1")), Err(Refusal::NoQuorum));
-    assert_eq!(table.send(1, 3, all), Err(Refusal::ReceiverNotBehind));
-    assert_eq!(table.check(3, all), Ok(1));
-    assert_eq!(table.send(1, 3, all), Ok(1));
-    // Of three, the first and the second in name order hold a write quorum, and the second and the third a read quorum.
-    assert_eq!(version_of(table.write(1, both, 0, b"0-1")), Ok(2));
+    assert_eq!(version_of(table.file(1).read(3, Rows::from_bits(4), 0, &mut got)), Err(Refusal::NoQuorum));
     assert_eq!(
-        version_of(table.read(3, Rows::from_bits(6), 0, &mut got)).map(|version| (version, &got)),
+        version_of(table.file(1).read(3, all, 0, &mut got)).map(|version| (version, &got)),
+        Ok((1, b"1-0"))
+    );
+    assert_eq!(version_of(table.file_mut(1).write(3, Rows::from_bits(6), 0, b"0-1")), Err(Refusal::NoQuorum));
+    assert_eq!(table.file_mut(1).send(1, 3, all), Err(Refusal::ReceiverNotBehind));
+    assert_eq!(table.check(3, all), Ok(1));
+    assert_eq!(table.file_mut(1).send(1, 3, all), Ok(1));
+    // Of three, the first and the second in name order hold a write quorum, and the second and the third a read quorum.
+    assert_eq!(version_of(table.file_mut(1).write(1, both, 0, b"0-1")), Ok(2));
+    assert_eq!(
+        version_of(table.file(1).read(3, Rows::from_bits(6), 0, &mut got)).map(|version| (version, &got)),
         Ok((2, b"0-1"))
     );
 }
@@ -446,17 +424,20 @@ fn a_joined_row_counts_once_a_check_takes_it_in() {
 fn reads_and_writes_say_how_many_were_called() {
     let mut table = Table::found(6, 4, &[10, 20, 30, 40], Shape::Wide).expect("a plain founding");
     let (all, three) = (Rows::first(4), Rows::of(&[1, 2, 4]).expect("rows"));
-    assert_eq!(table.write(1, all, 0, b"1-0"), Ok(Done { version: 1, called: 3 }));
-    assert_eq!(table.read(1, all, 0, &mut [0; 3]), Ok(Done { version: 1, called: 2 }));
-    assert_eq!(table.write(1, three, 0, b"0-1"), Ok(Done { version: 2, called: 4 }));
+    assert_eq!(table.file_mut(1).write(1, all, 0, b"1-0"), Ok(Done { version: 1, called: 3 }));
+    assert_eq!(table.file(1).read(1, all, 0, &mut [0; 3]), Ok(Done { version: 1, called: 2 }));
+    assert_eq!(table.file_mut(1).write(1, three, 0, b"0-1"), Ok(Done { version: 2, called: 4 }));
     let refused = |refusal, called| Err(Refused { refusal, called });
-    assert_eq!(table.read(3, Rows::from_bits(0b1100), 0, &mut [0; 3]), refused(Refusal::NotCurrent, 4));
-    assert_eq!(table.write(1, Rows::first(2), 0, b"1-0"), refused(Refusal::NoQuorum, 4));
-    assert_eq!(table.write(1, all, 4, b"1"), refused(Refusal::OutOfRange, 0));
-    assert_eq!(table.read(5, all, 0, &mut [0; 3]), refused(Refusal::NoSuchRow, 0));
+    assert_eq!(
+        table.file(1).read(3, Rows::from_bits(0b1100), 0, &mut [0; 3]),
+        refused(Refusal::NotCurrent, 4)
+    );
+    assert_eq!(table.file_mut(1).write(1, Rows::first(2), 0, b"1-0"), refused(Refusal::NoQuorum, 4));
+    assert_eq!(table.file_mut(1).write(1, all, 4, b"1"), refused(Refusal::OutOfRange, 0));
+    assert_eq!(table.file(1).read(5, all, 0, &mut [0; 3]), refused(Refusal::NoSuchRow, 0));
     // A row that joined is in use at once, and has no choice of its own.
     assert_eq!(table.join(15), Ok(5));
-    assert_eq!(table.read(5, Rows::first(5), 0, &mut [0; 3]), Ok(Done { version: 2, called: 5 }));
+    assert_eq!(table.file(1).read(5, Rows::first(5), 0, &mut [0; 3]), Ok(Done { version: 2, called: 5 }));
     assert_eq!(Refused { refusal: Refusal::NoQuorum, called: 4 }.to_string(), Refusal::NoQuorum.to_string());
 }
 
@@ -489,11 +470,11 @@ fn a_million_writes_and_no_more() {
     let mut table = Table::found(1, 1, &[1], Shape::Wide).expect("a plain founding");
     let all = Rows::first(1);
     for version in 1..=1_000_000 {
-        assert_eq!(version_of(table.write(1, all, 0, &[version as u8])), Ok(version));
+        assert_eq!(version_of(table.file_mut(1).write(1, all, 0, &[version as u8])), Ok(version));
     }
-    assert_eq!(version_of(table.write(1, all, 0, &[0])), Err(Refusal::AtLimit));
+    assert_eq!(version_of(table.file_mut(1).write(1, all, 0, &[0])), Err(Refusal::AtLimit));
     let mut last = [0];
-    assert_eq!(version_of(table.read(1, all, 0, &mut last)), Ok(1_000_000));
+    assert_eq!(version_of(table.file(1).read(1, all, 0, &mut last)), Ok(1_000_000));
     assert_eq!(last, [1_000_000_u32 as u8]);
 }
 

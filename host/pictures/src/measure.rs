@@ -5,7 +5,9 @@ use std::fmt;
 
 const FILE_LEN: usize = 1;
 const HEADER: usize = 16;
-const ROW: usize = 32 + FILE_LEN + 576;
+/// The head of a row; behind it comes a copy of the file.
+const HEAD: usize = 32;
+const ROW: usize = HEAD + 588 + FILE_LEN;
 /// Where a row has its grid mark.
 const GRID_MARK: usize = 24;
 
@@ -119,11 +121,11 @@ fn measured(founded: &Table) -> Result<Sizes, Refusal> {
 type Attempt = fn(&mut Table, usize, Rows) -> Result<usize, Refusal>;
 
 fn read(table: &mut Table, coordinator: usize, answering: Rows) -> Result<usize, Refusal> {
-    Ok(table.read(coordinator, answering, 0, &mut [0])?.called)
+    Ok(table.file(1).read(coordinator, answering, 0, &mut [0])?.called)
 }
 
 fn write(table: &mut Table, coordinator: usize, answering: Rows) -> Result<usize, Refusal> {
-    Ok(table.write(coordinator, answering, 0, &[1])?.called)
+    Ok(table.file_mut(1).write(coordinator, answering, 0, &[1])?.called)
 }
 
 /// Whoever is in use is asked.
@@ -192,14 +194,18 @@ mod tests {
     fn rows_written(founded: &Table, coordinator: usize) -> Result<usize, Refusal> {
         let mut table = founded.clone();
         write(&mut table, coordinator, founded.rows())?;
-        Ok(table.rows().iter().filter(|&row| table.as_bytes()[row_at(row) + 4] == 1).count())
+        Ok(table
+            .rows()
+            .iter()
+            .filter(|&row| table.file(1).copy(row).is_some_and(|copy| copy.version == 1))
+            .count())
     }
 
     /// The table with one row marked and desiring version 1.
     fn with_stale_row(founded: &Table, row: usize) -> Result<Table, Refusal> {
         let mut bytes = founded.as_bytes().to_vec();
-        bytes[row_at(row) + 3] = 1;
-        bytes[row_at(row) + 8] = 1;
+        let copy = row_at(row) + HEAD;
+        (bytes[copy], bytes[copy + 8]) = (1, 1);
         Ok(Table::from_bytes(bytes)?)
     }
 

@@ -1,5 +1,6 @@
 //! Mistakes to make on purpose: each turns the engine into a wrong one that the tests must find.
 
+use crate::engine::Transfer;
 use crate::rows::{self, Order};
 use crate::window::{self, Window, LONGEST_PATCH};
 use crate::{Laid, Layout, Quorum, Row, Rules, Shape, Table, HEADER, ROW_HEADER};
@@ -96,14 +97,26 @@ pub enum Blunder {
     FormsFirst,
     /// A move to an older form keeps the index of the oldest record.
     OldestCarried,
-    /// A move to the newest form leaves what lay in the buffer where the windows are.
+    /// A move to form 3 leaves what lay in the buffer where the windows are.
     WindowsLeft,
-    /// A move to form 1 looks at lists only if it comes from the newest form.
-    NewestListsOnly,
+    /// A move to form 1 looks at lists only if it comes from form 3.
+    MovableListsOnly,
+    /// A read or write asks the rows about the first file, whichever it names.
+    FirstFilePolled,
+    /// A write stores what it does in the first file.
+    FirstFileWritten,
+    /// A check asks whether the rows that answered are current for the last file only.
+    LastFileCurrent,
+    /// A check marks with the good version of the first file.
+    FirstFileMarks,
+    /// A read or write looks at the range before it looks at the number of the file.
+    FileAfterRange,
+    /// A call looks at the low byte of a file's number only.
+    FileOfAByte,
 }
 
 impl Blunder {
-    pub const ALL: [Blunder; 47] = [
+    pub const ALL: [Blunder; 53] = [
         Blunder::OutsidersCount,
         Blunder::ShortColumnWhole,
         Blunder::DesiredIgnored,
@@ -150,7 +163,13 @@ impl Blunder {
         Blunder::FormsFirst,
         Blunder::OldestCarried,
         Blunder::WindowsLeft,
-        Blunder::NewestListsOnly,
+        Blunder::MovableListsOnly,
+        Blunder::FirstFilePolled,
+        Blunder::FirstFileWritten,
+        Blunder::LastFileCurrent,
+        Blunder::FirstFileMarks,
+        Blunder::FileAfterRange,
+        Blunder::FileOfAByte,
     ];
 
     /// Its name on a command line.
@@ -202,7 +221,13 @@ impl Blunder {
             Blunder::FormsFirst => "forms-first",
             Blunder::OldestCarried => "oldest-carried",
             Blunder::WindowsLeft => "windows-left",
-            Blunder::NewestListsOnly => "newest-lists-only",
+            Blunder::MovableListsOnly => "movable-lists-only",
+            Blunder::FirstFilePolled => "first-file-polled",
+            Blunder::FirstFileWritten => "first-file-written",
+            Blunder::LastFileCurrent => "last-file-current",
+            Blunder::FirstFileMarks => "first-file-marks",
+            Blunder::FileAfterRange => "file-after-range",
+            Blunder::FileOfAByte => "file-of-a-byte",
         }
     }
 
@@ -268,17 +293,18 @@ pub fn add_in_oldest(window: &mut Window, oldest: u8, offset: usize, patch: &[u8
 }
 
 /// Lays the sender's latest patches over the receiver's contents, the youngest first.
-pub fn lay_younger_first(table: &Table, bytes: &mut [u8], from: usize, to: usize, behind: usize) {
-    let window = table.window(bytes, from);
+pub fn lay_younger_first(table: &Table, bytes: &mut [u8], transfer: Transfer) {
+    let Transfer { from, to, file, behind } = transfer;
+    let window = table.window(bytes, from, file);
     let mut records = Vec::new();
-    let mut index = table.row(bytes, from).oldest;
+    let mut index = table.part(bytes, from, file).oldest;
     while index != 0 {
         records.push(window::record(window, index));
         index = window::record(window, index).next;
     }
     for record in records.iter().rev().take(behind) {
-        let patch = table.window_at(from) + record.at;
-        bytes.copy_within(patch..patch + record.length, table.contents_at(to) + record.offset);
+        let patch = table.window_at(from, file) + record.at;
+        bytes.copy_within(patch..patch + record.length, table.contents_at(to, file) + record.offset);
     }
 }
 

@@ -1,5 +1,5 @@
-//! The plain book: what a list of calls after one done founding must give. It is fed arguments and whether
-//! a call was done; nothing comes from the table.
+//! The plain book of a file: what a list of calls after one done founding must give. It is fed the writes and sends of its file
+//! and all other calls, by their arguments and whether they were done; nothing comes from the table.
 
 use crate::rows::{self, Order};
 use crate::{Laid, Layout, Quorum, Rules, Shape};

@@ -4,8 +4,8 @@ use crate::blunder::{self, Blunder};
 use crate::chart::{Chart, CHART_PLACES, LONGEST_CHARTED};
 use crate::rows::{self, Order};
 use crate::window;
-use crate::{Grid, Laid, Layout, Quorum, Row, Rules, Shape, Table};
-use crate::{HEADER, LIMIT, MAX_FILE, MAX_ROWS, OLDEST, ROW_HEADER};
+use crate::{Grid, Laid, Layout, Part, Quorum, Row, Rules, Shape, Table};
+use crate::{HEADER, LIMIT, MAX_FILE, MAX_FILES, MAX_ROWS, OLDEST, ROW_HEADER};
 use std::iter;
 
 /// Answers the calls on a table's bytes; with a blunder, wrongly.
@@ -15,12 +15,33 @@ pub struct Engine {
     pub blunder: Option<Blunder>,
 }
 
-/// What the rows of a set say together.
+/// Who coordinates a read or write, who answers, and which file it names.
+#[derive(Clone, Copy)]
+struct Asked {
+    coordinator: u64,
+    answering: u64,
+    file: u64,
+}
+
+/// The sizes that a founding names.
+struct Sizes {
+    capacity: u64,
+    file_len: u64,
+    files: u64,
+}
+
+/// A file on its way from a row to one that is so many versions behind.
+#[derive(Clone, Copy)]
+pub struct Transfer {
+    pub from: usize,
+    pub to: usize,
+    pub file: usize,
+    pub behind: usize,
+}
+
+/// What the rows of a set say together of a file.
+#[derive(Clone, Copy, Default)]
 struct Poll {
-    set: u64,
-    /// The highest epoch among the rows of the set that have a list, and that list; empty if none has.
-    epoch: u32,
-    list: Laid,
     /// The unmarked rows of the highest version among unmarked rows, and that version.
     good: u64,
     version: u32,
@@ -51,9 +72,19 @@ fn result(answer: Answer) -> u64 {
     }
 }
 
+// The calls have the arguments that a host gives them.
+#[allow(clippy::too_many_arguments)]
 impl Engine {
-    pub fn found(&self, bytes: &mut [u8], capacity: u64, file_len: u64, names: &[u8], choice: u64) -> u64 {
-        result(found(self.rules, bytes, capacity, file_len, names, choice))
+    pub fn found(
+        &self,
+        bytes: &mut [u8],
+        capacity: u64,
+        file_len: u64,
+        names: &[u8],
+        choice: u64,
+        files: u64,
+    ) -> u64 {
+        result(found(self.rules, bytes, Sizes { capacity, file_len, files }, names, choice))
     }
 
     pub fn read(
@@ -65,9 +96,11 @@ impl Engine {
         length: u64,
         buffer: &mut [u8],
         called: &mut [u8],
+        file: u64,
     ) -> u64 {
         let mut lent = Called { length: called.len(), size: 0 };
-        let answer = self.try_read(bytes, coordinator, answering, offset, length, buffer, &mut lent);
+        let asked = Asked { coordinator, answering, file };
+        let answer = self.try_read(bytes, asked, offset, length, buffer, &mut lent);
         self.note(called, lent.size, answer);
         result(answer)
     }
@@ -80,15 +113,17 @@ impl Engine {
         offset: u64,
         patch: &[u8],
         called: &mut [u8],
+        file: u64,
     ) -> u64 {
         let mut lent = Called { length: called.len(), size: 0 };
-        let answer = self.try_write(bytes, coordinator, answering, offset, patch, &mut lent);
+        let asked = Asked { coordinator, answering, file };
+        let answer = self.try_write(bytes, asked, offset, patch, &mut lent);
         self.note(called, lent.size, answer);
         result(answer)
     }
 
-    pub fn send(&self, bytes: &mut [u8], from: u64, to: u64, answering: u64) -> u64 {
-        result(self.try_send(bytes, from, to, answering))
+    pub fn send(&self, bytes: &mut [u8], from: u64, to: u64, answering: u64, file: u64) -> u64 {
+        result(self.try_send(bytes, from, to, answering, file))
     }
 
     pub fn check(&self, bytes: &mut [u8], coordinator: u64, answering: u64) -> u64 {
@@ -112,18 +147,18 @@ impl Engine {
         result(self.try_carry(bytes, form, to))
     }
 
-    /// The sends that would be done on a well-formed table if all rows answered, by receiver and then by sender: for every two
-    /// rows, questions 9 and 10.
-    pub fn sends(&self, table: &Table, bytes: &[u8]) -> Vec<(usize, usize)> {
-        let rows: Vec<Row> = (1..=table.used).map(|row| table.row(bytes, row)).collect();
+    /// The sends of a file that would be done on a well-formed table if all rows answered, by receiver and then by sender: for
+    /// every two rows, questions 9 and 10.
+    pub fn sends(&self, table: &Table, bytes: &[u8], file: usize) -> Vec<(usize, usize)> {
+        let parts: Vec<Part> = (1..=table.used).map(|row| table.part(bytes, row, file)).collect();
         let mut sends = Vec::new();
-        for (to, receiver) in (1..).zip(&rows) {
-            let fits = |sender: &Row| {
+        for (to, receiver) in (1..).zip(&parts) {
+            let fits = |sender: &Part| {
                 let behind = self.makes(Blunder::BehindReceiver) && receiver.version < sender.version;
                 let marked = receiver.stale && receiver.desired <= sender.version;
                 (!sender.stale || self.makes(Blunder::StaleSender)) && (marked || !receiver.stale && behind)
             };
-            let senders = (1..).zip(&rows).filter(|(from, sender)| *from != to && fits(sender));
+            let senders = (1..).zip(&parts).filter(|(from, sender)| *from != to && fits(sender));
             sends.extend(senders.map(|(from, _)| (from, to)));
         }
         sends
@@ -132,26 +167,22 @@ impl Engine {
     fn try_read(
         &self,
         bytes: &[u8],
-        coordinator: u64,
-        answering: u64,
+        asked: Asked,
         offset: u64,
         length: u64,
         buffer: &mut [u8],
         called: &mut Called,
     ) -> Answer {
-        let table = self.judge(bytes)?;
-        ask(2, is_used(&table, coordinator) && only_used(&table, answering))?;
-        ask(3, answers(answering, coordinator))?;
-        ask(4, range_fits(&table, offset, length))?;
+        let (table, file) = self.admit(bytes, asked, offset, length)?;
         ask(5, buffer.len() as u64 == length && called.length == 1)?;
-        let poll = self.settle(&table, bytes, coordinator as usize, answering, Quorum::Read, called)?;
+        let (_, poll) = self.settle(&table, bytes, asked, file, Quorum::Read, called)?;
         // The set is current, so there is a good row.
         let source = if self.makes(Blunder::HighestGood) {
             64 - poll.good.leading_zeros()
         } else {
             poll.good.trailing_zeros() + 1
         };
-        let contents = table.contents(bytes, source as usize);
+        let contents = table.contents(bytes, source as usize, file);
         buffer.copy_from_slice(&contents[offset as usize..][..buffer.len()]);
         Ok(poll.version)
     }
@@ -159,40 +190,41 @@ impl Engine {
     fn try_write(
         &self,
         bytes: &mut [u8],
-        coordinator: u64,
-        answering: u64,
+        asked: Asked,
         offset: u64,
         patch: &[u8],
         called: &mut Called,
     ) -> Answer {
-        let table = self.judge(bytes)?;
-        ask(2, is_used(&table, coordinator) && only_used(&table, answering))?;
-        ask(3, answers(answering, coordinator))?;
         if self.makes(Blunder::CalledLengthFirst) {
+            // The first byte is a range that fits.
+            self.admit(bytes, asked, 0, 1)?;
             ask(5, called.length == 1)?;
         }
-        ask(4, range_fits(&table, offset, patch.len() as u64))?;
+        let (table, file) = self.admit(bytes, asked, offset, patch.len() as u64)?;
         ask(5, called.length == 1)?;
-        let poll = self.settle(&table, bytes, coordinator as usize, answering, Quorum::Write, called)?;
+        let (set, poll) = self.settle(&table, bytes, asked, file, Quorum::Write, called)?;
         ask(8, poll.version < LIMIT)?;
         let version = poll.version + 1;
         if self.makes(Blunder::WriteForgotten) {
             return Ok(version);
         }
+        let file = if self.makes(Blunder::FirstFileWritten) { 1 } else { file };
         let stored = !(self.makes(Blunder::FirstWriteOnly) && poll.version > 0);
         let desired = if self.makes(Blunder::OldMark) { poll.version } else { version };
-        for row in rows::members(poll.set) {
-            let mut state = table.row(bytes, row);
+        for row in rows::members(set) {
+            let mut part = table.part(bytes, row, file);
             if rows::has(poll.good, row) {
-                state.version = version;
+                part.version = version;
                 if stored {
-                    table.contents_mut(bytes, row)[offset as usize..][..patch.len()].copy_from_slice(patch);
-                    state.oldest = self.add_patch(&table, bytes, row, state.oldest, offset as usize, patch);
+                    let contents = table.contents_mut(bytes, row, file);
+                    contents[offset as usize..][..patch.len()].copy_from_slice(patch);
+                    part.oldest =
+                        self.add_patch(&table, bytes, row, file, part.oldest, offset as usize, patch);
                 }
             } else {
-                mark(&mut state, desired);
+                part.mark(desired);
             }
-            table.write_row(bytes, row, &state);
+            table.write_part(bytes, row, file, &part);
         }
         Ok(version)
     }
@@ -201,63 +233,74 @@ impl Engine {
         let table = self.judge(bytes)?;
         ask(2, is_used(&table, coordinator) && only_used(&table, answering))?;
         ask(3, answers(answering, coordinator))?;
-        let poll = self.poll(&table, bytes, answering);
-        let layout = Layout::of(poll.list, &table.chain);
+        let (epoch, in_force) = self.in_force(&table, bytes, answering);
+        let layout = Layout::of(in_force, &table.chain);
         ask(6, self.holds(&table, &layout, Quorum::Write, answering))?;
-        if answering == poll.list.members {
-            return Ok(poll.epoch);
+        if answering == in_force.members {
+            return Ok(epoch);
         }
-        ask(7, poll.current)?;
-        ask(8, poll.epoch < LIMIT)?;
+        let mut polls = [Poll::default(); MAX_FILES];
+        let polls = &mut polls[..table.files];
+        for (file, poll) in (1..).zip(polls.iter_mut()) {
+            *poll = self.poll(&table, bytes, answering, file);
+        }
+        let asked = if self.makes(Blunder::LastFileCurrent) { table.files - 1 } else { 0 };
+        ask(7, polls[asked..].iter().all(|poll| poll.current))?;
+        ask(8, epoch < LIMIT)?;
         let shape = match self.blunder {
             Some(Blunder::NeverTall) => Shape::Wide,
             Some(Blunder::CoordinatorsShape) => table.row(bytes, coordinator as usize).list.shape(),
-            _ => poll.list.shape(),
+            _ => in_force.shape(),
         };
         let mut list = self.rules.lay(shape, answering);
         if self.makes(Blunder::OldGrid) {
-            list.mark = poll.list.mark;
+            list.mark = in_force.mark;
         }
         for row in rows::members(answering) {
-            let mut state = table.row(bytes, row);
-            state.epoch = poll.epoch + 1;
-            state.list = list;
-            if !rows::has(poll.good, row) {
-                mark(&mut state, poll.version);
-            }
-            table.write_row(bytes, row, &state);
+            let head = Row { epoch: epoch + 1, list, ..table.row(bytes, row) };
+            table.write_row(bytes, row, &head);
         }
-        Ok(poll.epoch + 1)
+        for (file, poll) in (1..).zip(polls.iter()) {
+            let desired = if self.makes(Blunder::FirstFileMarks) { polls[0].version } else { poll.version };
+            for row in rows::members(answering & !poll.good) {
+                let mut part = table.part(bytes, row, file);
+                part.mark(desired);
+                table.write_part(bytes, row, file, &part);
+            }
+        }
+        Ok(epoch + 1)
     }
 
-    fn try_send(&self, bytes: &mut [u8], from: u64, to: u64, answering: u64) -> Answer {
+    fn try_send(&self, bytes: &mut [u8], from: u64, to: u64, answering: u64, file: u64) -> Answer {
         let table = self.judge(bytes)?;
         ask(2, is_used(&table, from) && is_used(&table, to) && only_used(&table, answering) && from != to)?;
         ask(3, answers(answering, from) && answers(answering, to))?;
+        let file = self.in_group(&table, file)?;
         let (from, to) = (from as usize, to as usize);
-        let (sender, receiver) = (table.row(bytes, from), table.row(bytes, to));
+        let (sender, receiver) = (table.part(bytes, from, file), table.part(bytes, to, file));
         ask(9, !sender.stale)?;
         ask(10, receiver.stale && receiver.desired <= sender.version)?;
-        let (mut oldest, mut end) = (sender.oldest, table.row_at(from + 1));
+        let (mut oldest, mut end) = (sender.oldest, table.part_at(from, file + 1));
         if self.makes(Blunder::WindowKept) {
-            (oldest, end) = (receiver.oldest, table.window_at(from));
+            (oldest, end) = (receiver.oldest, table.window_at(from, file));
         }
-        let caught_up = Row { version: sender.version, stale: false, desired: 0, oldest, ..receiver };
-        table.write_row(bytes, to, &caught_up);
+        let caught_up = Part { version: sender.version, stale: false, desired: 0, oldest };
+        table.write_part(bytes, to, file, &caught_up);
         // The window lies behind the contents: it is taken over alone, or with them.
         let behind = (sender.version - receiver.version) as usize;
-        let laid = self.lay_missing(&table, bytes, from, to, behind);
+        let laid = self.lay_missing(&table, bytes, Transfer { from, to, file, behind });
         let start = if laid { Table::window_at } else { Table::contents_at };
-        bytes.copy_within(start(&table, from)..end, start(&table, to));
+        bytes.copy_within(start(&table, from, file)..end, start(&table, to, file));
         Ok(sender.version)
     }
 
-    /// Adds a patch to a row's window, in a table that has windows. Gives the oldest record then.
+    /// Adds a patch to the window of a row on a file, in a table that has windows. Gives the oldest record then.
     fn add_patch(
         &self,
         table: &Table,
         bytes: &mut [u8],
         row: usize,
+        file: usize,
         oldest: u8,
         offset: usize,
         patch: &[u8],
@@ -265,7 +308,7 @@ impl Engine {
         if !table.rules.has_windows() {
             return 0;
         }
-        let window = table.window_mut(bytes, row);
+        let window = table.window_mut(bytes, row, file);
         match self.blunder {
             Some(Blunder::LongestEmpties) => blunder::add_shorter(window, oldest, offset, patch),
             Some(Blunder::RecordPassedOver) => blunder::add_in_oldest(window, oldest, offset, patch),
@@ -274,26 +317,28 @@ impl Engine {
     }
 
     /// Lays the sender's latest patches over the receiver's contents, older first, if its window reaches back so far.
-    fn lay_missing(&self, table: &Table, bytes: &mut [u8], from: usize, to: usize, behind: usize) -> bool {
+    fn lay_missing(&self, table: &Table, bytes: &mut [u8], transfer: Transfer) -> bool {
+        let Transfer { from, to, file, behind } = transfer;
         if !table.rules.has_windows() {
             return false;
         }
-        let oldest = table.row(bytes, from).oldest;
-        let (count, _) = window::chain(table.window(bytes, from), oldest);
+        let (window_at, contents_at) = (table.window_at(from, file), table.contents_at(to, file));
+        let oldest = table.part(bytes, from, file).oldest;
+        let (count, _) = window::chain(table.window(bytes, from, file), oldest);
         let reach = if count > 0 && self.makes(Blunder::ReachTooFar) { count + 1 } else { count };
         if reach < behind {
             return false;
         }
         if self.makes(Blunder::YoungerFirst) {
-            blunder::lay_younger_first(table, bytes, from, to, behind);
+            blunder::lay_younger_first(table, bytes, transfer);
             return true;
         }
         let mut index = oldest;
         for place in 0..count {
-            let record = window::record(table.window(bytes, from), index);
+            let record = window::record(table.window(bytes, from, file), index);
             if place + behind >= count {
-                let patch = table.window_at(from) + record.at;
-                bytes.copy_within(patch..patch + record.length, table.contents_at(to) + record.offset);
+                let patch = window_at + record.at;
+                bytes.copy_within(patch..patch + record.length, contents_at + record.offset);
             }
             index = record.next;
         }
@@ -342,7 +387,7 @@ impl Engine {
         match self.blunder {
             Some(Blunder::WriteChoiceTold) => quorum = Quorum::Write,
             Some(Blunder::PublishedChoiceTold) => own.list.mark = 0,
-            Some(Blunder::NewestChoiceTold) => own.list = self.poll(&table, bytes, table.all_used()).list,
+            Some(Blunder::NewestChoiceTold) => own.list = self.in_force(&table, bytes, table.all_used()).1,
             _ => {}
         }
         let mut chosen = Layout::of(own.list, &table.chain).choice(quorum, own.name);
@@ -364,13 +409,13 @@ impl Engine {
         if self.makes(Blunder::FormsFirst) {
             carried_form(&table, form, to)?;
         }
-        let asked = !self.makes(Blunder::NewestListsOnly) || rules == Rules::Newest;
+        let asked = !self.makes(Blunder::MovableListsOnly) || rules == Rules::OneFile;
         ask(15, form != 1 || !asked || table.is_published(bytes))?;
         let rules = carried_form(&table, form, to)?;
         to[..HEADER].copy_from_slice(&bytes[..HEADER]);
         to[0] = rules.form();
         let length = ROW_HEADER + table.file_len;
-        for (row, carried) in (1..).zip(to[HEADER..].chunks_exact_mut(rules.row_length(table.file_len))) {
+        for (row, carried) in (1..).zip(to[HEADER..].chunks_exact_mut(rules.row_length(table.file_len, 1))) {
             let (kept, window) = carried.split_at_mut(length);
             kept.copy_from_slice(&bytes[table.row_at(row)..][..length]);
             if !self.makes(Blunder::OldestCarried) {
@@ -393,23 +438,45 @@ impl Engine {
         judged.ok_or(1)
     }
 
-    /// The set that a read or write works on: the coordinator's own choice as far as it answered, or else all that answered.
-    /// Called are all of the choice, or else all used rows.
+    /// Questions 1 to 3, 16 and 4 of a read or write; gives the file that it names.
+    fn admit(&self, bytes: &[u8], asked: Asked, offset: u64, length: u64) -> Result<(Table, usize), u32> {
+        let table = self.judge(bytes)?;
+        ask(2, is_used(&table, asked.coordinator) && only_used(&table, asked.answering))?;
+        ask(3, answers(asked.answering, asked.coordinator))?;
+        if self.makes(Blunder::FileAfterRange) {
+            ask(4, range_fits(&table, offset, length))?;
+        }
+        let file = self.in_group(&table, asked.file)?;
+        ask(4, range_fits(&table, offset, length))?;
+        Ok((table, file))
+    }
+
+    /// Question 16: gives the file that this number names.
+    fn in_group(&self, table: &Table, file: u64) -> Result<usize, u32> {
+        let file = if self.makes(Blunder::FileOfAByte) { file & 0xff } else { file };
+        ask(16, (1..=table.files as u64).contains(&file))?;
+        Ok(file as usize)
+    }
+
+    /// The set that a read or write works on, and what its rows say of the file: the coordinator's own choice as far as it answered,
+    /// or else all that answered. Called are all of the choice, or else all used rows.
     fn settle(
         &self,
         table: &Table,
         bytes: &[u8],
-        coordinator: usize,
-        answering: u64,
+        asked: Asked,
+        file: usize,
         quorum: Quorum,
         called: &mut Called,
-    ) -> Result<Poll, u32> {
+    ) -> Result<(u64, Poll), u32> {
+        let Asked { coordinator, answering, .. } = asked;
+        let file = if self.makes(Blunder::FirstFilePolled) { 1 } else { file };
         let all = table.used as u8;
         called.size = if self.makes(Blunder::NoneCalledBySix) { 0 } else { all };
         if self.makes(Blunder::SixByCount) {
             ask(6, answering.count_ones() as usize > table.used / 2)?;
         }
-        let mut own = table.row(bytes, coordinator);
+        let mut own = table.row(bytes, coordinator as usize);
         if self.makes(Blunder::PublishedChoice) {
             own.list.mark = 0;
         }
@@ -417,23 +484,25 @@ impl Engine {
         let chosen = layout.choice(quorum, own.name);
         let choice = chosen & answering;
         if choice != 0 && !self.makes(Blunder::NoChoice) {
-            let poll = self.poll(table, bytes, choice);
-            layout.lay(poll.list, &table.chain);
+            let (_, in_force) = self.in_force(table, bytes, choice);
+            layout.lay(in_force, &table.chain);
+            let poll = self.poll(table, bytes, choice, file);
             if self.holds(table, &layout, quorum, choice) && poll.current {
                 called.size = match self.blunder {
                     Some(Blunder::AnsweringCalled) => choice.count_ones() as u8,
                     Some(Blunder::AllCalled) => all,
                     _ => chosen.count_ones() as u8,
                 };
-                return Ok(poll);
+                return Ok((choice, poll));
             }
         }
-        let poll = self.poll(table, bytes, answering);
-        layout.lay(poll.list, &table.chain);
+        let (_, in_force) = self.in_force(table, bytes, answering);
+        layout.lay(in_force, &table.chain);
         ask(6, self.holds(table, &layout, quorum, answering))?;
         called.size = all;
+        let poll = self.poll(table, bytes, answering, file);
         ask(7, poll.current)?;
-        Ok(poll)
+        Ok((answering, poll))
     }
 
     /// Writes the size of the set called into its list, if that has one byte.
@@ -444,26 +513,34 @@ impl Engine {
         }
     }
 
-    /// Polls the rows of a set that is not empty.
-    fn poll(&self, table: &Table, bytes: &[u8], set: u64) -> Poll {
-        let mut poll = Poll { set, epoch: 0, list: Laid::EMPTY, good: 0, version: 0, current: false };
-        let mut desired = 0;
+    /// The highest epoch among the rows of the set that have a list, and that list; an empty one if none has.
+    fn in_force(&self, table: &Table, bytes: &[u8], set: u64) -> (u32, Laid) {
+        if self.makes(Blunder::UnlistedEpoch) {
+            return blunder::highest_of_all(table, bytes, set);
+        }
+        let mut in_force = (0, Laid::EMPTY);
         for index in rows::members(set) {
             let row = table.row(bytes, index);
-            // A row with an empty list is passed over.
-            if row.epoch >= poll.epoch && !row.list.is_empty() {
-                (poll.epoch, poll.list) = (row.epoch, row.list);
-            }
-            if row.stale {
-                desired = desired.max(row.desired);
-            } else if row.version > poll.version || poll.good == 0 {
-                (poll.version, poll.good) = (row.version, rows::only(index));
-            } else if row.version == poll.version {
-                poll.good |= rows::only(index);
+            if row.epoch >= in_force.0 && !row.list.is_empty() {
+                in_force = (row.epoch, row.list);
             }
         }
-        if self.makes(Blunder::UnlistedEpoch) {
-            (poll.epoch, poll.list) = blunder::highest_of_all(table, bytes, set);
+        in_force
+    }
+
+    /// Polls the rows of a set that is not empty on a file.
+    fn poll(&self, table: &Table, bytes: &[u8], set: u64, file: usize) -> Poll {
+        let mut poll = Poll::default();
+        let mut desired = 0;
+        for row in rows::members(set) {
+            let part = table.part(bytes, row, file);
+            if part.stale {
+                desired = desired.max(part.desired);
+            } else if part.version > poll.version || poll.good == 0 {
+                (poll.version, poll.good) = (part.version, rows::only(row));
+            } else if part.version == poll.version {
+                poll.good |= rows::only(row);
+            }
         }
         poll.current = poll.good != 0 && (desired <= poll.version || self.makes(Blunder::DesiredIgnored));
         poll
@@ -487,7 +564,8 @@ impl Engine {
     }
 }
 
-fn found(rules: Rules, bytes: &mut [u8], capacity: u64, file_len: u64, names: &[u8], choice: u64) -> Answer {
+fn found(rules: Rules, bytes: &mut [u8], sizes: Sizes, names: &[u8], choice: u64) -> Answer {
+    let Sizes { capacity, file_len, files } = sizes;
     ask(11, names.len().is_multiple_of(2))?;
     let used = names.len() / 2;
     let names = names.chunks_exact(2).map(|name| u16::from_le_bytes([name[0], name[1]]));
@@ -498,10 +576,11 @@ fn found(rules: Rules, bytes: &mut [u8], capacity: u64, file_len: u64, names: &[
     let shape = Shape::chosen(choice).ok_or(11_u32)?;
     let capacity_fits = (used as u64..=MAX_ROWS as u64).contains(&capacity);
     ask(12, capacity_fits && (1..=MAX_FILE as u64).contains(&file_len))?;
-    let (capacity, file_len) = (capacity as usize, file_len as usize);
-    ask(12, bytes.len() == rules.table_length(capacity, file_len))?;
+    ask(12, (1..=rules.most_files() as u64).contains(&files))?;
+    let (capacity, file_len, files) = (capacity as usize, file_len as usize, files as usize);
+    ask(12, bytes.len() == rules.table_length(capacity, file_len, files))?;
 
-    let table = Table { rules, capacity, used, file_len, chain: Order::first(used) };
+    let table = Table::new(rules, capacity, used, file_len, files, Order::first(used));
     bytes.fill(0);
     table.write_header(bytes, 1);
     let list = rules.lay(shape, table.all_used());
@@ -515,18 +594,13 @@ fn found(rules: Rules, bytes: &mut [u8], capacity: u64, file_len: u64, names: &[
 /// The rules that a table is carried over to, if there is such a move and the buffer has the length for it.
 fn carried_form(table: &Table, form: u64, to: &[u8]) -> Result<Rules, u32> {
     let rules = match (table.rules, form) {
-        (Rules::Published | Rules::Windowless, 3) => Rules::Newest,
-        (Rules::Newest, 1) => Rules::Published,
-        (Rules::Newest, 2) => Rules::Windowless,
+        (Rules::Published | Rules::Windowless, 3) => Rules::OneFile,
+        (Rules::OneFile, 1) => Rules::Published,
+        (Rules::OneFile, 2) => Rules::Windowless,
         _ => return Err(12),
     };
-    ask(12, to.len() == rules.table_length(table.capacity, table.file_len))?;
+    ask(12, to.len() == rules.table_length(table.capacity, table.file_len, 1))?;
     Ok(rules)
-}
-
-fn mark(row: &mut Row, desired: u32) {
-    row.stale = true;
-    row.desired = desired;
 }
 
 fn is_used(table: &Table, row: u64) -> bool {
@@ -554,16 +628,22 @@ mod tests {
     fn call(table: &mut [u8], quorum: Quorum, c: u64, r: u64, lent: usize) -> (u64, Vec<u8>) {
         let mut called = vec![0xee; lent];
         let result = match quorum {
-            Quorum::Read => Engine::default().read(table, c, r, 0, 1, &mut [0], &mut called),
-            Quorum::Write => Engine::default().write(table, c, r, 0, &[7], &mut called),
+            Quorum::Read => Engine::default().read(table, c, r, 0, 1, &mut [0], &mut called, 1),
+            Quorum::Write => Engine::default().write(table, c, r, 0, &[7], &mut called, 1),
         };
         (result >> 32, called)
     }
 
+    /// A founded table of one file.
     fn founded(capacity: u64, names: &[u16], choice: u64) -> Vec<u8> {
+        founded_by(Engine::default(), capacity, names, choice, 1)
+    }
+
+    /// A founded table of so many files of four bytes.
+    fn founded_by(engine: Engine, capacity: u64, names: &[u16], choice: u64, files: usize) -> Vec<u8> {
         let names: Vec<u8> = names.iter().flat_map(|name| name.to_le_bytes()).collect();
-        let mut table = vec![0; Table::length(capacity as usize, 4)];
-        assert_eq!(Engine::default().found(&mut table, capacity, 4, &names, choice) >> 32, 0);
+        let mut table = vec![0; engine.rules.table_length(capacity as usize, 4, files)];
+        assert_eq!(engine.found(&mut table, capacity, 4, &names, choice, files as u64) >> 32, 0);
         table
     }
 
@@ -632,13 +712,13 @@ mod tests {
                 }
             };
             let mut called = vec![0xee; lent];
-            assert_eq!(Engine::default().write(&mut table, 1, 1, 4, &[1], &mut called) >> 32, 4);
+            assert_eq!(Engine::default().write(&mut table, 1, 1, 4, &[1], &mut called, 1) >> 32, 4);
             assert!(after(&called));
             called.fill(0xee);
-            assert_eq!(Engine::default().read(&table, 1, 1, 4, 1, &mut [0], &mut called) >> 32, 4);
+            assert_eq!(Engine::default().read(&table, 1, 1, 4, 1, &mut [0], &mut called, 1) >> 32, 4);
             assert!(after(&called));
             called.fill(0xee);
-            assert_eq!(Engine::default().read(&table, 1, 1, 0, 1, &mut [0; 2], &mut called) >> 32, 5);
+            assert_eq!(Engine::default().read(&table, 1, 1, 0, 1, &mut [0; 2], &mut called, 1) >> 32, 5);
             assert!(after(&called));
         }
     }
@@ -648,7 +728,7 @@ mod tests {
     fn a_write_at_its_limit_called_its_choice() {
         let mut table = founded(4, &[10, 20, 30, 40], 0);
         for row in 0..4 {
-            table[Table::length(row, 4) + 4..][..4].copy_from_slice(&LIMIT.to_le_bytes());
+            table[Table::length(row, 4, 1) + ROW_HEADER + 4..][..4].copy_from_slice(&LIMIT.to_le_bytes());
         }
         assert_eq!(call(&mut table, Write, 1, 0b1111, 1), (8, vec![3]));
         assert_eq!(call(&mut table, Write, 1, 0b1011, 1), (8, vec![4]));
@@ -721,38 +801,42 @@ mod tests {
             let Grid { rows, columns, .. } = layout.grid;
             for name in 1..=500 {
                 assert_eq!(layout.choice(Read, name).count_ones() as usize, columns);
-                assert!(layout.choice(Write, name).count_ones() as usize <= rows + columns - 1);
+                assert!((layout.choice(Write, name).count_ones() as usize) < rows + columns);
             }
         }
     }
 
     /// A done write by row 1.
     fn write(table: &mut [u8], answering: u64, offset: u64, patch: &[u8]) {
-        let result = Engine::default().write(table, 1, answering, offset, patch, &mut [0]);
+        let result = Engine::default().write(table, 1, answering, offset, patch, &mut [0], 1);
         assert_eq!(result >> 32, 0);
     }
 
-    /// A row's window: byte 25, and the 576 bytes behind the contents.
+    /// A row's window: the index of the oldest record, and the 576 bytes behind the contents.
     fn window_of(table: &[u8], row: usize) -> (u8, &[u8]) {
         let judged = Table::decode(table).expect("well formed");
-        (judged.row(table, row).oldest, judged.window(table, row))
+        (judged.part(table, row, 1).oldest, judged.window(table, row, 1))
     }
 
     /// A file of 40 bytes on four machines: row 3 misses the first writes, row 4 the others, and a check marks both.
     fn behind(before: usize, missed: usize, long: Option<usize>) -> Vec<u8> {
+        behind_by(Engine::default(), before, missed, long)
+    }
+
+    fn behind_by(engine: Engine, before: usize, missed: usize, long: Option<usize>) -> Vec<u8> {
         let names: Vec<u8> = [10_u16, 20, 30, 40].into_iter().flat_map(u16::to_le_bytes).collect();
-        let mut table = vec![0; Table::length(4, 40)];
-        let engine = Engine::default();
-        assert_eq!(engine.found(&mut table, 4, 40, &names, 0), 4);
+        let mut table = vec![0; engine.rules.table_length(4, 40, 1)];
+        assert_eq!(engine.found(&mut table, 4, 40, &names, 0, 1), 4);
         for number in 0..before {
             let patch = [number as u8 + 1; 2];
             // Not all of the choice of 10 answer, so that all that answer take part.
-            assert_eq!(engine.write(&mut table, 1, 0b1011, number as u64 % 39, &patch, &mut [0]) >> 32, 0);
+            assert_eq!(engine.write(&mut table, 1, 0b1011, number as u64 % 39, &patch, &mut [0], 1) >> 32, 0);
         }
         assert_eq!(engine.check(&mut table, 1, 0b0111), 1);
         for number in 0..missed {
             let length = if long == Some(number) { 33 } else { 1 + number % 32 };
-            write(&mut table, 0b0111, number as u64 % 8, &vec![100 + number as u8; length]);
+            let (offset, patch) = (number as u64 % 8, vec![100 + number as u8; length]);
+            assert_eq!(engine.write(&mut table, 1, 0b0111, offset, &patch, &mut [0], 1) >> 32, 0);
         }
         assert_eq!(engine.check(&mut table, 1, 0b1111), 2);
         table
@@ -766,13 +850,13 @@ mod tests {
             {
                 let mut table = behind(before, missed, long);
                 let judged = Table::decode(&table).expect("well formed");
-                let from = (1..=3).find(|&row| !judged.row(&table, row).stale).expect("a current row");
+                let from = (1..=3).find(|&row| !judged.part(&table, row, 1).stale).expect("a current row");
                 let version = (before + missed) as u32;
-                assert_eq!(judged.row(&table, 4).version, before as u32);
-                assert_eq!(Engine::default().send(&mut table, from as u64, 4, 0b1111), u64::from(version));
-                let (sent, sender) = (judged.row(&table, 4), judged.row(&table, from));
+                assert_eq!(judged.part(&table, 4, 1).version, before as u32);
+                assert_eq!(Engine::default().send(&mut table, from as u64, 4, 0b1111, 1), u64::from(version));
+                let (sent, sender) = (judged.part(&table, 4, 1), judged.part(&table, from, 1));
                 assert_eq!((sent.version, sent.stale, sent.desired), (version, false, 0));
-                assert_eq!(judged.contents(&table, 4), judged.contents(&table, from));
+                assert_eq!(judged.contents(&table, 4, 1), judged.contents(&table, from, 1));
                 assert_eq!((sent.oldest, window_of(&table, 4)), (sender.oldest, window_of(&table, from)));
             }
         }
@@ -784,10 +868,10 @@ mod tests {
         for (missed, whole) in [(1, false), (16, false), (17, true)] {
             let mut table = behind(3, missed, None);
             let judged = Table::decode(&table).expect("well formed");
-            judged.contents_mut(&mut table, 4).fill(0xee);
-            let from = (1..=3).find(|&row| !judged.row(&table, row).stale).expect("a current row");
-            Engine::default().send(&mut table, from as u64, 4, 0b1111);
-            let kept = judged.contents(&table, 4).iter().filter(|&&byte| byte == 0xee).count();
+            judged.contents_mut(&mut table, 4, 1).fill(0xee);
+            let from = (1..=3).find(|&row| !judged.part(&table, row, 1).stale).expect("a current row");
+            Engine::default().send(&mut table, from as u64, 4, 0b1111, 1);
+            let kept = judged.contents(&table, 4, 1).iter().filter(|&&byte| byte == 0xee).count();
             // Sixteen patches: the last begins in byte 7 and has 16 bytes.
             assert_eq!(kept, if whole { 0 } else { 40 - if missed == 1 { 1 } else { 23 } });
         }
@@ -799,8 +883,8 @@ mod tests {
         let mut table = behind(2, 3, None);
         let windows = |table: &[u8]| [1, 2, 3, 4].map(|row| window_of(table, row).1.to_vec());
         let judged = Table::decode(&table).expect("well formed");
-        assert_eq!(window::chain(judged.window(&table, 1), 1), (5, 5));
-        assert_eq!(window::chain(judged.window(&table, 4), 1), (2, 2), "row 4 keeps its own");
+        assert_eq!(window::chain(judged.window(&table, 1, 1), 1), (5, 5));
+        assert_eq!(window::chain(judged.window(&table, 4, 1), 1), (2, 2), "row 4 keeps its own");
         let before = windows(&table);
         write(&mut table, 0b1111, 0, &[1]);
         let after = windows(&table);
@@ -814,9 +898,9 @@ mod tests {
     fn the_scope_knows_no_windows() {
         let engine = Engine { rules: Rules::Published, ..Engine::default() };
         let mut table = vec![0; 16 + 2 * 36];
-        assert_eq!(engine.found(&mut table, 2, 4, &[1, 0, 2, 0], 0), 2);
+        assert_eq!(engine.found(&mut table, 2, 4, &[1, 0, 2, 0], 0, 1), 2);
         assert_eq!(table[0], 1);
-        assert_eq!(engine.write(&mut table, 1, 3, 0, &[7; 4], &mut [0]), 1);
+        assert_eq!(engine.write(&mut table, 1, 3, 0, &[7; 4], &mut [0], 1), 1);
         assert_eq!(Engine::default().check(&mut table, 1, 3) >> 32, 1);
         assert_eq!(engine.check(&mut table, 1, 3), 0);
         assert_eq!(table[16 + 24..16 + 36], [0, 0, 0, 0, 0, 0, 0, 0, 7, 7, 7, 7]);
@@ -828,38 +912,42 @@ mod tests {
         (Engine::default().carry(table, form, &mut to), to)
     }
 
+    /// Founds tables of form 3.
+    const ONE_FILE: Engine = Engine { rules: Rules::OneFile, blunder: None };
+
     /// Windows are left behind on the way down, and empty on the way up; all else stays.
     #[test]
     fn up_and_down_and_down_and_up() {
-        let newest = behind(3, 4, None);
-        let (refusal, form_2) = carried(&newest, 2, 16 + 4 * 72);
+        let form_3 = behind_by(ONE_FILE, 3, 4, None);
+        let (refusal, form_2) = carried(&form_3, 2, 16 + 4 * 72);
         assert_eq!(
             (refusal, form_2[0], Table::decode_by(Rules::Windowless, &form_2).is_some()),
             (4, 2, true)
         );
-        let (refusal, form_1) = carried(&newest, 1, 16 + 4 * 72);
-        assert_eq!((refusal, form_1[0], &form_1[1..] == &form_2[1..]), (4, 1, true));
-        let judged = Table::decode(&newest).expect("well formed");
-        let mut emptied = newest.clone();
+        let (refusal, form_1) = carried(&form_3, 1, 16 + 4 * 72);
+        assert_eq!((refusal, form_1[0], form_1[1..] == form_2[1..]), (4, 1, true));
+        let judged = Table::decode_by(Rules::OneFile, &form_3).expect("well formed");
+        let mut emptied = form_3.clone();
         for row in 1..=4 {
-            judged.window_mut(&mut emptied, row).fill(0);
+            judged.window_mut(&mut emptied, row, 1).fill(0);
             emptied[judged.row_at(row) + OLDEST] = 0;
             let older = &form_2[16 + 72 * (row - 1)..][..72];
             assert_eq!(older, &emptied[judged.row_at(row)..][..72]);
         }
         for older in [form_1, form_2] {
-            assert_eq!(carried(&older, 3, newest.len()), (4, emptied.clone()), "down and up");
-            let (_, up) = carried(&older, 3, newest.len());
+            assert_eq!(carried(&older, 3, form_3.len()), (4, emptied.clone()), "down and up");
+            let (_, up) = carried(&older, 3, form_3.len());
             assert_eq!(carried(&up, older[0].into(), older.len()), (4, older), "up and down");
         }
     }
 
     #[test]
     fn questions_of_a_move_in_order() {
-        let plain = founded(5, &[10, 20, 30, 40], 0);
+        let founded = |names: &[u16], choice| founded_by(ONE_FILE, 5, names, choice, 1);
+        let plain = founded(&[10, 20, 30, 40], 0);
         let mut joined = plain.clone();
-        assert_eq!(Engine::default().join(&mut joined, 15), 5);
-        let (five, tall) = (founded(5, &[1, 2, 3, 4, 5], 0), founded(5, &[10, 20], 1));
+        assert_eq!(ONE_FILE.join(&mut joined, 15), 5);
+        let (five, tall) = (founded(&[1, 2, 3, 4, 5], 0), founded(&[10, 20], 1));
         let [short, right, long] = [-1, 0, 1].map(|more| (16 + 5 * 36_usize).wrapping_add_signed(more));
         let untouched = |refusal: u64, length| (refusal << 32, vec![0xee; length]);
         for (table, refusal) in [(&plain, 0), (&joined, 15), (&five, 15), (&tall, 15)] {

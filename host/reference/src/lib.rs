@@ -2,7 +2,7 @@
 //! table bytes in, table bytes out. It shares no code with the library that it is compared with.
 //!
 //! [`Engine`] answers the calls, by the newest [`Rules`] or by those of an older form, of which form 1 has the scope's alone;
-//! [`Book`] is the plain book, and a [`Blunder`] turns the engine into a wrong one.
+//! [`Book`] is the plain book of a file, and a [`Blunder`] turns the engine into a wrong one.
 
 mod blunder;
 mod book;
@@ -18,4 +18,7 @@ pub use book::Book;
 pub use chart::{CHART_PLACES, LONGEST_CHARTED};
 pub use engine::Engine;
 pub use grid::{Grid, Laid, Layout, Quorum, Shape, TALL};
-pub use table::{Row, Rules, Table, FORM, HEADER, LIMIT, MAX_FILE, MAX_ROWS, OLDEST, ROW_HEADER};
+pub use table::{
+    Part, Row, Rules, Table, FORM, HEADER, LIMIT, MAX_FILE, MAX_FILES, MAX_ROWS, OLDEST, PART_HEADER,
+    ROW_HEADER,
+};

@@ -8,9 +8,12 @@ pub const HEADER: usize = 16;
 pub const ROW_HEADER: usize = 32;
 pub const MAX_ROWS: usize = 64;
 pub const MAX_FILE: usize = 4096;
+pub const MAX_FILES: usize = 8;
 /// The newest form of a table, in its first byte.
-pub const FORM: u8 = 3;
-/// Where a row keeps the oldest record of its window.
+pub const FORM: u8 = 4;
+/// The bytes of a part before its contents.
+pub const PART_HEADER: usize = 12;
+/// Where a row of form 3 keeps the oldest record of its window.
 pub const OLDEST: usize = 25;
 /// The highest version, desired version and epoch number.
 pub const LIMIT: u32 = 1_000_000;
@@ -23,12 +26,14 @@ pub enum Rules {
     /// Form 2: a row may have an empty list, and a list is laid in the new grid of five or in the tall one.
     Windowless,
     /// Form 3: besides, each row has a window on its latest patches.
+    OneFile,
+    /// Form 4: besides, there are up to eight files, and each row has a part for each of them.
     #[default]
     Newest,
 }
 
 impl Rules {
-    pub const ALL: [Rules; 3] = [Rules::Published, Rules::Windowless, Rules::Newest];
+    pub const ALL: [Rules; 4] = [Rules::Published, Rules::Windowless, Rules::OneFile, Rules::Newest];
 
     /// The rules of the tables of this form.
     pub fn of_form(form: u8) -> Option<Rules> {
@@ -40,22 +45,44 @@ impl Rules {
         match self {
             Rules::Published => 1,
             Rules::Windowless => 2,
+            Rules::OneFile => 3,
             Rules::Newest => FORM,
         }
     }
 
     pub fn has_windows(self) -> bool {
+        matches!(self, Rules::OneFile | Rules::Newest)
+    }
+
+    /// Has a row a part for each file? Otherwise its head holds the numbers of its one file.
+    pub fn has_parts(self) -> bool {
         self == Rules::Newest
     }
 
+    /// How many files a table may have.
+    pub fn most_files(self) -> usize {
+        if self.has_parts() {
+            MAX_FILES
+        } else {
+            1
+        }
+    }
+
+    /// How many bytes a row takes behind its head for each file.
+    pub fn part_length(self, file_len: usize) -> usize {
+        let header = if self.has_parts() { PART_HEADER } else { 0 };
+        let window = if self.has_windows() { WINDOW } else { 0 };
+        header + file_len + window
+    }
+
     /// How many bytes a row takes.
-    pub fn row_length(self, file_len: usize) -> usize {
-        ROW_HEADER + file_len + if self.has_windows() { WINDOW } else { 0 }
+    pub fn row_length(self, file_len: usize, files: usize) -> usize {
+        ROW_HEADER + files * self.part_length(file_len)
     }
 
     /// How many bytes a table takes.
-    pub fn table_length(self, capacity: usize, file_len: usize) -> usize {
-        HEADER + capacity * self.row_length(file_len)
+    pub fn table_length(self, capacity: usize, file_len: usize, files: usize) -> usize {
+        HEADER + capacity * self.row_length(file_len, files)
     }
 
     /// Is a row with this list exempt from the rules on its own row and on one list for an epoch?
@@ -81,60 +108,86 @@ impl Rules {
             _ => self != Rules::Published && mark == u64::from(TALL),
         }
     }
+
+    /// Where the stale mark and the oldest record's index lie among the numbers of a file. Version and desired version have one place
+    /// in every form.
+    fn places(self) -> [usize; 2] {
+        if self.has_parts() {
+            [0, 1]
+        } else {
+            [3, OLDEST]
+        }
+    }
+
+    /// The last bytes of a row's head as one number: the grid mark, if there are zeros elsewhere. Form 3 has the oldest record there.
+    fn mark_and_zeros(self, head: &[u8; ROW_HEADER]) -> u64 {
+        let last = u64::from_le_bytes(*head.last_chunk().expect("eight bytes of 32"));
+        if self == Rules::OneFile {
+            last & !0xff00
+        } else {
+            last
+        }
+    }
 }
 
-/// A used row without its contents and its window.
+/// The head of a used row: what its files share.
 #[derive(Clone, Copy, Debug, PartialEq, Eq)]
 pub struct Row {
     pub name: u16,
     pub next: usize,
-    pub stale: bool,
-    pub version: u32,
-    pub desired: u32,
     pub epoch: u32,
     pub list: Laid,
-    /// The oldest record of its window; 0 for none.
-    pub oldest: u8,
 }
 
 impl Row {
     /// A row as it is founded or joined.
     pub fn new(name: u16, next: usize, list: Laid) -> Row {
-        Row { name, next, stale: false, version: 0, desired: 0, epoch: 0, list, oldest: 0 }
+        Row { name, next, epoch: 0, list }
     }
 
-    /// Reads the bytes before the contents.
-    pub fn read(bytes: &[u8; ROW_HEADER]) -> Row {
-        let number = |at: usize| u32::from_le_bytes([bytes[at], bytes[at + 1], bytes[at + 2], bytes[at + 3]]);
+    pub fn read(head: &[u8; ROW_HEADER]) -> Row {
         Row {
-            name: u16::from_le_bytes([bytes[0], bytes[1]]),
-            next: usize::from(bytes[2]),
-            stale: bytes[3] == 1,
-            version: number(4),
-            desired: number(8),
-            epoch: number(12),
-            list: Laid { members: u64::from(number(16)) | u64::from(number(20)) << 32, mark: bytes[24] },
-            oldest: bytes[OLDEST],
+            name: u16::from_le_bytes([head[0], head[1]]),
+            next: usize::from(head[2]),
+            epoch: number(head, 12),
+            list: Laid {
+                members: u64::from(number(head, 16)) | u64::from(number(head, 20)) << 32,
+                mark: head[24],
+            },
         }
     }
 
-    /// Writes the bytes before the contents.
-    pub fn write(&self, bytes: &mut [u8; ROW_HEADER]) {
-        bytes[0..2].copy_from_slice(&self.name.to_le_bytes());
-        bytes[2] = self.next as u8;
-        bytes[3] = u8::from(self.stale);
-        bytes[4..8].copy_from_slice(&self.version.to_le_bytes());
-        bytes[8..12].copy_from_slice(&self.desired.to_le_bytes());
-        bytes[12..16].copy_from_slice(&self.epoch.to_le_bytes());
-        bytes[16..24].copy_from_slice(&self.list.members.to_le_bytes());
-        bytes[24..32].copy_from_slice(&[self.list.mark, self.oldest, 0, 0, 0, 0, 0, 0]);
+    /// Leaves the bytes where older forms have the numbers of their file.
+    pub fn write(&self, head: &mut [u8; ROW_HEADER]) {
+        head[0..2].copy_from_slice(&self.name.to_le_bytes());
+        head[2] = self.next as u8;
+        head[12..16].copy_from_slice(&self.epoch.to_le_bytes());
+        head[16..24].copy_from_slice(&self.list.members.to_le_bytes());
+        head[24] = self.list.mark;
+    }
+}
+
+/// What a used row says of one of its files, without contents and window.
+#[derive(Clone, Copy, Debug, Default, PartialEq, Eq)]
+pub struct Part {
+    pub stale: bool,
+    pub version: u32,
+    pub desired: u32,
+    /// The oldest record of its window; 0 for none.
+    pub oldest: u8,
+}
+
+impl Part {
+    /// Marks it as stale.
+    pub fn mark(&mut self, desired: u32) {
+        self.stale = true;
+        self.desired = desired;
     }
 
-    /// Is every field before the grid mark in its range, whatever the other rows hold?
-    fn fits(&self, bytes: &[u8; ROW_HEADER]) -> bool {
-        let numbers_fit = self.version <= LIMIT && self.desired <= LIMIT && self.epoch <= LIMIT;
+    /// Is every number in its range?
+    fn fits(&self) -> bool {
         let desired_fits = if self.stale { self.desired > self.version } else { self.desired == 0 };
-        self.name > 0 && bytes[3] <= 1 && numbers_fit && desired_fits
+        self.version <= LIMIT && self.desired <= LIMIT && desired_fits
     }
 }
 
@@ -144,15 +197,32 @@ pub struct Table {
     pub rules: Rules,
     pub capacity: usize,
     pub used: usize,
+    /// How many files there are, and the bytes of each.
+    pub files: usize,
     pub file_len: usize,
     /// The used rows in the order of their names.
     pub chain: Order,
+    /// The bytes of a row, and of each of its parts.
+    row_length: usize,
+    part_length: usize,
 }
 
 impl Table {
+    pub fn new(
+        rules: Rules,
+        capacity: usize,
+        used: usize,
+        file_len: usize,
+        files: usize,
+        chain: Order,
+    ) -> Table {
+        let (row_length, part_length) = (rules.row_length(file_len, files), rules.part_length(file_len));
+        Table { rules, capacity, used, files, file_len, chain, row_length, part_length }
+    }
+
     /// How many bytes a table of the newest form takes.
-    pub fn length(capacity: usize, file_len: usize) -> usize {
-        Rules::Newest.table_length(capacity, file_len)
+    pub fn length(capacity: usize, file_len: usize, files: usize) -> usize {
+        Rules::Newest.table_length(capacity, file_len, files)
     }
 
     /// Reads a table, if it is well formed and of the newest form.
@@ -165,15 +235,17 @@ impl Table {
         let header = bytes.first_chunk::<HEADER>()?;
         let [capacity, used, first] = [1, 2, 3].map(|at| usize::from(header[at]));
         let file_len = usize::from(u16::from_le_bytes([header[4], header[5]]));
+        let (files, rest) = if rules.has_parts() { (header[6].into(), 7) } else { (1, 6) };
         let header_fits = header[0] == rules.form()
             && (1..=MAX_ROWS).contains(&capacity)
             && (1..=capacity).contains(&used)
             && (1..=MAX_FILE).contains(&file_len)
-            && all_zero(&header[6..]);
-        if !header_fits || bytes.len() != rules.table_length(capacity, file_len) {
+            && (1..=rules.most_files()).contains(&files)
+            && all_zero(&header[rest..]);
+        if !header_fits || bytes.len() != rules.table_length(capacity, file_len, files) {
             return None;
         }
-        let mut table = Table { rules, capacity, used, file_len, chain: Order::EMPTY };
+        let mut table = Table::new(rules, capacity, used, file_len, files, Order::EMPTY);
         let well_formed = table.rows_fit(bytes)
             && table.follow_chain(bytes, first)
             && all_zero(&bytes[table.row_at(used + 1)..]);
@@ -188,6 +260,9 @@ impl Table {
         bytes[2] = self.used as u8;
         bytes[3] = first as u8;
         bytes[4..6].copy_from_slice(&(self.file_len as u16).to_le_bytes());
+        if self.rules.has_parts() {
+            bytes[6] = self.files as u8;
+        }
     }
 
     /// Puts a row that is not used yet behind the rows at the first `place` places of the chain, with an empty list.
@@ -215,51 +290,89 @@ impl Table {
 
     /// Where a row begins.
     pub fn row_at(&self, row: usize) -> usize {
-        self.rules.table_length(row - 1, self.file_len)
+        HEADER + (row - 1) * self.row_length
+    }
+
+    /// Where a row's part for a file begins. Files count from 1.
+    pub fn part_at(&self, row: usize, file: usize) -> usize {
+        self.row_at(row) + ROW_HEADER + (file - 1) * self.part_length
+    }
+
+    /// Where the contents of a file begin in a row.
+    pub fn contents_at(&self, row: usize, file: usize) -> usize {
+        self.part_at(row, file) + if self.rules.has_parts() { PART_HEADER } else { 0 }
+    }
+
+    /// Where the window on a file begins in a row, if there is one.
+    pub fn window_at(&self, row: usize, file: usize) -> usize {
+        self.contents_at(row, file) + self.file_len
     }
 
     pub fn row(&self, bytes: &[u8], row: usize) -> Row {
-        Row::read(self.row_header(bytes, row))
+        Row::read(self.head(bytes, row))
     }
 
     pub fn write_row(&self, bytes: &mut [u8], row: usize, state: &Row) {
-        let header = bytes[self.row_at(row)..].first_chunk_mut();
-        state.write(header.expect("the row is in the table"));
+        let head = bytes[self.row_at(row)..].first_chunk_mut();
+        state.write(head.expect("the row is in the table"));
     }
 
-    pub fn contents<'a>(&self, bytes: &'a [u8], row: usize) -> &'a [u8] {
-        &bytes[self.contents_at(row)..][..self.file_len]
+    pub fn part(&self, bytes: &[u8], row: usize, file: usize) -> Part {
+        let (numbers, [mark, oldest]) = (self.numbers(bytes, row, file), self.rules.places());
+        Part {
+            stale: numbers[mark] == 1,
+            version: number(numbers, 4),
+            desired: number(numbers, 8),
+            oldest: numbers[oldest],
+        }
     }
 
-    pub fn contents_mut<'a>(&self, bytes: &'a mut [u8], row: usize) -> &'a mut [u8] {
-        &mut bytes[self.contents_at(row)..][..self.file_len]
+    pub fn write_part(&self, bytes: &mut [u8], row: usize, file: usize, part: &Part) {
+        let [mark, oldest] = self.rules.places();
+        let numbers = &mut bytes[self.numbers_at(row, file)..];
+        numbers[mark] = u8::from(part.stale);
+        numbers[4..8].copy_from_slice(&part.version.to_le_bytes());
+        numbers[8..12].copy_from_slice(&part.desired.to_le_bytes());
+        numbers[oldest] = part.oldest;
     }
 
-    /// Where a row's contents begin.
-    pub fn contents_at(&self, row: usize) -> usize {
-        self.row_at(row) + ROW_HEADER
+    pub fn contents<'a>(&self, bytes: &'a [u8], row: usize, file: usize) -> &'a [u8] {
+        &bytes[self.contents_at(row, file)..][..self.file_len]
     }
 
-    /// Where a row's window begins, if it has one.
-    pub fn window_at(&self, row: usize) -> usize {
-        self.contents_at(row) + self.file_len
+    pub fn contents_mut<'a>(&self, bytes: &'a mut [u8], row: usize, file: usize) -> &'a mut [u8] {
+        &mut bytes[self.contents_at(row, file)..][..self.file_len]
     }
 
-    /// The window of a row, in a table that has windows.
-    pub fn window<'a>(&self, bytes: &'a [u8], row: usize) -> &'a Window {
-        bytes[self.window_at(row)..].first_chunk().expect("the row is in the table")
+    /// The window of a row on a file, in a table that has windows.
+    pub fn window<'a>(&self, bytes: &'a [u8], row: usize, file: usize) -> &'a Window {
+        bytes[self.window_at(row, file)..].first_chunk().expect("the row is in the table")
     }
 
-    pub fn window_mut<'a>(&self, bytes: &'a mut [u8], row: usize) -> &'a mut Window {
-        bytes[self.window_at(row)..].first_chunk_mut().expect("the row is in the table")
+    pub fn window_mut<'a>(&self, bytes: &'a mut [u8], row: usize, file: usize) -> &'a mut Window {
+        bytes[self.window_at(row, file)..].first_chunk_mut().expect("the row is in the table")
     }
 
-    fn row_header<'a>(&self, bytes: &'a [u8], row: usize) -> &'a [u8; ROW_HEADER] {
+    fn head<'a>(&self, bytes: &'a [u8], row: usize) -> &'a [u8; ROW_HEADER] {
         bytes[self.row_at(row)..].first_chunk().expect("the row is in the table")
     }
 
-    /// Is every used row in order by itself, its window too, does its list name used rows only, and unless the row is exempt, its own
-    /// row among them, and is it the one list of its epoch, in one grid, and in the shape of all lists?
+    /// Where the numbers of a file lie in a row: in its part, or in the head.
+    fn numbers_at(&self, row: usize, file: usize) -> usize {
+        if self.rules.has_parts() {
+            self.part_at(row, file)
+        } else {
+            self.row_at(row)
+        }
+    }
+
+    /// A part has more bytes than a head.
+    fn numbers<'a>(&self, bytes: &'a [u8], row: usize, file: usize) -> &'a [u8; ROW_HEADER] {
+        bytes[self.numbers_at(row, file)..].first_chunk().expect("the row is in the table")
+    }
+
+    /// Is every used row in order by itself, each of its parts too, does its list name used rows only, and unless the row is exempt,
+    /// its own row among them, and is it the one list of its epoch, in one grid, and in the shape of all lists?
     fn rows_fit(&self, bytes: &[u8]) -> bool {
         let (rules, all_used) = (self.rules, self.all_used());
         // The first row of each epoch; most tables have few epochs, and most rows that of the row before.
@@ -269,17 +382,20 @@ impl Table {
         // The shape of the first list.
         let mut shape = None;
         for index in 1..=self.used {
-            let header = self.row_header(bytes, index);
-            let row = Row::read(header);
+            let head = self.head(bytes, index);
+            let row = Row::read(head);
             let Laid { members, .. } = row.list;
-            let mark = mark_and_zeros(rules, header);
-            if !row.fits(header) || members & !all_used != 0 {
+            let mark = rules.mark_and_zeros(head);
+            if row.name == 0 || row.epoch > LIMIT || members & !all_used != 0 {
                 return false;
             }
-            if rules.has_windows()
-                && !window::fits(self.window(bytes, index), row.oldest, row.version, self.file_len)
-            {
+            if rules.has_parts() && (head[3] != 0 || number(head, 4) | number(head, 8) != 0) {
                 return false;
+            }
+            for file in 1..=self.files {
+                if !self.part_fits(bytes, index, file) {
+                    return false;
+                }
             }
             if !rows::has(members, index) {
                 if mark == 0 && rules.exempt(row.list) {
@@ -306,6 +422,17 @@ impl Table {
         true
     }
 
+    /// Is what a row holds of a file in order, its window too?
+    fn part_fits(&self, bytes: &[u8], row: usize, file: usize) -> bool {
+        let (numbers, [mark, _]) = (self.numbers(bytes, row, file), self.rules.places());
+        let part = self.part(bytes, row, file);
+        if numbers[mark] > 1 || !part.fits() || self.rules.has_parts() && numbers[2] | numbers[3] != 0 {
+            return false;
+        }
+        !self.rules.has_windows()
+            || window::fits(self.window(bytes, row, file), part.oldest, part.version, self.file_len)
+    }
+
     /// Gathers the chain; does it visit each used row once, and do its names rise strictly?
     fn follow_chain(&mut self, bytes: &[u8], first: usize) -> bool {
         let mut name_before = 0;
@@ -324,14 +451,9 @@ impl Table {
     }
 }
 
-/// The last bytes of a row's header as one number, the oldest record aside: the grid mark, if there are zeros elsewhere.
-fn mark_and_zeros(rules: Rules, header: &[u8; ROW_HEADER]) -> u64 {
-    let last = u64::from_le_bytes(*header.last_chunk().expect("eight bytes of 32"));
-    if rules.has_windows() {
-        last & !0xff00
-    } else {
-        last
-    }
+/// The number of four bytes at a place.
+fn number(bytes: &[u8; ROW_HEADER], at: usize) -> u32 {
+    u32::from_le_bytes([bytes[at], bytes[at + 1], bytes[at + 2], bytes[at + 3]])
 }
 
 /// Folds blocks of bytes, which vectorizes. (Without blocks the loop takes two vectors a turn, and its same instructions were

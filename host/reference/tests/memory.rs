@@ -26,59 +26,66 @@ unsafe impl GlobalAlloc for Counting {
 #[global_allocator]
 static COUNTING: Counting = Counting;
 
-/// Sends from the first row that is not stale to row 64, which is.
-fn send(engine: Engine, table: &mut [u8]) -> u64 {
+/// Sends a file from the first row that is not stale to row 64, which is.
+fn send(engine: Engine, table: &mut [u8], file: usize) -> u64 {
     let judged = Table::decode(table).expect("well formed");
-    let from = (1..=64).find(|&row| !judged.row(table, row).stale).expect("a current row");
-    engine.send(table, from as u64, 64, rows::first(64))
+    let from = (1..=64).find(|&row| !judged.part(table, row, file).stale).expect("a current row");
+    engine.send(table, from as u64, 64, rows::first(64), file as u64)
 }
 
 #[test]
 fn no_call_takes_memory() {
-    // In wide tables and in tall ones.
-    [0, 1].into_iter().for_each(every_call);
+    // In wide tables and in tall ones, of one file and of eight.
+    [(0, 1), (1, 1), (0, 8), (1, 8)].into_iter().for_each(|(choice, files)| every_call(choice, files));
 }
 
-fn every_call(choice: u64) {
+/// Reads, writes and sends are of the last file.
+fn every_call(choice: u64, files: usize) {
     let engine = Engine::default();
     let names: Vec<u8> = (1..=63u16).map(|rank| 10 * rank).flat_map(u16::to_le_bytes).collect();
-    let mut table = vec![0; Table::length(64, 100)];
+    let mut table = vec![0; Table::length(64, 100, files)];
     let (all, but_one) = (rows::first(64), rows::first(63));
     let (mut buffer, mut list, mut called) = ([0; 100], [0; 128], [0]);
-    let mut older = vec![0; Rules::Windowless.table_length(64, 100)];
-    let mut newest = table.clone();
+    let [mut older, mut up] = [Rules::Windowless, Rules::OneFile].map(|rules| {
+        let mut older = vec![0; rules.table_length(64, 100, 1)];
+        assert_eq!(Engine { rules, ..engine }.found(&mut older, 64, 100, &names, choice, 1), 63);
+        older
+    });
+    let last = files as u64;
     let before = TAKEN.get();
     let results = [
-        engine.found(&mut table, 64, 100, &names, choice),
+        engine.found(&mut table, 64, 100, &names, choice, last),
         engine.join(&mut table, 305),
         engine.join(&mut table, 305),
         engine.join(&mut table, 306),
-        engine.write(&mut table, 5, all, 0, &[1; 100], &mut called),
-        engine.read(&table, 64, all, 0, 100, &mut buffer, &mut called),
+        engine.write(&mut table, 5, all, 0, &[1; 100], &mut called, last),
+        engine.read(&table, 64, all, 0, 100, &mut buffer, &mut called, last),
         engine.check(&mut table, 1, all),
         engine.check(&mut table, 1, but_one),
         engine.check(&mut table, 1, but_one),
-        engine.write(&mut table, 1, but_one & !2, 0, &[2; 7], &mut called),
-        engine.write(&mut table, 1, but_one & !2, 0, &[2; 32], &mut called),
+        engine.write(&mut table, 1, but_one & !2, 0, &[2; 7], &mut called, last),
+        engine.write(&mut table, 1, but_one & !2, 0, &[2; 32], &mut called, last),
         engine.check(&mut table, 1, all),
         // By two patches, and after a long one whole.
-        send(engine, &mut table),
+        send(engine, &mut table, files),
         engine.check(&mut table, 1, but_one),
-        engine.write(&mut table, 1, but_one & !2, 0, &[2; 33], &mut called),
+        engine.write(&mut table, 1, but_one & !2, 0, &[2; 33], &mut called, last),
         engine.check(&mut table, 1, all),
-        send(engine, &mut table),
-        engine.read(&table, 1, 1, 0, 100, &mut buffer, &mut called),
+        send(engine, &mut table, files),
+        engine.read(&table, 1, 1, 0, 100, &mut buffer, &mut called, last),
         engine.chart(9, 2 * choice, &mut list),
         engine.chart(10, 0, &mut list),
         engine.choice(&table, 64, choice, &mut list[..8]),
         engine.choice(&table, 64, 2, &mut list[..8]),
-        engine.carry(&table, 2, &mut older),
-        engine.carry(&older, 3, &mut newest),
+        engine.carry(&older, 3, &mut up),
+        engine.carry(&up, 2, &mut older),
         engine.carry(&older, 3, &mut []),
         engine.carry(&[], 3, &mut []),
+        engine.carry(&table, 3, &mut up),
+        engine.read(&table, 1, all, 0, 100, &mut buffer, &mut called, last + 1),
     ];
     assert_eq!(TAKEN.get(), before);
-    let refused = [(2, 13), (3, 14), (17, 6), (19, 17), (21, 4), (24, 12), (25, 1)];
+    let refused = [(2, 13), (3, 14), (17, 6), (19, 17), (21, 4), (24, 12), (25, 1), (26, 12), (27, 16)];
     for (call, result) in results.into_iter().enumerate() {
         let number = refused.iter().find(|(refused, _)| *refused == call).map_or(0, |(_, number)| *number);
         assert_eq!(result >> 32, number, "call {call}");
