@@ -188,14 +188,11 @@ fn tails_zero(k: usize, records: &[u8]) -> bool
     ok
 }
 
-// Is a window right, for a file of so many bytes and a version? An empty one is looked through once.
-pub fn window_right(file: usize, version: u32, oldest: usize, records: &[u8]) -> bool
-    requires { ⌜ length (now records) ≡ 576 ⌝ }
+// Is a window that has records right?
+fn records_right(file: usize, version: u32, oldest: usize, records: &[u8]) -> bool
+    requires { ⌜ (length (now records) ≡ 576) × (1 ≤ oldest) ⌝ }
     ensures { λ r. ⌜ r ≡ windowRight file version (window oldest (now (records .entry))) ⌝ }
 {
-    if oldest == 0 {
-        return bytes::all_zero(records);
-    }
     let found = leading(file, records);
     let k = found.count;
     if k == 0 {
@@ -212,4 +209,15 @@ pub fn window_right(file: usize, version: u32, oldest: usize, records: &[u8]) ->
         return false;
     }
     tails_zero(k, records)
+}
+
+// Is a window right, for a file of so many bytes and a version? An empty one is looked through once, without a call: it is the common one.
+pub fn window_right(file: usize, version: u32, oldest: usize, records: &[u8]) -> bool
+    requires { ⌜ length (now records) ≡ 576 ⌝ }
+    ensures { λ r. ⌜ r ≡ windowRight file version (window oldest (now (records .entry))) ⌝ }
+{
+    if oldest == 0 {
+        return bytes::all_zero(records);
+    }
+    records_right(file, version, oldest, records)
 }
