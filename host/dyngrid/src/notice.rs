@@ -7,10 +7,10 @@ const BUFFER: usize = 160;
 /// Where the figures end, and the call's word begins.
 const WORD: usize = 45;
 
-/// The calls that a [notice](crate::Refusal::notice) tells of. A choice is none of them.
+/// The calls that a [notice](crate::Refusal::notice) tells of, by their numbers. A choice is none of them.
 #[derive(Clone, Copy, Debug, PartialEq, Eq, PartialOrd, Ord, Hash)]
 pub enum Call {
-    /// A founding; its notice shows no name but 0, whatever name is given.
+    /// A founding; its notice shows the name 0.
     Founding = 1,
     /// A read; its notice shows the coordinator's name.
     Read = 2,

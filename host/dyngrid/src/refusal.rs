@@ -112,8 +112,8 @@ impl Refusal {
         (number != 0).then(|| named.unwrap_or(Refusal::Unknown(number)))
     }
 
-    /// The sentence that tells members of it: which call was refused, by the machine of which name, and why. The call says for
-    /// whom the name counts (see [`Call`]).
+    /// The sentence that tells members of it: which call was refused, by the machine of which name, and why. The name is the
+    /// coordinator's; calls that show none (see [`Call`]) show 0, whatever name is given.
     ///
     /// ```
     /// use dyngrid::{Call, Refusal};
