@@ -32,7 +32,7 @@ bench: lib
 	$(needs-rust)cargo run --release --offline --quiet --manifest-path host/Cargo.toml -p bench -- docs/BENCHMARKS.md
 
 # How many machines a read and a write call, to docs/QUORUMS.md and docs/quorums.svg; the wall chart, to docs/CHART.md and docs/chart.svg; the
-# crates, to docs/rooms.svg.
+# notices, to docs/NOTICES.md; the crates, to docs/rooms.svg.
 pictures: lib
 	$(needs-rust)cargo run --release --offline --quiet --manifest-path host/Cargo.toml -p pictures -- .
 

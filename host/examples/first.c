@@ -8,41 +8,18 @@ enum { MACHINES = 4, FILE_BYTES = 16, FILES = 1, TABLE_BYTES = GRID_TABLE_BYTES(
 /* Where the first row has the mark of its list's grid. */
 enum { GRID_MARK = GRID_HEADER + 24 };
 
-/* What to tell the operator. */
-static const char *meaning(uint32_t refusal)
+/* Prints one line for a call; returns whether it was done. A refused one is told by its notice, with the coordinator's name. */
+static int report(const char *what, enum grid_calls call, uint16_t name, uint64_t result)
 {
-    switch (refusal) {
-    case GRID_DONE: return "done";
-    case GRID_MALFORMED: return "the table is malformed: use a good copy of it";
-    case GRID_NO_SUCH_ROW: return "there is no such row: rows count from 1 to the rows used";
-    case GRID_NOT_ANSWERING: return "the coordinator did not answer: it must be in the answering set";
-    case GRID_OUT_OF_RANGE: return "the range is empty or ends beyond the file, or a choice is neither a read's nor a write's";
-    case GRID_WRONG_BUFFER: return "the buffer is not as long as the range, or a lent list has another length than it must";
-    case GRID_NO_QUORUM: return "too few machines answered: try again when more do";
-    case GRID_NOT_CURRENT: return "no machine that answered has the newest version: wait for one that has";
-    case GRID_AT_LIMIT: return "a million versions or epochs: found a new table";
-    case GRID_SENDER_STALE: return "the sender is stale itself: send from another machine";
-    case GRID_RECEIVER_NOT_BEHIND: return "the receiver is not stale, or desires more than the sender has";
-    case GRID_BAD_NAMES: return "names must be 1 to 64, rise strictly, and none be 0; the choice must be wide or tall";
-    case GRID_BAD_SIZE: return "capacity, file length, table length or forms do not fit together";
-    case GRID_NAME_NOT_FREE: return "the name is 0 or in use: join with another one";
-    case GRID_NO_ROOM: return "every row of the table is in use: found a larger table";
-    case GRID_NOT_FORM_1: return "form 1 cannot hold the table: move it to form 2";
-    case GRID_NO_SUCH_FILE: return "there is no such file: files count from 1";
-    case GRID_NO_CHART: return "a chart is of 1 to 9 machines with a grid mark that so many can have";
-    default: return "no such refusal";
-    }
-}
-
-/* Prints one line for a call; returns whether it was done. */
-static int report(const char *call, uint64_t result)
-{
+    uint8_t notice[GRID_NOTICE_BYTES];
     uint32_t refusal = grid_refusal(result);
-    if (refusal == GRID_DONE)
-        printf("%s: done, value %u\n", call, (unsigned)grid_value(result));
-    else
-        printf("%s: refused by %u (%s)\n", call, (unsigned)refusal, meaning(refusal));
-    return refusal == GRID_DONE;
+    if (refusal == GRID_DONE) {
+        printf("%s: done, value %u\n", what, (unsigned)grid_value(result));
+        return 1;
+    }
+    uint64_t told = grid_notice(call, name, refusal, notice, sizeof notice);
+    printf("%s: %.*s\n", what, (int)grid_value(told), (const char *)notice);
+    return 0;
 }
 
 /* Prints the sets of a chart, each by the places of its machines in name order. */
@@ -72,37 +49,38 @@ int main(void)
         fprintf(stderr, "libdyngrid.a and dyngrid.h are of two versions: take both from one checkout\n");
         return 1;
     }
-    if (!report("found", grid_found(table, sizeof table, MACHINES, FILE_BYTES, names, sizeof names, GRID_WIDE, FILES)))
+    if (!report("found", GRID_CALL_FOUNDING, 0,
+                grid_found(table, sizeof table, MACHINES, FILE_BYTES, names, sizeof names, GRID_WIDE, FILES)))
         return 1;
 
     /* Machine 10, row 1, imports a score while row 4 is away. The machines that it calls first are up, and it is one of them. */
-    if (!report("choice of row 1", grid_choice(table, sizeof table, 1, GRID_WRITE, chosen, sizeof chosen)))
+    uint64_t choice = grid_choice(table, sizeof table, 1, GRID_WRITE, chosen, sizeof chosen);
+    if (grid_refusal(choice) != GRID_DONE || grid_set(chosen) != three)
         return 1;
-    if (grid_set(chosen) != three)
-        return 1;
-    if (!report("write by row 1", grid_write(table, sizeof table, 1, three, 0, (const uint8_t *)score, sizeof score,
-                                             called, sizeof called, 1)))
+    printf("choice of row 1: %u machines\n", (unsigned)grid_value(choice));
+    if (!report("write by row 1", GRID_CALL_WRITE, 10,
+                grid_write(table, sizeof table, 1, three, 0, (const uint8_t *)score, sizeof score, called, sizeof called, 1)))
         return 1;
     printf("machines called: %u\n", (unsigned)called[0]);
 
     /* Row 4 is back and reads with row 3: one machine of each column of the grid. */
-    if (!report("read by row 4", grid_read(table, sizeof table, 4, two, 0, sizeof got, got, sizeof got,
-                                           called, sizeof called, 1)))
+    if (!report("read by row 4", GRID_CALL_READ, 40,
+                grid_read(table, sizeof table, 4, two, 0, sizeof got, got, sizeof got, called, sizeof called, 1)))
         return 1;
     printf("machines called: %u\n", (unsigned)called[0]);
     printf("score: %s\n", (const char *)got);
 
     /* Alone it is refused: an old score would look like any other. */
-    report("read by row 4 alone", grid_read(table, sizeof table, 4, grid_row(4), 0, sizeof got, got, sizeof got,
-                                            called, sizeof called, 1));
+    report("read by row 4 alone", GRID_CALL_READ, 40,
+           grid_read(table, sizeof table, 4, grid_row(4), 0, sizeof got, got, sizeof got, called, sizeof called, 1));
 
     /* The table has one file. */
-    report("read of a second file", grid_read(table, sizeof table, 4, two, 0, sizeof got, got, sizeof got,
-                                              called, sizeof called, 2));
+    report("read of a second file", GRID_CALL_READ, 40,
+           grid_read(table, sizeof table, 4, two, 0, sizeof got, got, sizeof got, called, sizeof called, 2));
 
     /* The smallest sets of machines that are enough for a write. */
     uint64_t chart = grid_chart(MACHINES, table[GRID_MARK], sets, sizeof sets);
-    if (!report("chart of four", chart))
+    if (!report("chart of four", GRID_CALL_CHART, 0, chart))
         return 1;
     print_chart(sets, grid_value(chart));
     return memcmp(got, score, sizeof score) != 0;

@@ -1,7 +1,7 @@
 /* The dynamic grid: copies of up to eight files on up to 64 machines, as a C program calls it.
  *
  * Link with libdyngrid.a; it needs nothing but memcpy, memmove and memset. Each call is one step over a table that the
- * caller owns (a chart needs none): it takes no memory, and returns for any bytes and any numbers. Who answered is the
+ * caller owns (a chart and a notice need none): it takes no memory, and returns for any bytes and any numbers. Who answered is the
  * caller's business.
  *
  * Conventions
@@ -67,16 +67,18 @@ static inline int grid_interface_agrees(void)
     return grid_interface() == DYNGRID_INTERFACE;
 }
 
-/* Why a call was refused. The questions behind the numbers are put in this order (16 after 3, a chart's 17 before its 5, a
-   move's 15 before its 12); the first no counts. */
+/* Why a call was refused; grid_notice tells it in a sentence. The questions behind the numbers are put in this order (16 after
+   3, a chart's 17 before its 5, a move's 15 before its 12); the first no counts. */
 enum grid_refusals {
     GRID_DONE = 0,                 /* not refused */
     GRID_MALFORMED = 1,            /* the table is not well formed: use a good copy, or found it anew; older forms: see above */
     GRID_NO_SUCH_ROW = 2,          /* a row is not in use, or a send names one row twice */
     GRID_NOT_ANSWERING = 3,        /* the coordinator, or an end of a send, is not in the answering set */
-    GRID_OUT_OF_RANGE = 4,         /* the range is empty or ends beyond the file; a choice is neither a read's nor a write's */
+    GRID_OUT_OF_RANGE = 4,         /* the range is empty or ends beyond the file; a choice is neither a read's nor a write's; a
+                                      notice's call is none of 1 to 10 */
     GRID_WRONG_BUFFER = 5,         /* the buffer is not exactly as long as the range, or the list for the number called not one
-                                      byte; a choice's list is not eight bytes; a chart's is shorter than 128 bytes */
+                                      byte; a choice's list is not eight bytes; a chart's is shorter than 128 bytes; a notice's
+                                      buffer is not 160 bytes */
     GRID_NO_QUORUM = 6,            /* the rows that answered hold no quorum: try again when more answer */
     GRID_NOT_CURRENT = 7,          /* no row that answered has the newest version: try again when one answers (to a check: of every
                                       file; send the one that is stale) */
@@ -91,8 +93,29 @@ enum grid_refusals {
     GRID_NO_ROOM = 14,             /* every row of the table is in use: found a larger table and write the files into it */
     GRID_NOT_FORM_1 = 15,          /* form 1 cannot hold the table: a grid mark is not 0, or a row has no list; move to form 2 */
     GRID_NO_SUCH_FILE = 16,        /* the table has no file of that number: files count from 1 */
-    GRID_NO_CHART = 17             /* a chart is of 1 to 9 members with a grid mark that so many can have (see grid_chart) */
+    GRID_NO_CHART = 17,            /* a chart is of 1 to 9 members with a grid mark that so many can have (see grid_chart) */
+    /* No call is refused by these yet; grid_notice has their sentences. */
+    GRID_NO_MORE_WRITES = 18,      /* the club has made all its writes, or is none of the clubs 1 to 16 */
+    GRID_NONE_LEFT_TO_SHARE = 19,  /* the club has made its own writes, and of those that the clubs share none is left */
+    GRID_BAD_COUNTIES = 20         /* a county is not one of 1 to 8, or there are not as many counties as names */
 };
+
+/* The calls that a notice tells of, by their numbers. A choice is none of them. */
+enum grid_calls {
+    GRID_CALL_FOUNDING = 1, /* grid_found */
+    GRID_CALL_READ = 2,     /* grid_read; shows the coordinator's name */
+    GRID_CALL_WRITE = 3,    /* grid_write; shows the coordinator's name */
+    GRID_CALL_SEND = 4,     /* grid_send */
+    GRID_CALL_CHECK = 5,    /* grid_check; shows the coordinator's name */
+    GRID_CALL_JOINING = 6,  /* grid_join */
+    GRID_CALL_ROUND = 7,    /* a round of writes, which the library does not have yet; shows the coordinator's name */
+    GRID_CALL_MOVE = 8,     /* grid_move */
+    GRID_CALL_CHART = 9,    /* grid_chart */
+    GRID_CALL_NOTICE = 10   /* grid_notice */
+};
+
+/* The bytes of a notice, no more and no less. */
+enum grid_notice_bytes { GRID_NOTICE_BYTES = 160 };
 
 /* The forms of a table, in its first byte. All calls but grid_move take the newest alone: GRID_FORM. */
 enum grid_forms { GRID_FORM_1 = 1, GRID_FORM_2 = 2, GRID_FORM_3 = 3, GRID_FORM = 4 };
@@ -276,6 +299,18 @@ uint64_t grid_choice(const uint8_t *table, size_t table_len, uint64_t coordinato
    of form 1 that a machine has joined is of form 2 but for its first byte, and refused by 1: set that byte to GRID_FORM_2,
    and then move it. */
 uint64_t grid_move(const uint8_t *table, size_t table_len, uint64_t form, uint8_t *to, size_t to_len);
+
+/* A notice: tells members in one sentence which call was refused (GRID_CALL_..), by the machine of which name, and why. The
+   sentence, in ASCII, goes into a buffer of exactly 160 bytes (GRID_NOTICE_BYTES); behind it are spaces, and no zero ends it.
+   No table is asked. Value: the length of the sentence. Refusals: 4, then 5. A refused notice leaves the buffer as it is.
+
+   The name is the coordinator's; calls that show none show 0, whatever name is given. The number is grid_refusal of the call's
+   result; one that is none of 1 to 20 is shown too, and said to be no refusal. Call, name and number stand in figures at fixed
+   places: two from byte 5 on, five from 19 on, ten from 33 on. With %.*s and the value, printf shows the sentence alone:
+
+       Call 03 by machine 00017, number 0000000006: write refused: too few machines answered, or not the right ones; switch on
+       more of them and try again. */
+uint64_t grid_notice(uint64_t call, uint16_t name, uint32_t number, uint8_t *buffer, size_t buffer_len);
 
 #ifdef __cplusplus
 }

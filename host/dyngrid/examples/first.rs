@@ -1,6 +1,6 @@
 //! Four machines share a file of results. Run with `cargo run --example first`.
 
-use dyngrid::{Done, Refusal, Rows, Shape, Table};
+use dyngrid::{Call, Done, Refusal, Rows, Shape, Table};
 
 fn main() -> Result<(), Refusal> {
     let mut table = Table::found(4, 16, &[10, 20, 30, 40], Shape::Wide)?;
@@ -14,9 +14,9 @@ fn main() -> Result<(), Refusal> {
     let Done { version, called } = table.file(1).read(4, Rows::of(&[3, 4])?, 0, &mut score)?;
     println!("read: version {version}, {called} machines called, {}", String::from_utf8_lossy(&score));
 
-    // Alone it cannot read: an old score would look like any other.
+    // Alone it cannot read: an old score would look like any other. Members are told so in a sentence; row 4 is machine 40.
     match table.file(1).read(4, Rows::of(&[4])?, 0, &mut score) {
-        Err(refused) => println!("read by row 4 alone: {refused}"),
+        Err(refused) => println!("{}", refused.refusal.notice(Call::Read, 40)),
         Ok(done) => println!("read by row 4 alone: version {}", done.version),
     }
     Ok(())

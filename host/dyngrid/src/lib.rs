@@ -1,8 +1,9 @@
 //! Safe calls to the verified dynamic grid library: replicas of up to eight files on up to 64 machines.
 //!
 //! A [`Table`] holds a row for each machine, and in it a copy of each file. The caller says which machines answered ([`Rows`]);
-//! each call is one atomic step over the table, and is done with a value or refused by a [`Refusal`]. Reads, writes and sends are
-//! of one [file](Table::file); checks, joinings and choices are of the table.
+//! each call is one atomic step over the table, and is done with a value or refused by a [`Refusal`]; its
+//! [notice](Refusal::notice) tells members why. Reads, writes and sends are of one [file](Table::file); checks, joinings and
+//! choices are of the table.
 //! Rows and files have numbers of one type, `usize`, from 1 on. What a row tells is a [`RowView`], and `println!("{table}")` shows
 //! them all; the latest patches of a copy are its [window](File::window). A [`chart()`] needs no table. Tables that an older
 //! library left are no [`Table`], and at most a [`Form3Table`].
@@ -29,6 +30,7 @@ mod copy;
 mod display;
 mod file;
 mod not_a_table;
+mod notice;
 pub mod raw;
 mod refusal;
 mod rows;
@@ -44,6 +46,7 @@ pub use choice::Kind;
 pub use copy::CopyView;
 pub use file::{File, FileMut};
 pub use not_a_table::NotATable;
+pub use notice::{Call, Notice};
 pub use refusal::Refusal;
 pub use rows::{Rows, RowsIter};
 pub use table::{Shape, Table};

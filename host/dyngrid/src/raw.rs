@@ -6,7 +6,7 @@
 //! buffer or list; while any other call runs on a table, nothing else may touch it.
 //!
 //! Who calls these functions calls [`assert_interface`] before the first of them. A [`Table`](crate::Table) does it by itself,
-//! and so does [`chart`](crate::chart()).
+//! and so do [`chart`](crate::chart()) and [`Refusal::notice`](crate::Refusal::notice).
 
 use std::sync::OnceLock;
 
@@ -109,6 +109,10 @@ extern "C" {
 
     /// Carries a table of form 1 or 2 over to form 3, or back, into a second buffer. Value: the rows used.
     pub fn grid_move(table: *const u8, table_len: usize, form: u64, to: *mut u8, to_len: usize) -> u64;
+
+    /// Tells in a sentence why a call was refused: the call's number as in [`Call`](crate::Call), the coordinator's name, the
+    /// refusal's number, and a buffer of 160 bytes. Value: the length of the sentence; behind it are spaces.
+    pub fn grid_notice(call: u64, name: u16, number: u32, buffer: *mut u8, buffer_len: usize) -> u64;
 }
 
 #[cfg(test)]

@@ -1,3 +1,4 @@
+use crate::{Call, Notice};
 use std::error::Error;
 use std::fmt;
 
@@ -13,10 +14,11 @@ pub enum Refusal {
     NoSuchRow,
     /// 3: the coordinator, or an end of a send, did not answer.
     NotAnswering,
-    /// 4: the range is empty or ends beyond the file; in C also a choice that is neither a read's nor a write's.
+    /// 4: the range is empty or ends beyond the file; in C also a choice that is neither a read's nor a write's, and
+    /// a notice of a call that there is not.
     OutOfRange,
     /// 5: the buffer is not exactly as long as the range, the list for the number called not one byte, a choice's list not
-    /// eight, or a chart's shorter than 128. From this wrapper it never comes.
+    /// eight, a chart's shorter than 128, or a notice's buffer not 160. From this wrapper it never comes.
     WrongBuffer,
     /// 6: the rows that answered hold no quorum.
     NoQuorum,
@@ -42,13 +44,19 @@ pub enum Refusal {
     NoSuchFile,
     /// 17: a chart of no member or of more than nine, or with a grid mark that no list of that length can have.
     NoChart,
+    /// 18: the club has made all its writes, or there is no such club. No call is refused by it yet.
+    NoMoreWrites,
+    /// 19: the club has made its own writes, and of those that the clubs share none is left. No call is refused by it yet.
+    NoneLeftToShare,
+    /// 20: a county is not one of 1 to 8, or there are not as many counties as names. No call is refused by it yet.
+    BadCounties,
     /// A number that this wrapper has no name for: the archive is newer than the wrapper.
     Unknown(u32),
 }
 
 impl Refusal {
     /// Every refusal that has a name, in the order of their numbers.
-    pub const ALL: [Refusal; 17] = [
+    pub const ALL: [Refusal; 20] = [
         Refusal::Malformed,
         Refusal::NoSuchRow,
         Refusal::NotAnswering,
@@ -66,6 +74,9 @@ impl Refusal {
         Refusal::NotForm1,
         Refusal::NoSuchFile,
         Refusal::NoChart,
+        Refusal::NoMoreWrites,
+        Refusal::NoneLeftToShare,
+        Refusal::BadCounties,
     ];
 
     /// Its number, as the library gave it.
@@ -88,6 +99,9 @@ impl Refusal {
             Refusal::NotForm1 => 15,
             Refusal::NoSuchFile => 16,
             Refusal::NoChart => 17,
+            Refusal::NoMoreWrites => 18,
+            Refusal::NoneLeftToShare => 19,
+            Refusal::BadCounties => 20,
             Refusal::Unknown(number) => number,
         }
     }
@@ -98,60 +112,34 @@ impl Refusal {
         (number != 0).then(|| named.unwrap_or(Refusal::Unknown(number)))
     }
 
-    /// What is wrong, and how to mend it.
-    pub fn sentence(self) -> &'static str {
-        match self {
-            Refusal::Malformed => {
-                "the table is malformed: restore its bytes from a good copy, or found it anew (of an older form: no call but a \
-                 move takes it; found a new group, and write its file into that)"
-            }
-            Refusal::NoSuchRow => "a row is not in use, or a send names one row twice: name rows from 1 to the rows used",
-            Refusal::NotAnswering => "the coordinator, or an end of a send, is not among the rows that answered: add it",
-            Refusal::OutOfRange => {
-                "the range is empty or ends beyond the file: name at least one byte, all inside the file (for a choice: the \
-                 kind 0, a read, or 1, a write)"
-            }
-            Refusal::WrongBuffer => {
-                "the buffer is not as long as the range: lend one of exactly that length (for the number called: one byte; \
-                 to a choice: eight; to a chart: at least 128)"
-            }
-            Refusal::NoQuorum => "the rows that answered hold no quorum: try again when more of them answer",
-            Refusal::NotCurrent => {
-                "no row that answered has the newest version: try again with a row that has it (for a check: of every file; send the \
-                 file that is stale)"
-            }
-            Refusal::AtLimit => "a version or an epoch is at 1,000,000: found a new table and write the files into it",
-            Refusal::SenderStale => "the sending row is stale itself: send from a row without a stale mark",
-            Refusal::ReceiverNotBehind => {
-                "the receiving row is not stale, or desires a newer version: send to a stale row, from a newer one"
-            }
-            Refusal::BadNames => {
-                "the names are not 1 to 64 strictly rising numbers above 0, or the choice is neither 0 (wide) nor 1 (tall): \
-                 sort the names, each once"
-            }
-            Refusal::BadSize => {
-                "the sizes do not fit: up to 64 rows, no fewer than the names, and 1 to 8 files of 1 to 4,096 bytes (for a move: \
-                 from form 1 or 2 to 3 or back, into a buffer of exactly the new length)"
-            }
-            Refusal::NameNotFree => "the name is 0 or in use: join with a name from 1 to 65,535 that no row has",
-            Refusal::NoRoom => "every row of the table is in use: found a table of more rows and write the files into it",
-            Refusal::NotForm1 => {
-                "form 1 cannot hold the table, since a grid mark is not 0 or a row has no list: carry it down to form 2"
-            }
-            Refusal::NoSuchFile => "the group has no such file: count its files from 1 to the number it was founded with",
-            Refusal::NoChart => {
-                "there is no such chart: name 1 to 9 members, and the grid mark 0, 2 or, of five, 1 (a list's is byte 24 of its row)"
-            }
-            Refusal::Unknown(_) => {
-                "this wrapper has no name for the number: build archive and wrapper from one checkout"
-            }
-        }
+    /// The sentence that tells members of it: which call was refused, by the machine of which name, and why. The name is the
+    /// coordinator's; calls that show none (see [`Call`]) show 0, whatever name is given.
+    ///
+    /// ```
+    /// use dyngrid::{Call, Refusal};
+    ///
+    /// let notice = Refusal::NoQuorum.notice(Call::Write, 17);
+    /// assert_eq!(
+    ///     notice.to_string(),
+    ///     "Call 03 by machine 00017, number 0000000006: write refused: too few machines answered, or not the right ones; \
+    ///      switch on more of them and try again."
+    /// );
+    /// ```
+    ///
+    /// Panics if the archive has another interface than this wrapper.
+    pub fn notice(self, call: Call, name: u16) -> Notice {
+        Notice::of(call, name, self.number())
     }
 }
 
+/// Its number, and the reason as its [notice](Refusal::notice) gives it, without call and name.
+///
+/// Panics if the archive has another interface than this wrapper.
 impl fmt::Display for Refusal {
     fn fmt(&self, f: &mut fmt::Formatter) -> fmt::Result {
-        write!(f, "refused by {}: {}", self.number(), self.sentence())
+        // The reason is the same for every call.
+        let notice = self.notice(Call::Notice, 0);
+        write!(f, "refused by {}: {}", self.number(), notice.reason())
     }
 }
 
@@ -173,7 +161,8 @@ mod tests {
         assert_eq!(split(14 << 32), Err(Refusal::NoRoom));
         assert_eq!(split(16 << 32), Err(Refusal::NoSuchFile));
         assert_eq!(split(17 << 32), Err(Refusal::NoChart));
-        assert_eq!(split(18 << 32 | 5), Err(Refusal::Unknown(18)));
+        assert_eq!(split(20 << 32), Err(Refusal::BadCounties));
+        assert_eq!(split(21 << 32 | 5), Err(Refusal::Unknown(21)));
         assert_eq!(split(u64::MAX), Err(Refusal::Unknown(u32::MAX)));
     }
 }

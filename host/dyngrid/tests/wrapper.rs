@@ -15,9 +15,9 @@ fn four() -> Table {
 }
 
 #[test]
-fn refusals_are_numbered_1_to_17() {
+fn refusals_are_numbered_1_to_20() {
     let numbers: Vec<u32> = Refusal::ALL.iter().map(|refusal| refusal.number()).collect();
-    assert_eq!(numbers, (1..=17).collect::<Vec<_>>());
+    assert_eq!(numbers, (1..=20).collect::<Vec<_>>());
     for refusal in Refusal::ALL {
         assert_eq!(Refusal::from_number(refusal.number()), Some(refusal));
     }
@@ -26,10 +26,12 @@ fn refusals_are_numbered_1_to_17() {
 #[test]
 fn a_number_without_a_name_is_kept() {
     assert_eq!(Refusal::from_number(0), None);
-    for number in [18, 19, u32::MAX] {
+    for number in [21, 22, u32::MAX] {
         let refusal = Refusal::from_number(number).expect("a refusal");
         assert_eq!((refusal, refusal.number()), (Refusal::Unknown(number), number));
-        assert!(refusal.to_string().starts_with(&format!("refused by {number}: ")));
+        assert!(refusal
+            .to_string()
+            .starts_with(&format!("refused by {number}: no refusal has this number; ")));
     }
 }
 
@@ -51,7 +53,7 @@ fn what_is_shown_is_short() {
     assert_eq!(format!("{table:?}"), "Table { capacity: 64, used: 2, file_len: 4096, files: 1, .. }");
     let error = Table::from_bytes(vec![0; 100_000]).expect_err("no table");
     assert_eq!(format!("{error:?}"), "NotATable { length: 100000, refusal: Malformed, .. }");
-    assert!(error.to_string().starts_with("100000 bytes are no table: refused by 1: "));
+    assert!(error.to_string().starts_with("100000 bytes are no table: refused by 1: the tournament table"));
 }
 
 #[test]

@@ -1,10 +1,12 @@
 //! Shows how many machines one coordinator calls for a read and for a write and which losses are borne, and the smallest
-//! write quorums of short lists, as the library itself tells it, and the crates with what they stand on. Writes QUORUMS.md,
-//! quorums.svg, CHART.md, chart.svg and rooms.svg into the folder docs of the repository that it is given.
+//! write quorums of short lists and the notices of refusals, as the library itself tells it, and the crates with what they stand
+//! on. Writes QUORUMS.md, quorums.svg, CHART.md, chart.svg, NOTICES.md and rooms.svg into the folder docs of the repository that it
+//! is given.
 
 mod chart;
 mod layers;
 mod measure;
+mod notices;
 mod rooms;
 mod smallest;
 mod wall;
@@ -40,9 +42,10 @@ fn draw(root: &Path) -> Result<(), Box<dyn std::error::Error>> {
     let charts = smallest::all()?;
     std::fs::write(folder.join("CHART.md"), wall_page::document(&charts)?)?;
     std::fs::write(folder.join("chart.svg"), wall::svg(&charts))?;
+    std::fs::write(folder.join("NOTICES.md"), notices::document())?;
     std::fs::write(folder.join("rooms.svg"), rooms::svg(root)?)?;
     println!(
-        "pictures: wrote QUORUMS.md, quorums.svg, CHART.md, chart.svg and rooms.svg to {}",
+        "pictures: wrote QUORUMS.md, quorums.svg, CHART.md, chart.svg, NOTICES.md and rooms.svg to {}",
         folder.display()
     );
     Ok(())
