@@ -1,9 +1,11 @@
--- Four machines, just founded: the choice of the first answers whole, the fourth machine does not answer.
+-- Four machines and two files, just founded: the choice of the first answers whole, the fourth machine does not answer.
 use mathlib.Core.Path.{_≡_, refl, sym}
 use mathlib.Core.Bool.{Bool, true, not, _||_}
 use mathlib.Core.List.{List, [], _∷_}
 use Prim.Native.Nat.{ℕ}
 use native.Mathlib.Omega.{arith}
+use lib.Dec.{leb}
+use borrow.Author.Tests.{le-leb}
 use Rattle.sets.specs.Upto.{Within, every, some, count, keep}
 use Rattle.sets.specs.Sets.{has}
 use Rattle.sets.proofs.UptoLaws.{every-at}
@@ -25,8 +27,6 @@ use Rattle.seats.proofs.HeldLaws.{chosen-in}
 use Rattle.history.specs.Book.{Book, nameIn, order, opened, hasAll, someHasAll}
 use Rattle.history.specs.Claims.{tableAfter, bookAfter, after}
 use Rattle.history.proofs.Answers.{first-file}
-use borrow.Author.Tests.{le-leb}
-use lib.Dec.{leb}
 use Rattle.history.proofs.State.{whole, State, chain-is}
 use Rattle.history.proofs.Theorems.{opens}
 use Rattle.history.proofs.Lost.{fourMachines, blank, founds}
@@ -72,8 +72,15 @@ module _ (t : List ℕ) (S : State 1 t (opened fourMachines) 0) where
 
   passes : (kind : Kind) → firstNo (before 6 (questions t (byFirst kind))) ≡ 0
   unfolding byFirst opened fourMachines namesIn questions before byCoordinator firstNo isUsed between onlyRows inFile inGroup has zeros
-  passes Read = let u : usedOf t ≡ 4 = S .used in let f : fileLengthOf t ≡ 1 = sym (S .file) in let g : leb 1 (filesOf t) ≡ true = le-leb 1 (filesOf t) (S .group .1) in rw (well-formed-of t (S .formed), u, f, g)
-  passes Write = let u : usedOf t ≡ 4 = S .used in let f : fileLengthOf t ≡ 1 = sym (S .file) in let g : leb 1 (filesOf t) ≡ true = le-leb 1 (filesOf t) (S .group .1) in rw (well-formed-of t (S .formed), u, f, g)
+  passes kind =
+      let u : usedOf t ≡ 4 = S .used in
+      let f : fileLengthOf t ≡ 1 = sym (S .file) in
+      let g : leb 1 (filesOf t) ≡ true = le-leb 1 (filesOf t) (S .group .1) in
+      go kind u f g
+    where
+      go : (kind : Kind) → usedOf t ≡ 4 → fileLengthOf t ≡ 1 → leb 1 (filesOf t) ≡ true → firstNo (before 6 (questions t (byFirst kind))) ≡ 0
+      go Read u f g = rw (well-formed-of t (S .formed), u, f, g)
+      go Write u f g = rw (well-formed-of t (S .formed), u, f, g)
 
   whole-choice : (kind : Kind) → AnswersWhole t (opened fourMachines) (byFirst kind) kind 1 7
   unfolding opened
