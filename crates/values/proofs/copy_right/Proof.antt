@@ -6,7 +6,8 @@ use Rattle.bytes.proofs.CodeLaws.{zero-number}
 use borrow.Author.Tests.{not-true, not-false}
 use native.Mathlib.Omega.{arith}
 use mathlib.Core.Bool.{Bool, true, false, _&&_}
-use Prim.Native.Nat.{_+_}
+use Prim.Native.Nat.{_-_}
+use lib.ListN.{length}
 use mathlib.Core.Path.{_≡_, sym, _∙_}
 use borrow.Author.Needs.{needs}
 use Rattle.values.proofs.copy_right.Statement.{statement}
@@ -50,8 +51,8 @@ oldest-requires c κs = search needs
 cast-oldest : tie.Need-cast-oldest
 cast-oldest c = search needs
 
-add-at : tie.Need-add-at
-add-at c = search needs
+sub-at : tie.Need-sub-at
+sub-at c = search needs
 
 sub-window-right : tie.Need-sub-window-right
 sub-window-right c = search needs
@@ -63,7 +64,7 @@ part-window-right-end : tie.Need-part-window-right-end
 part-window-right-end c = search needs
 
 window-right-requires : tie.Need-window-right-requires
-window-right-requires c κs = let s = c .before .before .before .before .before .before .before .before .before .before in cut-long (s .args .copy .now) (12 + s .args .file) (omega (arith, s .pre))
+window-right-requires c κs = let s = c .before .before .before .before .before .before .before .before .before .before in cut-long (s .args .copy .now) (length (s .args .copy .now) - 576) (omega (arith, s .pre))
 
 returns-2 : tie.Need-returns-2
 unfolding formValue oldestIn
@@ -72,7 +73,7 @@ returns-2 c =
     let b = o .before .before in
     let v = b .before .before .before .before .before in
     let s = v .before .before in
-    c .window-right .ensures ∙ cut-kept (s .args .copy .now) (12 + s .args .file) (omega (arith, s .pre)) formValue (s .args .file) _ _ (omega arith) (v .version .ensures) (o .oldest .ensures)
+    c .window-right .ensures ∙ cut-kept (s .args .copy .now) (length (s .args .copy .now) - 576) (omega (arith, s .pre)) formValue (s .args .file) _ _ (omega arith) (v .version .ensures) (o .oldest .ensures)
     ∙ sym (asked b true (not-false _ (o .before .if1 .left)))
 
 pub copy-right-spec : {M : Type 1} → statement M
@@ -88,7 +89,7 @@ copy-right-spec =
     returns
     oldest-requires
     cast-oldest
-    add-at
+    sub-at
     sub-window-right
     part-window-right-start
     part-window-right-end
