@@ -210,3 +210,21 @@ fn the_header_numbers_the_calls() {
     assert_eq!(header.lines().filter(|line| line.starts_with("    GRID_CALL_")).count(), Call::ALL.len());
     assert!(header.contains(&format!("GRID_NOTICE_BYTES = {BYTES} ")));
 }
+
+/// The page of the calls has their numbers and words, says whose name is shown, and has `choice` besides, which is in none of the papers.
+#[test]
+fn the_page_numbers_the_calls() {
+    let page = include_str!("../../../docs/CALLS.md");
+    let cells = |line: &'static str| line.split('|').map(str::trim).collect::<Vec<_>>();
+    let rows: Vec<_> =
+        page.lines().map(cells).filter(|row| row.len() == 7 && row[1].parse::<u64>().is_ok()).collect();
+    for (call, word) in Call::ALL.into_iter().zip(WORDS) {
+        let number = u64::from(call.number());
+        let found: Vec<_> = rows.iter().filter(|row| row[1] == number.to_string()).collect();
+        assert_eq!(found.len(), 1, "call {number}");
+        assert_eq!(found[0][2], word);
+        assert_eq!(found[0][4], if shows_its_name(number) { "yes" } else { "no" }, "call {number}");
+    }
+    assert_eq!(rows.len(), Call::ALL.len() + 1);
+    assert_eq!(rows[Call::ALL.len()][2], "choice");
+}
