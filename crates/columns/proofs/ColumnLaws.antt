@@ -13,7 +13,7 @@ use Rattle.sets.specs.Upto.{Within, every, some, count, lowest}
 use Rattle.sets.specs.Sets.{has, losing, joining, cutTo, leftOf, firstRows}
 use Rattle.sets.proofs.UptoLaws.{every-at, every-of, every-ext, some-at, some-of, some-none, not-every, count-ext, lowest-at}
 use Rattle.sets.proofs.TestLaws.{none-at}
-use Rattle.sets.proofs.CountLaws.{count-to, count-one, count-less}
+use Rattle.sets.proofs.CountLaws.{count-less, some-count}
 use Rattle.sets.proofs.SetLaws.{empty-at, first-in, first-out, first-within}
 use Rattle.grid.specs.declared.Grid.{Grid}
 use Rattle.grid.specs.Sizes.{columnOf}
@@ -23,16 +23,6 @@ use Rattle.quorums.proofs.QuorumLaws.{touched, touch, covered, cover}
 use Rattle.charting.specs.Charts.{smallest}
 use Rattle.columns.specs.Columns.{heldIn, twice, ColumnsOf}
 use Rattle.charting.proofs.SmallestLaws.{smallest-writes, stops, smallest-of, lost, lose-part}
-
-some-count : (N : ℕ) (p : ℕ → Bool) → some N p ≡ leb 1 (count N p)
-unfolding count
-some-count N p = same-test _ _
-    (λ e. let r = some-at N p e in le-leb 1 (count N p) (count-one N p (r .0) (r .1) (r .2)))
-    (λ e. go (some N p) refl (leb-true 1 (count N p) e))
-  where
-    go : (b : Bool) → some N p ≡ b → 1 ≤ count N p → b ≡ true
-    go true e h = refl
-    go false e h = absurd (omega (arith, count-ext N p (λ i. false) (none-at N p e), count-to 0 (λ i. false) (λ i l. refl) N (omega arith)))
 
 touches-count : (n N : ℕ) (held : ℕ → Bool) (j : ℕ) → touches n N held j ≡ leb 1 (heldIn n N held j)
 unfolding touches heldIn
