@@ -1,17 +1,14 @@
--- The laws by which everything above knows the quorums of a level, and of a list. Nothing after this opens them.
+-- The laws by which everything above knows the quorums of a list. Nothing after this opens them.
 use mathlib.Core.Path.{_≡_, refl, sym, _∙_, ap}
 use mathlib.Core.Bool.{Bool, true, false, _&&_}
 use mathlib.Core.List.{List, [], _∷_}
-use Prim.Native.Nat.{ℕ, _-_, _≤_}
-use native.Mathlib.Omega.{arith}
-use lib.Dec.{leb, eqb}
-use lib.ListN.{length, getD}
-use borrow.Author.Tests.{leb-true, ne-eqb}
+use Prim.Native.Nat.{ℕ}
+use lib.Dec.{eqb}
+use borrow.Author.Tests.{ne-eqb}
 use Rattle.sets.specs.Upto.{every, some, count, keep}
 use Rattle.sets.specs.Sets.{has}
-use Rattle.sets.proofs.KeepLaws.{kept}
 use Rattle.sets.proofs.SetLaws.{empty-at}
-use Rattle.bools.proofs.BoolLaws.{and-l, and-r, and-i, clash}
+use Rattle.bools.proofs.BoolLaws.{clash}
 use Rattle.quorums.specs.declared.Kind.{Kind}
 use Rattle.quorums.specs.declared.Kind.the-variants.{Read, Write}
 use Rattle.grid.specs.Sizes.{root, rootUp, published, newFive, exchanged, gridBy, newMark, columnOf}
@@ -22,68 +19,31 @@ use Rattle.linking.specs.Linking.{inserted}
 use Rattle.linking.proofs.InsertLaws.{inserted-keep}
 use Rattle.fields.specs.declared.Laid.{Laid}
 use Rattle.fields.specs.Layout.{isEmpty, isTall}
+use Rattle.counties.specs.Claims.{Quorums, LevelQuorums}
+use Rattle.counties.proofs.LevelLaws.{level-quorums}
 use Rattle.protocol.specs.Lists.{laidNow, seats, atSeat, level, levelChoice, listQuorum, listChoice}
 
--- ---- of a level: those that pass p
-module _ (mark : ℕ) (order : List ℕ) (p : ℕ → Bool) where
-  -- the row at position k
-  rowAt : ℕ → ℕ
-  rowAt k = getD (seats order p) (k - 1) 0
-
-  at-seat : (s : ℕ → Bool) (k : ℕ) → atSeat (seats order p) s k ≡ true → (p (rowAt k) ≡ true) × (s (rowAt k) ≡ true)
-  unfolding atSeat seats rowAt
-  at-seat s k h =
-      let w = and-l (leb 1 k && leb k (length (keep p order))) _ h in
-      let l : 1 ≤ k = leb-true 1 k (and-l _ _ w) in
-      let u : k ≤ length (keep p order) = leb-true k _ (and-r (leb 1 k) _ w) in
-      (kept p order (k - 1) (omega arith), and-r (leb 1 k && leb k (length (keep p order))) _ h)
-
-  pub level-shared : (s t : ℕ → Bool) → level Read mark order p s ≡ true → level Write mark order p t ≡ true → (i : ℕ) × (p i ≡ true) × (s i ≡ true) × (t i ≡ true)
-  unfolding level
-  level-shared s t h g =
-      let r = Q.shared (gridBy mark (count 64 p)) (count 64 p) (atSeat (seats order p) s) (atSeat (seats order p) t) h g in
-      let a = at-seat s (r .0) (r .2) in
-      (rowAt (r .0), a .0, a .1, at-seat t (r .0) (r .3) .1)
-
-  pub level-inhabited : (kind : Kind) (s : ℕ → Bool) → level kind mark order p s ≡ true → (i : ℕ) × (p i ≡ true) × (s i ≡ true)
-  unfolding level
-  level-inhabited kind s h =
-      let r = Q.inhabited (gridBy mark (count 64 p)) (count 64 p) kind (atSeat (seats order p) s) h in
-      let a = at-seat s (r .0) (r .2) in
-      (rowAt (r .0), a .0, a .1)
-
-  pub level-reads : (kind : Kind) (s : ℕ → Bool) → level kind mark order p s ≡ true → level Read mark order p s ≡ true
-  unfolding level
-  level-reads Read s h = h
-  level-reads Write s h = Q.write-reads (gridBy mark (count 64 p)) (count 64 p) (atSeat (seats order p) s) h
-
-  pub level-grows : (kind : Kind) (s t : ℕ → Bool) → ((i : ℕ) → s i ≡ true → t i ≡ true) → level kind mark order p s ≡ true → level kind mark order p t ≡ true
-  unfolding level atSeat
-  level-grows kind s t sub h = Q.grows (gridBy mark (count 64 p)) (count 64 p) (atSeat (seats order p) s) (atSeat (seats order p) t) (λ k w e.
-      and-i (leb 1 k && leb k (length (seats order p))) _ (and-l _ _ e) (sub _ (and-r (leb 1 k && leb k (length (seats order p))) _ e))) kind h
-
--- ---- of a list
 module _ (order : List ℕ) (v : Laid) where
+  laws : Quorums (has (v .members)) (λ kind s. listQuorum kind order v s)
+  unfolding LevelQuorums listQuorum
+  laws = level-quorums (v .mark) order (has (v .members))
+
   -- a read and a write quorum of one list share a member
   pub shared : (s t : ℕ → Bool) → listQuorum Read order v s ≡ true → listQuorum Write order v t ≡ true
       → (i : ℕ) × (has (v .members) i ≡ true) × (s i ≡ true) × (t i ≡ true)
-  unfolding listQuorum
-  shared = level-shared (v .mark) order (has (v .members))
+  shared = laws .shared Read
 
   -- a quorum has a member
   pub inhabited : (kind : Kind) (s : ℕ → Bool) → listQuorum kind order v s ≡ true → (i : ℕ) × (has (v .members) i ≡ true) × (s i ≡ true)
-  unfolding listQuorum
-  inhabited = level-inhabited (v .mark) order (has (v .members))
+  inhabited = laws .inhabited
 
   -- any quorum is a read quorum
   pub reads : (kind : Kind) (s : ℕ → Bool) → listQuorum kind order v s ≡ true → listQuorum Read order v s ≡ true
-  unfolding listQuorum
-  reads = level-reads (v .mark) order (has (v .members))
+  reads = laws .reads
 
   -- a larger set holds what a smaller one holds
   pub grows : (kind : Kind) (s t : ℕ → Bool) → ((i : ℕ) → s i ≡ true → t i ≡ true) → listQuorum kind order v s ≡ true → listQuorum kind order v t ≡ true
-  unfolding listQuorum
-  grows = level-grows (v .mark) order (has (v .members))
+  grows = laws .grows
 
 -- a list that has a member is not empty
 pub has-list : (l : Laid) (i : ℕ) → has (l .members) i ≡ true → isEmpty l ≡ false

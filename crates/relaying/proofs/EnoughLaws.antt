@@ -22,7 +22,8 @@ use Rattle.protocol.specs.Calls.{Call, read, write, byCoordinator, isUsed, ques
 use Rattle.protocol.proofs.QuestionLaws.{ByCoordinator, passed-first}
 use Rattle.protocol.proofs.Unanswered.{used-same, order-same}
 use Rattle.seats.specs.Seats.{EveryChoiceHolds}
-use Rattle.seats.proofs.HeldLaws.{chosen-in, every-choice-holds}
+use Rattle.counties.proofs.LevelLaws.{chosen-in}
+use Rattle.seats.proofs.HeldLaws.{every-choice-holds}
 use Rattle.history.specs.Book.{Book, holdsQuorum, someHasAll}
 use Rattle.history.specs.Demand3.{verdict, RefusedRight, Right}
 use Rattle.history.proofs.Invariant.{both-is}

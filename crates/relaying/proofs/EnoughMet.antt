@@ -21,7 +21,7 @@ use Rattle.asking.specs.Asking.{firstNo, before}
 use Rattle.protocol.specs.Lists.{laidNow, seats, atSeat, levelChoice, listChoice}
 use Rattle.protocol.specs.Polls.{polled}
 use Rattle.protocol.specs.Calls.{Call, founding, read, write, isUsed, inFile, byCoordinator, questions, outcome, namesIn, foundedList}
-use Rattle.seats.proofs.HeldLaws.{chosen-in}
+use Rattle.counties.proofs.LevelLaws.{chosen-in}
 use Rattle.history.specs.Book.{Book, nameIn, order, opened, hasAll, someHasAll}
 use Rattle.history.specs.Claims.{tableAfter, bookAfter, after}
 use Rattle.history.proofs.State.{whole, State, chain-is}

@@ -26,7 +26,7 @@ use Rattle.protocol.proofs.QuestionLaws.{ByCoordinator, refusal-is, called-is, 
 use Rattle.seats.specs.Seats.{ChoiceSizes}
 use Rattle.quorums.specs.ChoiceSizes.{ChoicesSized}
 use Rattle.seats.specs.Called.{ownGrid, stayed, CalledFew}
-use Rattle.seats.proofs.HeldLaws.{chosen-in}
+use Rattle.counties.proofs.LevelLaws.{chosen-in}
 use Rattle.seats.proofs.SizeLaws.{choice-sizes}
 
 -- ---- a read or a write by c over r that passed questions 1 to 3

@@ -21,7 +21,7 @@ use Rattle.table.specs.Chain.{orderOf}
 use Rattle.protocol.specs.Lists.{laidNow, seats, atSeat, level, listQuorum}
 use Rattle.seats.specs.Seats.{rowAt, Seated, EveryListIsSeated, ListBearsLoss}
 use Rattle.seats.proofs.SeatLaws.{every-list-is-seated}
-use Rattle.seats.proofs.HeldLaws.{at-seat}
+use Rattle.counties.proofs.LevelLaws.{at-seat}
 
 module _ (t : List ℕ) (p : ℕ → Bool) (S : Seated t p) (s : ℕ → Bool) (all : AllButOne p s) where
   -- who misses one member misses one position

@@ -27,7 +27,7 @@ use Rattle.table.proofs.WellFormedLaws.{sized, few-rows}
 use Rattle.protocol.specs.Lists.{seats, atSeat, levelChoice, listChoice}
 use Rattle.seats.specs.Seats.{rowAt, Seated, EveryListIsSeated, ChoiceSizes}
 use Rattle.seats.proofs.SeatLaws.{every-list-is-seated}
-use Rattle.seats.proofs.HeldLaws.{chosen-at}
+use Rattle.counties.proofs.LevelLaws.{chosen-at}
 
 module _ (t : List ℕ) (e : wellFormed t ≡ true) (p : ℕ → Bool) (used : (i : ℕ) → p i ≡ true → Within (usedOf t) i) where
   S : Seated t p
