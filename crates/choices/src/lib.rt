@@ -1,6 +1,7 @@
 // Whom to call: its questions in order, then the set that the coordinator calls first.
 use asking::result;
 use quorums::Kind;
+use rows::RowSet;
 ghost use mathlib.Core.Path.{_≡_};
 ghost use Rattle.asking.specs.Asking.{result};
 ghost use Rattle.choices.specs.Choosing.{kindOf, chosen};
@@ -32,7 +33,15 @@ pub fn choice(t: &[u8], c: usize, kind: u64, set: &mut [u8]) -> u64
     }
     let row = table::row_of(t, c);
     let list = fields::list(row);
-    let rows = lists::choice(kind_of(kind), &order, used, list, fields::name(row));
+    let members = RowSet { bits: list.members };
+    let rows = lists::choice(
+        kind_of(kind),
+        &order,
+        used,
+        list.mark,
+        members,
+        fields::name(row),
+    );
     bytes::store_at(set, 0, 8, rows.bits);
     result(0, rows.size() as u32)
 }

@@ -65,7 +65,8 @@ pub fn settle(kind: Kind, t: &[u8], order: &[u8; 64], c: usize, answering: RowSe
     let count = header::used(t);
     let row = table::row_of(t, c);
     let own = fields::list(row);
-    let chosen = lists::choice(kind, order, count, own, fields::name(row));
+    let members = RowSet { bits: own.members };
+    let chosen = lists::choice(kind, order, count, own.mark, members, fields::name(row));
     let tried = chosen.cut(answering);
     // pointer and length of the table, each by itself: loaded as one, they would wait until the stores of the caller are done
     let lent = &t[0..t.len()];

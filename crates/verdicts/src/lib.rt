@@ -133,7 +133,8 @@ pub fn quorum_held(kind: Kind, order: &[u8; 64], count: usize, list: Laid, s: Ro
     if list.is_empty() {
         return false;
     }
-    lists::quorum(kind, order, count, list, s)
+    let members = RowSet { bits: list.members };
+    lists::quorum(kind, order, count, list.mark, members, s)
 }
 
 // Questions 6 and 7 of a set, by the list in force and by whether the set is current: the first no, 0 where there is none.

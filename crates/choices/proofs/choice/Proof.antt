@@ -1,13 +1,12 @@
-use mathlib.Core.Bool.{Bool, true}
+use mathlib.Core.Bool.{true}
 use mathlib.Core.Path.{_≡_, refl, sym, _∙_, ap, ap₂}
 use mathlib.Core.List.{List}
 use Prim.Native.Nat.{ℕ, _^_, _<_}
 use native.Mathlib.Omega.{arith}
-use lib.Dec.{leb}
 use borrow.Author.Needs.{needs}
 use borrow.Author.Tests.{not-true, not-false, le-leb, lt-leb, ne-eqb}
 use Rattle.asking.specs.Asking.{result}
-use Rattle.sets.specs.Upto.{Within, count}
+use Rattle.sets.specs.Upto.{Within}
 use Rattle.sets.specs.Sets.{has}
 use Rattle.sets.proofs.UptoLaws.{count-le}
 use Rattle.quorums.specs.declared.Kind.{Kind}
@@ -20,7 +19,7 @@ use Rattle.table.proofs.FormLaws.{between-is}
 use Rattle.table.proofs.WellFormedLaws.{sized, long}
 use Rattle.protocol.specs.Lists.{listChoice}
 use Rattle.protocol.specs.Calls.{isUsed}
-use Rattle.choices.specs.Choosing.{kindOf, firstCalled, Chosen, chosen}
+use Rattle.choices.specs.Choosing.{kindOf, firstCalled, Chosen}
 use Rattle.choices.proofs.ChoiceLaws.{no-one, no-two, no-four, no-five, all-yes}
 use Rattle.choices.proofs.choice.Statement.{statement}
 use Rattle.choices.proofs.choice.Tie as tie
@@ -121,7 +120,7 @@ choice-requires c κs =
 -- the rows found are those that the coordinator calls first
 rows-are : (c : tie.After-choice) → let s = c .before .before .before .before .before .before .before .before .before .before .before .before .before .before .before .before in
     has (c .choice .result .bits) ≡ firstCalled (kindOf (s .args .kind)) (s .args .t .now) (s .args .c)
-unfolding firstCalled nameOf listOf
+unfolding firstCalled nameOf listOf listChoice
 rows-are c =
     let k = c .before .before .before in
     let l = k .before in

@@ -25,7 +25,7 @@ rows-long c = let s = c .before .before .before .before .before in omega (arith,
 
 -- the list is that of all used rows
 list-is : (c : tie.After-laid-now Inv-loop μ-loop) → let a = c .before .before .before .before .args in c .laid-now .result ≡ foundedList (a .choice) (length (a .names .now) / 2)
-unfolding foundedList
+unfolding foundedList laidNow
 list-is c =
     let s = c .before .before .before .before in
     c .laid-now .ensures ∙ ap (laidNow (eqb (s .args .choice) 1)) (all-rows (length (s .args .names .now) / 2) (c .before .first .result .bits) (omega (arith, s .pre .2, s .pre .3, s .pre .4)) (omega arith) (c .before .first .ensures))

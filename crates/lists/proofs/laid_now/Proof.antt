@@ -1,5 +1,4 @@
 use borrow.Author.Needs.{needs}
-use Rattle.protocol.specs.Lists.{laidNow}
 use Rattle.lists.proofs.laid_now.Statement.{statement}
 use Rattle.lists.proofs.laid_now.Tie as tie
 
@@ -10,7 +9,6 @@ new-mark-requires : tie.Need-new-mark-requires
 new-mark-requires c κs = search needs
 
 returns : tie.Need-returns
-unfolding laidNow
 returns c = rw (c .new-mark .ensures, c .before .size .ensures)
 
 pub laid-now-spec : {M : Type 1} → statement M

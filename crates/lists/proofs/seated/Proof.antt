@@ -7,7 +7,7 @@ use borrow.Author.Needs.{needs}
 use lib.ListN.{length, getD, take}
 use lib.Dec.{eqb}
 use Rattle.lists.proofs.SeatLaws.{seat-next, seat-few, seated-next, none-seated}
-use Rattle.protocol.specs.Lists.{seats, atSeat}
+use Rattle.counties.specs.Levels.{seats, atSeat}
 use Rattle.sets.proofs.SetLaws.{has-empty}
 use Rattle.sets.specs.Sets.{has, gaining}
 use Rattle.sets.specs.Upto.{some, keep}

@@ -45,7 +45,7 @@ own-is c = c .list .ensures ∙ ap list (c .before .row-of .ensures .0)
 
 chosen-is : (c : tie.After-choice) → let a = c .before .before .before .before .before .before .args in
     has (c .choice .result .bits) ≡ listChoice (a .kind) (orderOf (a .t .now)) (listOf (a .t .now) (a .c)) (nameOf (a .t .now) (a .c))
-unfolding nameOf
+unfolding nameOf listChoice
 chosen-is c =
     let a = c .before .before .before .before .before .before .args in
     c .choice .ensures
