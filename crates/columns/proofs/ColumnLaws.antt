@@ -8,7 +8,7 @@ use native.Mathlib.Decide.{decLe, decLt, ℕ-discrete}
 use native.Mathlib.Omega.{arith}
 use lib.Dec.{eqb, leb, leb·suc-suc}
 use borrow.Author.Tests.{not-true, le-leb, lt-leb, leb-true, eq-eqb, ne-eqb}
-use Rattle.bools.proofs.BoolLaws.{and-l, and-r, and-i, or-l, or-r, or-e, clash, same-test}
+use Rattle.bools.proofs.BoolLaws.{and-l, and-r, and-i, or-l, or-r, or-e, clash, same-test, not-not}
 use Rattle.sets.specs.Upto.{Within, every, some, count, lowest}
 use Rattle.sets.specs.Sets.{has, losing, joining, cutTo, leftOf, firstRows}
 use Rattle.sets.proofs.UptoLaws.{every-at, every-of, every-ext, some-at, some-of, some-none, not-every, count-ext, lowest-at}
@@ -33,16 +33,12 @@ no-gap : (n N : ℕ) (held : ℕ → Bool) (j : ℕ) → covers n N held j ≡ n
 unfolding touches covers
 no-gap n N held j =
     every-ext N _ (λ k. not (not (held k) && eqb j (columnOf n k))) (λ k w. one (held k) (eqb j (columnOf n k)))
-    ∙ not-twice (every N (λ k. not (not (held k) && eqb j (columnOf n k))))
+    ∙ sym (not-not (every N (λ k. not (not (held k) && eqb j (columnOf n k)))))
     ∙ ap not (not-every N (λ k. not (held k) && eqb j (columnOf n k)))
   where
     one : (a b : Bool) → (a || not b) ≡ not (not a && b)
     one true b = refl
     one false b = refl
-
-    not-twice : (a : Bool) → a ≡ not (not a)
-    not-twice true = refl
-    not-twice false = refl
 
 column-in : (n k : ℕ) → 1 ≤ n → Within n (columnOf n k)
 unfolding columnOf
