@@ -70,17 +70,19 @@ pub list-quorums : ListQuorums
 unfolding ByOneFact
 list-quorums = by-one-fact level-quorums
 
--- ---- above, those of 1 to 8 that pass have a seat each
+-- ---- the level above
+pub county-within : (j : ℕ) → among counties j ≡ true → Within 8 j
+unfolding counties
+county-within j m = let w = sym (upward-among 8 1 j) ∙ m in omega (arith, leb-true 1 j (and-l _ _ w), ltb-true j 9 (and-r (leb 1 j) _ w))
+
+-- those of 1 to 8 that pass have a seat each
 pub upper-seats : (p : ℕ → Bool) → ((j : ℕ) → p j ≡ true → Within 8 j) → length (seats counties p) ≡ count 64 p
 unfolding seats counties
 upper-seats p few =
-    keep-count (λ x. x) 8 p 0 (upward 8 1) (upward-rises 8 1 0 (omega arith)) inside
+    keep-count (λ x. x) 8 p 0 (upward 8 1) (upward-rises 8 1 0 (omega arith)) county-within
     ∙ count-ext 8 _ p (λ j w. rw (upward-among 8 1 j, le-leb 1 j (w .0), lt-ltb j 9 (omega arith)))
     ∙ sym (count-to 8 p above 64 (omega arith))
   where
-    inside : (j : ℕ) → among (upward 8 1) j ≡ true → Within 8 j
-    inside j m = let w = sym (upward-among 8 1 j) ∙ m in omega (arith, leb-true 1 j (and-l _ _ w), ltb-true j 9 (and-r (leb 1 j) _ w))
-
     above : (j : ℕ) → 8 < j → p j ≡ false
     above j l = same-test (p j) false (λ y. absurd (omega (arith, few j y))) (λ z. absurd (clash z))
 
