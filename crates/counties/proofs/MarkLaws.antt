@@ -1,31 +1,23 @@
 -- The rule of marks, in wide and in tall tables.
-use mathlib.Core.Path.{_≡_, refl, sym, _∙_, ap}
-use mathlib.Core.Bool.{Bool, true, false, cond, _&&_, _||_}
+use mathlib.Core.Path.{_≡_, refl, sym, _∙_}
+use mathlib.Core.Bool.{Bool, true, false, cond, _||_}
 use mathlib.Core.Logic.{_⊎_, inl, inr, ⊎-elim}
 use Prim.Native.Nat.{ℕ, _^_, _≤_, _<_}
 use native.Mathlib.Omega.{arith}
 use lib.Dec.{eqb}
-use borrow.Author.Tests.{eqb-true}
-use Rattle.bools.proofs.BoolLaws.{and-l, or-e, clash}
+use borrow.Author.Tests.{eqb-true, ne-eqb}
+use Rattle.bools.proofs.BoolLaws.{or-e, clash}
 use Rattle.sets.specs.Upto.{every, count}
 use Rattle.sets.specs.Sets.{has}
 use Rattle.sets.proofs.UptoLaws.{every-at}
 use Rattle.sets.proofs.TestLaws.{none-at}
 use Rattle.grid.specs.Sizes.{markFits, newMark}
-use Rattle.grid.proofs.SizeLaws.{new-mark-fits, new-mark-small, new-mark-tall}
+use Rattle.grid.proofs.SizeLaws.{mark-low, new-mark-fits, new-mark-small, new-mark-tall}
 use Rattle.fields.specs.declared.Laid.{Laid}
 use Rattle.fields.specs.Layout.{isEmpty, isTall}
 use Rattle.counties.specs.Counties.{several}
 use Rattle.counties.specs.Marks.{markNow, laidNow, markRight, tallTable, tallRight}
 use Rattle.counties.specs.Claims.{RuleOfMarks, LaidMarks}
-
--- a mark that fits a list within one county is not 3
-pub fits-not-three : (mark N : ℕ) → markFits mark N ≡ true → eqb mark 3 ≡ false
-unfolding markFits
-fits-not-three mark N h = ⊎-elim (is 0 refl) (λ e. ⊎-elim (λ d. is 1 refl (and-l _ _ d)) (λ d. is 2 refl (and-l _ _ d)) (or-e (eqb mark 1 && eqb N 5) _ e)) (or-e (eqb mark 0) _ h)
-  where
-    is : (m : ℕ) → eqb m 3 ≡ false → eqb mark m ≡ true → eqb mark 3 ≡ false
-    is m z e = ap (λ (x : ℕ). eqb x 3) (eqb-true mark m e) ∙ z
 
 -- a list that is not tall has mark 3 exactly where it is of several counties
 three-where : (county : ℕ → ℕ) (l : Laid) → markRight county l ≡ true → isTall l ≡ false → eqb (l .mark) 3 ≡ several county (has (l .members))
@@ -33,7 +25,7 @@ unfolding markRight isTall
 three-where county l h wide = go (several county (has (l .members))) h
   where
     go : (b : Bool) → cond b (eqb (l .mark) 3 || eqb (l .mark) 2) (markFits (l .mark) (count 64 (has (l .members)))) ≡ true → eqb (l .mark) 3 ≡ b
-    go false e = fits-not-three (l .mark) _ e
+    go false e = ne-eqb (l .mark) 3 (λ z. omega (arith, z, mark-low (l .mark) _ e))
     go true e = ⊎-elim (λ d. d) (λ d. absurd (clash (sym wide ∙ d))) (or-e (eqb (l .mark) 3) _ e)
 
 pub rule-of-marks : RuleOfMarks

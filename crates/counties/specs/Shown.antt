@@ -123,14 +123,16 @@ lossLines =
     ∷ Needed false threeAndOne Read (2 ∷ 4 ∷ [])
     ∷ Needed false twoAndTwo Read (1 ∷ 2 ∷ 3 ∷ 4 ∷ [])
     ∷ Needed true twoAndTwo Write (1 ∷ 2 ∷ 3 ∷ 4 ∷ [])
-    -- two counties bear the loss of any one machine from four machines in each on, three with four in the second, four with one in each
+    -- two counties bear the loss of any one machine with four machines in each, three with four in the second, four with one in each
     ∷ Needed false fourAndFour Write []
     ∷ Needed true fourAndFour Write []
+    ∷ Needed false (1 ∷ 1 ∷ 1 ∷ 2 ∷ 2 ∷ 2 ∷ 2 ∷ []) Write (2 ∷ [])
     ∷ Needed false oneFourOne Write []
     ∷ Needed true oneFourOne Write []
+    ∷ Needed false (1 ∷ 2 ∷ 2 ∷ 2 ∷ 3 ∷ []) Write (3 ∷ [])
     ∷ Needed false fourOfOne Write []
     ∷ Needed true fourOfOne Write []
-    ∷ Needed false fiveOfOne Write []
+    ∷ Needed false (1 ∷ 2 ∷ 3 ∷ []) Write (2 ∷ [])
     ∷ []
 
 -- ---- choices
@@ -148,10 +150,10 @@ choiceLines =
     ∷ Choice false threeAndOne Write 2 (1 ∷ 2 ∷ 3 ∷ 4 ∷ [])
     ∷ []
 
--- all 51 hold
+-- all 53 hold
 unfoldable pub ShownHold : Type 0
 ShownHold =
     ((length markLines ≡ 7) × Each Says markLines)
     × ((length quorumLines ≡ 24) × Each Says quorumLines)
-    × ((length lossLines ≡ 12) × Each Says lossLines)
+    × ((length lossLines ≡ 14) × Each Says lossLines)
     × ((length choiceLines ≡ 8) × Each Says choiceLines)

@@ -2,7 +2,7 @@
 use mathlib.Core.Path.{_≡_, refl, sym, _∙_, ap}
 use mathlib.Core.Logic.{_≢_, ⊎-elim}
 use mathlib.Core.Bool.{Bool, true, false, cond, _&&_, _||_}
-use Prim.Native.Nat.{ℕ, zero, suc, _+_, _-_, _*_, _^_, _≤_, _<_}
+use Prim.Native.Nat.{ℕ, zero, suc, _+_, _*_, _^_, _≤_, _<_}
 use native.Mathlib.Omega.{arith}
 use lib.Dec.{leb, ltb, eqb}
 use borrow.Author.Tests.{le-leb, leb-true, leb-false, ltb-true, ltb-false, eqb-true, eqb-false}
@@ -102,7 +102,19 @@ laid-fits mark N pos = either (λ (g : Grid). Fits g N) (eqb mark 2)
     (λ f. let five : N ≡ 5 = eqb-true N 5 (and-r (eqb mark 1 || eqb mark 3) _ f) in rw five five-fits)
     (λ f. published-fits N pos))
 
--- ---- the mark of a list laid now
+-- ---- marks of a list within one county
+-- one of 0 to 2
+pub mark-low : (mark N : ℕ) → markFits mark N ≡ true → mark ≤ 2
+unfolding markFits
+mark-low mark N e = ⊎-elim
+    (λ (a : eqb mark 0 ≡ true). omega (arith, eqb-true mark 0 a))
+    (λ b. ⊎-elim
+    (λ (c : (eqb mark 1 && eqb N 5) ≡ true). omega (arith, eqb-true mark 1 (and-l (eqb mark 1) (eqb N 5) c)))
+    (λ (c : (eqb mark 2 && leb 1 N) ≡ true). omega (arith, eqb-true mark 2 (and-l (eqb mark 2) (leb 1 N) c)))
+    (or-e (eqb mark 1 && eqb N 5) (eqb mark 2 && leb 1 N) b))
+    (or-e (eqb mark 0) ((eqb mark 1 && eqb N 5) || (eqb mark 2 && leb 1 N)) e)
+
+-- that of a list laid now
 pub new-mark-fits : (tall : Bool) (N : ℕ) → 1 ≤ N → markFits (newMark tall N) N ≡ true
 unfolding markFits newMark
 new-mark-fits true N some = le-leb 1 N some
