@@ -6,7 +6,7 @@ use quorums::Kind;
 use rows::RowSet;
 ghost use mathlib.Core.Path.{_≡_};
 ghost use mathlib.Core.Bool.{_&&_, cond};
-ghost use Prim.Native.Nat.{ℕ, _+_, _*_, _^_, _<_};
+ghost use Prim.Native.Nat.{ℕ, _+_, _*_, _/_, _^_, _<_};
 ghost use lib.Dec.{eqb};
 ghost use lib.ListN.{length, getD, take};
 ghost use Rattle.sets.specs.Upto.{Within, some, count};
@@ -14,14 +14,6 @@ ghost use Rattle.sets.specs.Sets.{has};
 ghost use Rattle.grid.specs.Sizes.{newMark};
 ghost use Rattle.table.specs.Contracts.{Listed};
 ghost use Rattle.counties.specs.Levels.{seats, atSeat, level, levelChoice};
-
-// One more where it counts.
-fn step(n: usize, counts: bool) -> usize
-    requires { ⌜ n < 64 ⌝ }
-    ensures { λ r. ⌜ r ≡ cond counts (n + 1) n ⌝ }
-{
-    if counts { n + 1 } else { n }
-}
 
 // The place, from 0, of the row that stands at j in the order.
 fn place_at(order: &[u8; 64], j: usize) -> usize
@@ -41,6 +33,16 @@ fn pushed(set: RowSet, counts: bool, b: bool) -> RowSet
         return RowSet {
             bits: if b { moved + 1 } else { moved },
         };
+    }
+    set
+}
+
+// Where `counts` holds, a set of positions without the first, each moved down by one; the set as it is otherwise.
+fn popped(set: RowSet, counts: bool) -> RowSet
+    ensures { λ r. ⌜ r .bits ≡ cond counts (set .bits / 2) (set .bits) ⌝ }
+{
+    if counts {
+        return RowSet { bits: set.bits / 2 };
     }
     set
 }
@@ -80,13 +82,14 @@ fn seated(order: &[u8; 64], count: usize, members: RowSet, positions: RowSet) ->
     ensures { λ r. ⌜ has (r .bits) ≡ (λ (i : ℕ). some 64 (λ k. has (positions .bits) k && atSeat (seats (take count (now (order .entry))) (has (members .bits))) (eqb i) k)) ⌝ }
 {
     let mut set = RowSet::EMPTY;
-    let mut passed = 0;
+    // the positions ahead, the next one first
+    let mut left = positions;
     let mut j = 0;
     while j < count {
         let place = place_at(order, j);
         let member = members.at(place);
-        set = set.add(place, both(member, positions.at(passed)));
-        passed = step(passed, member);
+        set = set.add(place, both(member, left.at(0)));
+        left = popped(left, member);
         j += 1;
     }
     set
