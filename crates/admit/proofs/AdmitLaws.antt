@@ -11,7 +11,7 @@ use lib.ListN.{length, take, drop}
 use Rattle.bytes.specs.Bytes.{put}
 use Rattle.bytes.proofs.CodeLaws.{part-length, part-back, part-is}
 use Rattle.blocks.specs.Blocks.{block, withBlock}
-use Rattle.fields.specs.Layout.{store, used, first, name, link, capacityOf, usedOf, firstOf, linkOf, rowLength, rowsEnd, rowBytes, withRow}
+use Rattle.fields.specs.Layout.{store, used, first, name, link, county, capacityOf, usedOf, firstOf, linkOf, rowLength, rowsEnd, rowBytes, withRow}
 use Rattle.fields.proofs.FieldLaws.{length-store, head-room}
 use Rattle.table.specs.Contracts.{Sized}
 use Rattle.table.proofs.WellFormedLaws.{rows-in}
@@ -47,27 +47,28 @@ module _ {t : List ℕ} (s : Sized t) (room : usedOf t < capacityOf t) where
   unfolding rowsEnd
   link-fits size p es h = rw es (omega (arith, head-room t), rows-in s p (omega arith))
 
-  -- a name and a link leave the length of rows
-  width : (x next : ℕ) → rowLength (withRow t (suc (usedOf t)) (namedRow x next)) ≡ rowLength t
-  unfolding namedRow name link
-  width x next =
+  -- a name, a link and a county leave the length of rows
+  width : (x next y : ℕ) → rowLength (withRow t (suc (usedOf t)) (namedRow x next y)) ≡ rowLength t
+  unfolding namedRow name link county
+  width x next y =
       let row = rowBytes t (suc (usedOf t)) in
       let l : length row ≡ rowLength t = row-long t (suc (usedOf t)) roomy (suc (usedOf t)) (omega arith) in
       let n : length (store name x row) ≡ length row = length-store name x row (omega (arith, head-room t)) in
-      like-length (one-row t (suc (usedOf t)) (usedOf t) roomy (omega arith) (namedRow x next)
-      (length-store link next (store name x row) (omega (arith, head-room t)) ∙ n ∙ l) .like)
+      let m : length (store link next (store name x row)) ≡ length (store name x row) = length-store link next (store name x row) (omega (arith, head-room t)) in
+      like-length (one-row t (suc (usedOf t)) (usedOf t) roomy (omega arith) (namedRow x next y)
+      (length-store county y (store link next (store name x row)) (omega (arith, head-room t)) ∙ m ∙ n ∙ l) .like)
 
-  pub admitted : (p x size n start next front : ℕ) (new led counted last : List ℕ)
+  pub admitted : (p x y size n start next front : ℕ) (new led counted last : List ℕ)
       → size ≡ rowLength t → n ≡ usedOf t → start ≡ firstOf t → next ≡ behind start (linkOf t) p → front ≡ cond (eqb p 0) (n + 1) start
-      → new ≡ withBlock 16 size (suc n) (namedRow x next) t → led ≡ withBlock 16 size p (store link (n + 1)) new
-      → counted ≡ store used (n + 1) led → last ≡ store first front counted → last ≡ joinedBehind t p x
+      → new ≡ withBlock 16 size (suc n) (namedRow x next y) t → led ≡ withBlock 16 size p (store link (n + 1)) new
+      → counted ≡ store used (n + 1) led → last ≡ store first front counted → last ≡ joinedBehind t p x y
   unfolding joinedBehind withRow
-  admitted p x size n start next front new led counted last es en ef ex er e1 e2 e3 e4 =
+  admitted p x y size n start next front new led counted last es en ef ex er e1 e2 e3 e4 =
       let w = suc (usedOf t) in
       let row : n + 1 ≡ w = add-one n ∙ ap suc en in
       let after = behind (firstOf t) (linkOf t) p in
-      let named : new ≡ withRow t w (namedRow x after) =
-      e1 ∙ ap₂ (λ (z m : ℕ). withBlock 16 z (suc m) (namedRow x next) t) es en ∙ ap (λ (m : ℕ). withRow t w (namedRow x m)) (ex ∙ ap (λ (i : ℕ). behind i (linkOf t) p) ef) in
-      let linked : led ≡ withRow (withRow t w (namedRow x after)) p (store link w) =
-      e2 ∙ ap₂ (λ (i : ℕ) (l : List ℕ). withBlock 16 size p (store link i) l) row named ∙ ap (λ (z : ℕ). withBlock 16 z p (store link w) (withRow t w (namedRow x after))) (es ∙ sym (width x after)) in
+      let named : new ≡ withRow t w (namedRow x after y) =
+      e1 ∙ ap₂ (λ (z m : ℕ). withBlock 16 z (suc m) (namedRow x next y) t) es en ∙ ap (λ (m : ℕ). withRow t w (namedRow x m y)) (ex ∙ ap (λ (i : ℕ). behind i (linkOf t) p) ef) in
+      let linked : led ≡ withRow (withRow t w (namedRow x after y)) p (store link w) =
+      e2 ∙ ap₂ (λ (i : ℕ) (l : List ℕ). withBlock 16 size p (store link i) l) row named ∙ ap (λ (z : ℕ). withBlock 16 z p (store link w) (withRow t w (namedRow x after y))) (es ∙ sym (width x after y)) in
       e4 ∙ ap₂ (store first) (er ∙ ap₂ (cond (eqb p 0)) row ef) (e3 ∙ ap₂ (store used) row linked)

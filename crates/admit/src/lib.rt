@@ -10,22 +10,23 @@ ghost use Rattle.table.specs.Contracts.{Sized};
 ghost use Rattle.linking.specs.Linking.{behind};
 ghost use Rattle.joining.specs.Joining.{namedRow, joinedBehind};
 
-// A row gets a name and a link.
-fn name_row(row: &mut [u8], name: u16, next: u8)
+// A row gets a name, a link and a county.
+fn name_row(row: &mut [u8], name: u16, next: u8, county: u8)
     requires { ⌜ 32 ≤ length (now row) ⌝ }
-    ensures { λ r. ⌜ now (row .exit) ≡ namedRow name next (now (row .entry)) ⌝ }
+    ensures { λ r. ⌜ now (row .exit) ≡ namedRow name next county (now (row .entry)) ⌝ }
 {
     fields::set_name(row, name);
     fields::set_link(row, next);
+    fields::set_county(row, county);
 }
 
 // The row behind the first k gets them.
-fn add_row(t: &mut [u8], size: usize, k: usize, name: u16, next: u8)
+fn add_row(t: &mut [u8], size: usize, k: usize, name: u16, next: u8, county: u8)
     requires { ⌜ (32 ≤ size) × (16 + k * size + size ≤ length (now t)) ⌝ }
-    ensures { λ r. ⌜ now (t .exit) ≡ withBlock 16 size (suc k) (namedRow name next) (now (t .entry)) ⌝ }
+    ensures { λ r. ⌜ now (t .exit) ≡ withBlock 16 size (suc k) (namedRow name next county) (now (t .entry)) ⌝ }
 {
     let at = header::HEADER + k * size;
-    name_row(&mut t[at..at + size], name, next);
+    name_row(&mut t[at..at + size], name, next, county);
 }
 
 // The link of row p; there is no row 0.
@@ -58,17 +59,17 @@ fn front(p: usize, row: u8, first: u8) -> u8
     if p == 0 { row } else { first }
 }
 
-// The first unused row gets a name and is put into the chain behind row p, in front where p is 0.
-pub fn admit(t: &mut [u8], p: usize, name: u16)
+// The first unused row gets a name and a county and is put into the chain behind row p, in front where p is 0.
+pub fn admit(t: &mut [u8], p: usize, name: u16, county: u8)
     requires { ⌜ Sized (now t) × (usedOf (now t) < capacityOf (now t)) × (p ≤ usedOf (now t)) ⌝ }
-    ensures { λ r. ⌜ now (t .exit) ≡ joinedBehind (now (t .entry)) p name ⌝ }
+    ensures { λ r. ⌜ now (t .exit) ≡ joinedBehind (now (t .entry)) p name county ⌝ }
 {
     let size = table::row_length(t);
     let used = header::used(t);
     let first = header::first(t) as u8;
     let count = used as u8;
     let row = count + 1;
-    add_row(t, size, used, name, row_behind(t, p, first));
+    add_row(t, size, used, name, row_behind(t, p, first), county);
     link_row(t, size, p, row);
     header::set_used(t, row);
     header::set_first(t, front(p, row, first));

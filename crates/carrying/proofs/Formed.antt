@@ -18,13 +18,15 @@ use Rattle.bytes.specs.Bytes.{number, part, zeros, allZero}
 use Rattle.bytes.proofs.ByteLaws.{length-zeros, zeros-zero, first-zeros, split-zeros}
 use Rattle.blocks.specs.Blocks.{block, inTurn}
 use Rattle.blocks.proofs.BlockLaws.{in-turn-ext, length-in-turn, in-turn-more, in-turn-zeros}
-use Rattle.fields.specs.Layout.{Field, get, store, formValue, restIn, name, link, version, desired, epoch, members, gridMark, list, isEmpty, reservedIn, formerMark, formerOldest, markIn, oldestIn, spareIn, records, copyOf, bodyIn, strideIn, formOf, capacityOf, usedOf, firstOf, fileLengthOf, rowLength, rowsEnd, rowBytes, nameOf, linkOf, listOf}
+use Rattle.fields.specs.Layout.{Field, get, store, formValue, restIn, name, link, version, desired, epoch, members, gridMark, county, list, isEmpty, reservedIn, formerMark, formerOldest, markIn, oldestIn, spareIn, records, copyOf, bodyIn, strideIn, formOf, capacityOf, usedOf, firstOf, fileLengthOf, rowLength, rowsEnd, rowBytes, nameOf, linkOf, listOf, countyOf}
 use Rattle.fields.proofs.FieldLaws.{Ends, list-is, body-in}
 use Rattle.window.specs.Windows.{places, width, windowRight, windowIn, emptied}
 use Rattle.window.proofs.AddLaws.{emptied-right}
+use Rattle.counties.specs.Marks.{tallRight}
 use Rattle.table.specs.Contracts.{Sized}
-use Rattle.table.specs.WellFormed.{between, limit, ownForm, headerValues, lengthRight, headValues, copyValues, desiredRight, listRight, gridRight, plain, plainRight, keptRight, headRight, copyRight, rowRight, visitsEach, namesRise, unusedZero, listsAgree, tallRight}
+use Rattle.table.specs.WellFormed.{between, limit, ownForm, headerValues, lengthRight, headValues, copyValues, desiredRight, listRight, countyRight, plain, plainRight, keptRight, headRight, copyRight, rowRight, visitsEach, namesRise, unusedZero, listsAgree, marksRight}
 use Rattle.table.proofs.FormLaws.{between-is, is-between, reserved-split, row-head, row-copy, row-reserved}
+use Rattle.table.proofs.CountyLaws.{county-same}
 use Rattle.table.proofs.TableLaws.{row-long}
 use Rattle.table.proofs.WellFormedLaws.{own-sized, own-linked, row-right, header, length-is, rows-in}
 use Rattle.carrying.specs.Moves.{goesOver, allPlain, carriedRow, carried, carriedLength}
@@ -124,9 +126,10 @@ module _ (f to n i file : ℕ) (row : List ℕ) (over : Over f to) (h : 32 + fil
     unfolding listRight isEmpty list members
     list-same = rw (at members (omega arith))
 
-    grid-same : gridRight (carriedRow to file row) ≡ gridRight row
-    unfolding gridRight members gridMark
-    grid-same = rw (at members (omega arith), at gridMark (omega arith))
+    -- no form that a table moves to has counties
+    county-new : countyRight to (carriedRow to file row) ≡ true
+    unfolding countyRight
+    county-new = rw (lt-leb 5 to (omega (arith, low)))
 
     plain-new : plainRight to (carriedRow to file row) ≡ true
     unfolding plainRight
@@ -140,8 +143,7 @@ module _ (f to n i file : ℕ) (row : List ℕ) (over : Over f to) (h : 32 + fil
     unfolding headRight
     head-over =
         let e1 = and-r (headValues f n row) _ e in
-        let e2 = and-r (listRight n i row) _ e1 in
-        and-i _ _ values-new (and-i _ _ (list-same ∙ and-l _ _ e1) (and-i _ _ (grid-same ∙ and-l _ _ e2) plain-new))
+        and-i _ _ values-new (and-i _ _ (list-same ∙ and-l _ _ e1) (and-i _ _ county-new plain-new))
 
   -- and its copy, which it is itself
   module _ (e : copyRight f file row ≡ true) where
@@ -220,7 +222,7 @@ module _ (t : List ℕ) (to : ℕ) (own : ownForm t ≡ true) (over : Over (form
 
   form-in : between 1 to formValue ≡ true
   unfolding formValue
-  form-in = is-between 1 to 4 (low-to .0) (omega (arith, low-to))
+  form-in = is-between 1 to formValue (low-to .0) (omega (arith, low-to))
 
   -- before form 4 the header's bytes from the sixth on are zero
   rest-in : (f : ℕ) (u : List ℕ) → f < 4 → restIn f u ≡ part 6 10 u
@@ -289,8 +291,17 @@ module _ (t : List ℕ) (to : ℕ) (own : ownForm t ≡ true) (over : Over (form
   unfolding namesRise
   rise-new = rw (links-same, names-same, carried-used s former to lower, carried-first s former to lower)
 
-  tall-new : tallRight (carried to t) ≡ tallRight t
-  unfolding tallRight
+  counties-same : countyOf (carried to t) ≡ countyOf t
+  unfolding get county
+  counties-same = county-same t (carried to t) (carried-used s former to lower)
+      (λ i w. let v : Within (capacityOf t) i = omega (arith, w, header (s .header) .used) in
+      ap (get county) (carried-row s former to lower i v) ∙ ap number (carried-part to (fileLengthOf t) (rowBytes t i) lower (wide s former i v) 26 1 (inr (omega arith)) (omega arith)))
+
+  marks-new : marksRight (carried to t) ≡ marksRight t
+  unfolding marksRight
+  marks-new = rw (lists-same, counties-same, carried-used s former to lower)
+
+  tall-new : tallRight (usedOf (carried to t)) (listOf (carried to t)) ≡ tallRight (usedOf t) (listOf t)
   tall-new = rw (lists-same, carried-used s former to lower)
 
   agree-new : (i j : ℕ) → listsAgree (rowBytes (carried to t) i) (rowBytes (carried to t) j) ≡ listsAgree (rowBytes t i) (rowBytes t j)
@@ -331,12 +342,13 @@ module _ (t : List ℕ) (to : ℕ) (own : ownForm t ≡ true) (over : Over (form
       let e4 = and-r (visitsEach t) _ e3 in
       let e5 = and-r (namesRise t) _ e4 in
       let e6 = and-r (unusedZero t) _ e5 in
+      let e7 = and-r (every (usedOf t) (λ i. every (usedOf t) (λ j. listsAgree (rowBytes t i) (rowBytes t j)))) _ e6 in
       let agree : every (usedOf t) (λ i. every (usedOf t) (λ j. listsAgree (rowBytes t i) (rowBytes t j))) ≡ true = and-l _ _ e6 in
       let agreed : every (usedOf (carried to t)) (λ i. every (usedOf (carried to t)) (λ j. listsAgree (rowBytes (carried to t) i) (rowBytes (carried to t) j))) ≡ true =
       rw (carried-used s former to lower) (every-of (usedOf t) _ (λ i w. every-of (usedOf t) _ (λ j v. agree-new i j ∙ every-at (usedOf t) _ (every-at (usedOf t) _ agree i w) j v))) in
       and-i _ _ header-new (and-i _ _ length-new (and-i _ _ rows-new (and-i _ _ (visits-new ∙ and-l _ _ e3) (and-i _ _ (rise-new ∙ and-l _ _ e4) (and-i _ _ zero-new (and-i _ _
       agreed
-      (tall-new ∙ and-r (every (usedOf t) (λ i. every (usedOf t) (λ j. listsAgree (rowBytes t i) (rowBytes t j)))) _ e6)))))))
+      (and-i _ _ (marks-new ∙ and-l _ _ e7) (tall-new ∙ and-r (marksRight t) _ e7))))))))
 
 pub carried-right : CarriedRight
 unfolding CarriedRight

@@ -12,6 +12,7 @@ pub fn follow(t: &[u8], order: &mut [u8; 64]) -> bool
     requires { ⌜ Linked (now t) ⌝ }
     ensures { λ r. ⌜ (r ≡ (visitsEach (now (t .entry)) && namesRise (now (t .entry)))) × (r ≡ true → Ordered (now (t .entry)) (now (order .exit))) × (now (order .exit) ≡ walkedInto (now (t .entry)) (now (order .entry))) ⌝ }
 {
+    let size = table::row_length(t);
     // a slice tells how many elements it has
     let rows = &mut order[..];
     let used = header::used(t);
@@ -23,7 +24,7 @@ pub fn follow(t: &[u8], order: &mut [u8; 64]) -> bool
         if next == 0 {
             return false;
         }
-        let row = table::row_of(t, next);
+        let row = table::row_at(t, size, next);
         let name = fields::name(row);
         if name <= low {
             return false;

@@ -1,23 +1,23 @@
 -- The charts computed: how many numbers they have, what some of them are, and the calls' answers.
 use mathlib.Core.Path.{_≡_, refl}
-use mathlib.Core.Bool.{Bool, true, not, _&&_, _||_}
-use mathlib.Core.Logic.{⊎-elim}
+use mathlib.Core.Bool.{Bool, true, not, _&&_, _||_, and-false}
 use Prim.Native.Nat.{ℕ, _+_, _-_, _≤_}
 use native.Mathlib.Omega.{arith}
 use lib.Dec.{leb, eqb}
 use lib.ListN.{length, replicate}
 use borrow.Author.Tests.{leb-true, eqb-true}
-use Rattle.bools.proofs.BoolLaws.{and-l, and-r, or-e}
+use Rattle.bools.proofs.BoolLaws.{and-l, and-r}
 use Rattle.sets.specs.Upto.{Within, every, some, upward, keep}
 use Rattle.sets.specs.Sets.{has, losing}
 use Rattle.sets.proofs.UptoLaws.{every-at}
 use Rattle.grid.specs.Sizes.{root, rootUp, published, newFive, exchanged, gridBy, markFits, columnOf}
+use Rattle.grid.proofs.SizeLaws.{mark-low}
 use Rattle.quorums.specs.Quorums.{touches, covers, readQuorum, writeQuorum, quorum}
 use Rattle.quorums.proofs.StarredLaws.{allPass, each-of}
 use Rattle.bytes.specs.Bytes.{bytesOf, put}
 use Rattle.asking.specs.Asking.{firstNo}
 use Rattle.charting.specs.Charts.{smallest, chart, inPlaces, hasChart, places, chartQuestions, charted}
-use Rattle.charting.specs.Claims.{PlacesSuffice, ChartsShown, ListShown, Case, Asked, Answered, cases, CasesHold}
+use Rattle.charting.specs.Claims.{ThreeHasNoChart, PlacesSuffice, ChartsShown, ListShown, Case, Asked, Answered, cases, CasesHold}
 
 -- ---- charts and calls
 pub charts-shown : ChartsShown
@@ -44,6 +44,11 @@ pub cases-hold : CasesHold
 unfolding CasesHold cases
 cases-hold = (refl, each-of Answered caseHolds case-says cases computed)
 
+-- ---- no list within one county has mark 3
+pub three-has-no-chart : ThreeHasNoChart
+unfolding ThreeHasNoChart charted chartQuestions firstNo hasChart markFits
+three-has-no-chart N list = rw (and-false (leb N 9), and-false (leb 1 N))
+
 -- ---- no chart has more numbers than there are places: one test over the marks 0 to 2 and the lengths 1 to 9
 roomy : ℕ → ℕ → Bool
 roomy mark N = not (hasChart N mark) || leb (length (chart (gridBy mark N) N)) places
@@ -56,17 +61,6 @@ pub chart-length : (N mark : ℕ) → hasChart N mark ≡ true → Within 9 N
 unfolding hasChart
 chart-length N mark e =
     let r : (leb N 9 && markFits mark N) ≡ true = and-r (leb 1 N) _ e in (leb-true 1 N (and-l _ _ e), leb-true N 9 (and-l _ _ r))
-
--- a list has one of the marks 0 to 2
-pub mark-low : (mark N : ℕ) → markFits mark N ≡ true → mark ≤ 2
-unfolding markFits
-mark-low mark N e = ⊎-elim
-    (λ (a : eqb mark 0 ≡ true). omega (arith, eqb-true mark 0 a))
-    (λ b. ⊎-elim
-    (λ (c : (eqb mark 1 && eqb N 5) ≡ true). omega (arith, eqb-true mark 1 (and-l (eqb mark 1) (eqb N 5) c)))
-    (λ (c : (eqb mark 2 && leb 1 N) ≡ true). omega (arith, eqb-true mark 2 (and-l (eqb mark 2) (leb 1 N) c)))
-    (or-e (eqb mark 1 && eqb N 5) (eqb mark 2 && leb 1 N) b))
-    (or-e (eqb mark 0) ((eqb mark 1 && eqb N 5) || (eqb mark 2 && leb 1 N)) e)
 
 pub chart-mark : (N mark : ℕ) → hasChart N mark ≡ true → mark ≤ 2
 unfolding hasChart

@@ -48,6 +48,10 @@ unfoldable pub UnusedStay : Type 0
 UnusedStay = (N mark : ℕ) (list : List ℕ) → (length (charted N mark list .list) ≡ length list)
     × (drop (2 * charted N mark list .value) (charted N mark list .list) ≡ drop (2 * charted N mark list .value) list)
 
+-- "the wall chart, where mark 3 gives 17": it is for lists within one county
+unfoldable pub ThreeHasNoChart : Type 0
+ThreeHasNoChart = (N : ℕ) (list : List ℕ) → charted N 3 list .refusal ≡ 17
+
 -- ---- computed
 -- "Four published members give 7, 11, 13, 14"; the published five, the new five and the tall five
 unfoldable pub ChartsShown : Type 0

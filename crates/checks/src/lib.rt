@@ -19,7 +19,8 @@ ghost use Rattle.sets.specs.Sets.{has};
 ghost use Rattle.quorums.specs.declared.Kind.the-variants.{Write};
 ghost use Rattle.fields.specs.Layout.{isEmpty, formValue, formOf, usedOf};
 ghost use Rattle.table.specs.Contracts.{Sized, Listed};
-ghost use Rattle.protocol.specs.Lists.{listQuorum};
+ghost use Rattle.counties.specs.Counties.{listQuorum};
+ghost use Rattle.grouping.specs.Grouped.{Apart, frameBy};
 ghost use Rattle.protocol.specs.Calls.{answers, resultOf, outcome, check};
 ghost use Rattle.verdicts.specs.Judged.{Tallied};
 ghost use Rattle.checks.specs.Surveyed.{Surveyed};
@@ -33,14 +34,21 @@ fn has_whole(s: RowSet, list: Laid) -> bool
 }
 
 // Question 6 of a set; it is not asked where its answer is known.
-fn held_unless(known: bool, order: &[u8; 64], count: usize, list: Laid, s: RowSet) -> bool
-    requires { ⌜ Listed count (now order) count ⌝ }
-    ensures { λ r. ⌜ r ≡ (known || (not (isEmpty list) && listQuorum Write (take count (now (order .entry))) list (has (s .bits)))) ⌝ }
+fn held_unless(
+    known: bool,
+    order: &[u8; 64],
+    count: usize,
+    sets: &[u64; 8],
+    list: Laid,
+    s: RowSet,
+) -> bool
+    requires { ⌜ Listed count (now order) count × Apart (now sets) ⌝ }
+    ensures { λ r. ⌜ r ≡ (known || (not (isEmpty list) && listQuorum Write (frameBy (take count (now (order .entry))) (now (sets .entry))) list (has (s .bits)))) ⌝ }
 {
     if known {
         return true;
     }
-    quorum_held(Kind::Write, order, count, list, s)
+    quorum_held(Kind::Write, order, count, sets, list, s)
 }
 
 // What is found of a set in each file: its good rows and their version; and is it current for every file? Place q − 1 is for file q.
@@ -76,11 +84,14 @@ fn look_through(t: &[u8], s: RowSet, first: Tally) -> Survey
     }
 }
 
-// An epoch check: the rows that answered become the list of a new epoch, unless they are the list in force.
+// An epoch check: the rows that answered become the list of a new epoch, and the counts of the sheet 0, unless they are the list in force.
 // Value: the epoch number in force.
-pub fn check(t: &mut [u8], c: usize, r: u64) -> u64
-    ensures { λ x. ⌜ (let o = outcome (now (t .entry)) (check (record { c = c; r = r })) in (x ≡ resultOf o) × (now (t .exit) ≡ o .table)) ⌝ }
+pub fn check(t: &mut [u8], c: usize, r: u64, sheet: &mut [u8]) -> u64
+    ensures { λ x. ⌜ (let o = outcome (now (t .entry)) (check (record { c = c; r = r; sheet = now (sheet .entry) })) in (x ≡ resultOf o) × (now (t .exit) ≡ o .table) × (now (sheet .exit) ≡ o .sheet)) ⌝ }
 {
+    if !sheets::is_right(sheet) {
+        return result(1, 0);
+    }
     let answering = RowSet { bits: r };
     let mut order = [0u8; 64];
     let no = coordinator_asked(t, c, answering, &mut order);
@@ -95,7 +106,8 @@ pub fn check(t: &mut [u8], c: usize, r: u64) -> u64
     }
     let whole = has_whole(answering, v.list);
     let count = header::used(t);
-    if !held_unless(whole, &order, count, v.list, answering) {
+    let sets = grouping::group(t);
+    if !held_unless(whole, &order, count, &sets, v.list, answering) {
         return result(6, 0);
     }
     let good = v.good;
@@ -113,9 +125,10 @@ pub fn check(t: &mut [u8], c: usize, r: u64) -> u64
     }
     let epoch = v.epoch + 1;
     let tall = v.list.is_tall();
-    let list = lists::laid_now(tall, answering);
+    let list = grouping::laid_now(tall, &sets, answering);
     let goods = found.goods;
     let versions = found.versions;
     enroll::check_rows(t, answering, &goods, &versions, epoch, list);
+    sheets::clear(sheet);
     result(0, epoch)
 }

@@ -9,10 +9,10 @@ use Rattle.quorums.specs.declared.Kind.{Kind}
 use Rattle.quorums.specs.declared.Kind.the-variants.{Read, Write}
 use Rattle.bytes.specs.Bytes.{bytesOf}
 use Rattle.fields.specs.Layout.{nameOf, listOf}
-use Rattle.table.specs.Chain.{orderOf}
+use Rattle.table.specs.Chain.{frameOf}
 use Rattle.table.specs.WellFormed.{wellFormed}
 use Rattle.asking.specs.Asking.{Question, firstNo}
-use Rattle.protocol.specs.Lists.{listChoice}
+use Rattle.counties.specs.Counties.{listChoice}
 use Rattle.protocol.specs.Calls.{isUsed}
 
 -- kind 0 is a read, 1 a write
@@ -21,7 +21,7 @@ kindOf kind = cond (eqb kind 0) Read Write
 
 -- the set that c calls first: its own choice over its own list; empty where that list is
 unfoldable pub firstCalled : Kind → List ℕ → ℕ → ℕ → Bool
-firstCalled kind t c = listChoice kind (orderOf t) (listOf t c) (nameOf t c)
+firstCalled kind t c = listChoice kind (frameOf t) (listOf t c) (nameOf t c)
 
 -- rows 1 to n that pass, as a number: bit i − 1 for row i
 unfoldable pub numberOf : ℕ → (ℕ → Bool) → ℕ

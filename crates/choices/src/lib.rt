@@ -32,7 +32,8 @@ pub fn choice(t: &[u8], c: usize, kind: u64, set: &mut [u8]) -> u64
     }
     let row = table::row_of(t, c);
     let list = fields::list(row);
-    let rows = lists::choice(kind_of(kind), &order, used, list, fields::name(row));
+    let sets = grouping::group(t);
+    let rows = tiers::choice(kind_of(kind), &order, used, &sets, list, fields::name(row));
     bytes::store_at(set, 0, 8, rows.bits);
     result(0, rows.size() as u32)
 }

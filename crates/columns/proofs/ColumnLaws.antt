@@ -8,12 +8,12 @@ use native.Mathlib.Decide.{decLe, decLt, ℕ-discrete}
 use native.Mathlib.Omega.{arith}
 use lib.Dec.{eqb, leb, leb·suc-suc}
 use borrow.Author.Tests.{not-true, le-leb, lt-leb, leb-true, eq-eqb, ne-eqb}
-use Rattle.bools.proofs.BoolLaws.{and-l, and-r, and-i, or-l, or-r, or-e, clash, same-test}
+use Rattle.bools.proofs.BoolLaws.{and-l, and-r, and-i, or-l, or-r, or-e, clash, same-test, not-not}
 use Rattle.sets.specs.Upto.{Within, every, some, count, lowest}
 use Rattle.sets.specs.Sets.{has, losing, joining, cutTo, leftOf, firstRows}
 use Rattle.sets.proofs.UptoLaws.{every-at, every-of, every-ext, some-at, some-of, some-none, not-every, count-ext, lowest-at}
 use Rattle.sets.proofs.TestLaws.{none-at}
-use Rattle.sets.proofs.CountLaws.{count-to, count-one, count-less}
+use Rattle.sets.proofs.CountLaws.{count-less, some-count}
 use Rattle.sets.proofs.SetLaws.{empty-at, first-in, first-out, first-within}
 use Rattle.grid.specs.declared.Grid.{Grid}
 use Rattle.grid.specs.Sizes.{columnOf}
@@ -24,16 +24,6 @@ use Rattle.charting.specs.Charts.{smallest}
 use Rattle.columns.specs.Columns.{heldIn, twice, ColumnsOf}
 use Rattle.charting.proofs.SmallestLaws.{smallest-writes, stops, smallest-of, lost, lose-part}
 
-some-count : (N : ℕ) (p : ℕ → Bool) → some N p ≡ leb 1 (count N p)
-unfolding count
-some-count N p = same-test _ _
-    (λ e. let r = some-at N p e in le-leb 1 (count N p) (count-one N p (r .0) (r .1) (r .2)))
-    (λ e. go (some N p) refl (leb-true 1 (count N p) e))
-  where
-    go : (b : Bool) → some N p ≡ b → 1 ≤ count N p → b ≡ true
-    go true e h = refl
-    go false e h = absurd (omega (arith, count-ext N p (λ i. false) (none-at N p e), count-to 0 (λ i. false) (λ i l. refl) N (omega arith)))
-
 touches-count : (n N : ℕ) (held : ℕ → Bool) (j : ℕ) → touches n N held j ≡ leb 1 (heldIn n N held j)
 unfolding touches heldIn
 touches-count n N held j = some-count N (λ k. held k && eqb j (columnOf n k))
@@ -43,16 +33,12 @@ no-gap : (n N : ℕ) (held : ℕ → Bool) (j : ℕ) → covers n N held j ≡ n
 unfolding touches covers
 no-gap n N held j =
     every-ext N _ (λ k. not (not (held k) && eqb j (columnOf n k))) (λ k w. one (held k) (eqb j (columnOf n k)))
-    ∙ not-twice (every N (λ k. not (not (held k) && eqb j (columnOf n k))))
+    ∙ sym (not-not (every N (λ k. not (not (held k) && eqb j (columnOf n k)))))
     ∙ ap not (not-every N (λ k. not (held k) && eqb j (columnOf n k)))
   where
     one : (a b : Bool) → (a || not b) ≡ not (not a && b)
     one true b = refl
     one false b = refl
-
-    not-twice : (a : Bool) → a ≡ not (not a)
-    not-twice true = refl
-    not-twice false = refl
 
 column-in : (n k : ℕ) → 1 ≤ n → Within n (columnOf n k)
 unfolding columnOf

@@ -9,9 +9,9 @@ ghost use Rattle.protocol.specs.Calls.{founding, join, read, write, send, check
 // The number of this interface: it rises with every change of a signature, so that header and archive can be compared.
 #[no_mangle]
 pub extern "C" fn grid_interface() -> u64
-    ensures { λ r. ⌜ r ≡ 8 ⌝ }
+    ensures { λ r. ⌜ r ≡ 10 ⌝ }
 {
-    8
+    10
 }
 
 #[no_mangle]
@@ -22,19 +22,20 @@ pub extern "C" fn grid_found(
     names: &[u8],
     choice: u64,
     files: u64,
+    counties: &[u8],
 ) -> u64
-    ensures { λ r. ⌜ (let o = outcome (now (table .entry)) (founding (record { capacity = capacity; fileLength = file; names = now (names .entry); choice = choice; files = files })) in (r ≡ resultOf o) × (now (table .exit) ≡ o .table) × (now (names .exit) ≡ now (names .entry))) ⌝ }
+    ensures { λ r. ⌜ (let o = outcome (now (table .entry)) (founding (record { capacity = capacity; fileLength = file; names = now (names .entry); choice = choice; files = files; counties = now (counties .entry) })) in (r ≡ resultOf o) × (now (table .exit) ≡ o .table) × (now (names .exit) ≡ now (names .entry)) × (now (counties .exit) ≡ now (counties .entry))) ⌝ }
 {
     let rows = capacity as usize;
     let long = file as usize;
-    founding::found(table, rows, long, names, choice, files as usize)
+    founding::found(table, rows, long, names, choice, files as usize, counties)
 }
 
 #[no_mangle]
-pub extern "C" fn grid_join(table: &mut [u8], name: u16) -> u64
-    ensures { λ r. ⌜ (let o = outcome (now (table .entry)) (join (record { name = name })) in (r ≡ resultOf o) × (now (table .exit) ≡ o .table)) ⌝ }
+pub extern "C" fn grid_join(table: &mut [u8], name: u16, county: u64) -> u64
+    ensures { λ r. ⌜ (let o = outcome (now (table .entry)) (join (record { name = name; county = county })) in (r ≡ resultOf o) × (now (table .exit) ≡ o .table)) ⌝ }
 {
-    joins::join(table, name)
+    joins::join(table, name, county)
 }
 
 #[no_mangle]
@@ -65,12 +66,24 @@ pub extern "C" fn grid_write(
     patch: &[u8],
     called: &mut [u8],
     file: u64,
+    sheet: &mut [u8],
+    club: u64,
 ) -> u64
-    ensures { λ r. ⌜ (let o = outcome (now (table .entry)) (write (record { c = coordinator; r = answering; offset = offset; patch = now (patch .entry); called = now (called .entry); file = file })) in (r ≡ resultOf o) × (now (table .exit) ≡ o .table) × (now (patch .exit) ≡ now (patch .entry)) × (now (called .exit) ≡ o .called)) ⌝ }
+    ensures { λ r. ⌜ (let o = outcome (now (table .entry)) (write (record { c = coordinator; r = answering; offset = offset; patch = now (patch .entry); called = now (called .entry); file = file; sheet = now (sheet .entry); club = club })) in (r ≡ resultOf o) × (now (table .exit) ≡ o .table) × (now (patch .exit) ≡ now (patch .entry)) × (now (called .exit) ≡ o .called) × (now (sheet .exit) ≡ o .sheet)) ⌝ }
 {
     let writer = coordinator as usize;
     let to = offset as usize;
-    writes::write(table, writer, answering, to, patch, called, file)
+    writes::write(
+        table,
+        writer,
+        answering,
+        to,
+        patch,
+        called,
+        file,
+        sheet,
+        club,
+    )
 }
 
 #[no_mangle]
@@ -81,10 +94,15 @@ pub extern "C" fn grid_send(table: &mut [u8], from: u64, to: u64, answering: u64
 }
 
 #[no_mangle]
-pub extern "C" fn grid_check(table: &mut [u8], coordinator: u64, answering: u64) -> u64
-    ensures { λ r. ⌜ (let o = outcome (now (table .entry)) (check (record { c = coordinator; r = answering })) in (r ≡ resultOf o) × (now (table .exit) ≡ o .table)) ⌝ }
+pub extern "C" fn grid_check(
+    table: &mut [u8],
+    coordinator: u64,
+    answering: u64,
+    sheet: &mut [u8],
+) -> u64
+    ensures { λ r. ⌜ (let o = outcome (now (table .entry)) (check (record { c = coordinator; r = answering; sheet = now (sheet .entry) })) in (r ≡ resultOf o) × (now (table .exit) ≡ o .table) × (now (sheet .exit) ≡ o .sheet)) ⌝ }
 {
-    checks::check(table, coordinator as usize, answering)
+    checks::check(table, coordinator as usize, answering, sheet)
 }
 
 // A table carried over to another form, into a second buffer.

@@ -61,7 +61,7 @@ module _ (f : Field) (v : ℕ) (xs : List ℕ) (h : Ends f (length xs)) where
   -- a field before the head's bytes that hold nothing
   pub reserved-store : f .place + f .width ≤ 3 → reserved (store f v xs) ≡ reserved xs
   unfolding reserved
-  reserved-store q = ap₂ (λ (x y : List ℕ). x ++ y) (part-store 3 9 (inr q)) (part-store 25 7 (inr (omega arith)))
+  reserved-store q = ap₂ (λ (x y : List ℕ). x ++ y) (part-store 3 9 (inr q)) (ap₂ (λ (x y : List ℕ). x ++ y) (part-store 25 1 (inr (omega arith))) (part-store 27 5 (inr (omega arith))))
 
   -- a field of a copy
   pub contents-store : f .place + f .width ≤ 12 → contents (store f v xs) ≡ contents xs
@@ -262,7 +262,7 @@ module _ (row new : List ℕ) (same : (b m : ℕ) → b + m ≤ 32 → part b m 
 
   pub head-reserved : reserved new ≡ reserved row
   unfolding reserved
-  head-reserved = ap₂ (λ (x y : List ℕ). x ++ y) (same 3 9 (omega arith)) (same 25 7 (omega arith))
+  head-reserved = ap₂ (λ (x y : List ℕ). x ++ y) (same 3 9 (omega arith)) (ap₂ (λ (x y : List ℕ). x ++ y) (same 25 1 (omega arith)) (same 27 5 (omega arith)))
 
   pub head-list : list new ≡ list row
   unfolding list members gridMark

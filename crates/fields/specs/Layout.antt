@@ -1,11 +1,11 @@
 -- The table in memory: the only places where offsets stand. A table is its bytes; every reading of it is total.
-use mathlib.Core.Bool.{Bool, cond}
+use mathlib.Core.Bool.{Bool, cond, _&&_}
 use mathlib.Core.List.{List, [], _++_}
 use Prim.Native.Nat.{ℕ, zero, _+_, _-_, _*_}
 use lib.Dec.{eqb, leb}
 use lib.ListN.{length, drop}
 use Rattle.blocks.specs.Blocks.{block, withBlock, withBlocks}
-use Rattle.bytes.specs.Bytes.{number, bytesOf, part, put}
+use Rattle.bytes.specs.Bytes.{number, bytesOf, part, put, zeros}
 use Rattle.fields.specs.declared.Laid.{Laid}
 
 -- a number at a place, so many bytes wide
@@ -23,9 +23,9 @@ store f v xs = put (f .place) (bytesOf (f .width) v) xs
 unfoldable pub form : Field
 form = record { place = 0; width = 1 }
 
--- byte 0: "Header form 4", the newest form
+-- byte 0: "header form 5", the newest form
 unfoldable pub formValue : ℕ
-formValue = 4
+formValue = 5
 
 unfoldable pub capacity : Field
 capacity = record { place = 1; width = 1 }
@@ -46,7 +46,8 @@ fileCount = record { place = 6; width = 1 }
 unfoldable pub restIn : ℕ → List ℕ → List ℕ
 restIn f t = cond (leb 4 f) (part 7 9 t) (part 6 10 t)
 
--- a row's head: "0 to 1 name; 2 next row's index; 12 to 15 epoch number; 16 to 23 epoch list"; "row byte 24 becomes the grid mark"
+-- a row's head: "0 to 1 name; 2 next row's index; 12 to 15 epoch number; 16 to 23 epoch list"; "row byte 24 becomes the grid mark"; "each row gets a
+-- county, 1 to 8, .. in row byte 26"
 unfoldable pub name : Field
 name = record { place = 0; width = 2 }
 
@@ -61,6 +62,9 @@ members = record { place = 16; width = 8 }
 
 unfoldable pub gridMark : Field
 gridMark = record { place = 24; width = 1 }
+
+unfoldable pub county : Field
+county = record { place = 26; width = 1 }
 
 -- a row's epoch list as it was laid; the row with another; and no list: "an empty list has mark 0"
 unfoldable pub list : List ℕ → Laid
@@ -81,12 +85,17 @@ unfoldable pub isTall : Laid → Bool
 isTall l = eqb (l .mark) 2
 
 -- the bytes of a row's head that are zero in a table of this form: from the grid mark on in form 1, from the oldest record on in form 2, behind it in
--- form 3; from form 4 on "a row's first 32 bytes keep name, link, epoch, list and grid mark, the rest 0"
+-- form 3; in form 4 "a row's first 32 bytes keep name, link, epoch, list and grid mark, the rest 0"; in the newest form they keep the county too
 unfoldable pub reserved : List ℕ → List ℕ
-reserved row = part 3 9 row ++ part 25 7 row
+reserved row = part 3 9 row ++ (part 25 1 row ++ part 27 5 row)
 
 unfoldable pub reservedIn : ℕ → List ℕ → List ℕ
-reservedIn f row = cond (eqb f 1) (part 24 8 row) (cond (eqb f 2) (part 25 7 row) (cond (eqb f 3) (part 26 6 row) (reserved row)))
+reservedIn f row =
+    cond (eqb f 1) (part 24 8 row)
+    (cond (eqb f 2) (part 25 7 row)
+    (cond (eqb f 3) (part 26 6 row)
+    (cond (eqb f 4) (part 3 9 row ++ part 25 7 row)
+    (reserved row))))
 
 -- ---- a copy, what a row keeps of one file: "Then comes for each file: mark, oldest record, two zeros, version, desired version, contents, records."
 unfoldable pub mark : Field
@@ -153,6 +162,10 @@ bodyLength files fileLength = bodyIn formValue files fileLength
 
 unfoldable pub stride : ℕ → ℕ → ℕ
 stride files fileLength = 32 + bodyLength files fileLength
+
+-- a row of which no more is known, or set, than name, link and county, with so many bytes behind its head: "zero otherwise", its list empty
+unfoldable pub bareRow : ℕ → ℕ → ℕ → ℕ → List ℕ
+bareRow x next y body = bytesOf 2 x ++ (bytesOf 1 next ++ (zeros 23 ++ (bytesOf 1 y ++ (zeros 5 ++ zeros body))))
 
 -- ---- a row's copies, behind its head: that of file q, files being "counted from 1"; the row with it changed by f, and no other byte
 unfoldable pub copyIn : ℕ → ℕ → List ℕ → List ℕ
@@ -221,6 +234,10 @@ epochOf t i = get epoch (rowBytes t i)
 
 unfoldable pub listOf : List ℕ → ℕ → Laid
 listOf t i = list (rowBytes t i)
+
+-- who is no used row has no county
+unfoldable pub countyOf : List ℕ → ℕ → ℕ
+countyOf t i = cond (leb 1 i && leb i (usedOf t)) (get county (rowBytes t i)) 0
 
 -- ---- and of file q
 unfoldable pub copyBytes : List ℕ → ℕ → ℕ → List ℕ

@@ -4,7 +4,7 @@ ghost use mathlib.Core.Bool.{true};
 ghost use Prim.Native.Nat.{_+_, _≤_};
 ghost use lib.Dec.{eqb};
 ghost use lib.ListN.{length};
-ghost use Rattle.fields.specs.Layout.{get, store, name, link, mark, version, desired, epoch, members, gridMark, oldest, markIn, oldestIn, list, storeList, isEmpty, isTall, contents, storeContents};
+ghost use Rattle.fields.specs.Layout.{get, store, name, link, mark, version, desired, epoch, members, gridMark, county, oldest, markIn, oldestIn, list, storeList, isEmpty, isTall, contents, storeContents};
 ghost use Rattle.bytes.specs.Bytes.{part};
 
 // A list of rows as it was laid: bit i − 1 of `members` for row i; the mark of its grid.
@@ -78,6 +78,8 @@ const MEMBERS_AT: usize = 16;
 
 pub const GRID_MARK_AT: usize = 24;
 
+const COUNTY_AT: usize = 26;
+
 // before files came
 const FORMER_MARK_AT: usize = 3;
 
@@ -145,6 +147,13 @@ pub fn grid_mark(row: &[u8]) -> u8
     ensures { λ r. ⌜ r ≡ get gridMark (now (row .entry)) ⌝ }
 {
     bytes::u8_at(row, GRID_MARK_AT)
+}
+
+pub fn county(row: &[u8]) -> u8
+    requires { ⌜ 32 ≤ length (now row) ⌝ }
+    ensures { λ r. ⌜ r ≡ get county (now (row .entry)) ⌝ }
+{
+    bytes::u8_at(row, COUNTY_AT)
 }
 
 // The oldest record of the copy's window.
@@ -241,6 +250,13 @@ fn set_grid_mark(row: &mut [u8], v: u8)
     ensures { λ r. ⌜ now (row .exit) ≡ store gridMark v (now (row .entry)) ⌝ }
 {
     bytes::store_at(row, GRID_MARK_AT, 1, v as u64);
+}
+
+pub fn set_county(row: &mut [u8], v: u8)
+    requires { ⌜ 32 ≤ length (now row) ⌝ }
+    ensures { λ r. ⌜ now (row .exit) ≡ store county v (now (row .entry)) ⌝ }
+{
+    bytes::store_at(row, COUNTY_AT, 1, v as u64);
 }
 
 pub fn set_oldest(copy: &mut [u8], v: u8)

@@ -2,13 +2,16 @@
 use asking::result;
 use bools::both;
 use values::between;
+use values::is_county;
 ghost use mathlib.Core.Path.{_≡_};
 ghost use mathlib.Core.Bool.{_&&_};
 ghost use Prim.Native.Nat.{_+_, _*_, _%_};
 ghost use lib.Dec.{eqb, leb};
 ghost use lib.ListN.{length};
+ghost use Rattle.sets.specs.Upto.{every};
 ghost use Rattle.fields.specs.Layout.{stride};
-ghost use Rattle.table.specs.WellFormed.{between};
+ghost use Rattle.table.specs.WellFormed.{between, isCounty};
+ghost use Rattle.counties.specs.Counties.{countyAt};
 ghost use Rattle.protocol.specs.Calls.{founding, namesIn, namesRising, resultOf, outcome};
 
 // Do the names rise strictly, and is none of them 0?
@@ -54,7 +57,23 @@ fn sizes_right(bytes: usize, capacity: usize, files: usize, file: usize, n: usiz
     bytes == header::HEADER + capacity * table::row_size(files, file)
 }
 
-// A founding: a table of so many rows for so many files of so many bytes, with the named machines in it; choice 0 wide, 1 tall. Value: how many.
+// Question 20: is there a county for each of n names, one of 1 to 8?
+fn counties_right(counties: &[u8], n: usize) -> bool
+    ensures { λ r. ⌜ r ≡ (eqb (length (now (counties .entry))) n && every n (λ i. isCounty (countyAt (now (counties .entry)) i))) ⌝ }
+{
+    if counties.len() != n {
+        return false;
+    }
+    let mut ok = true;
+    let mut i = 0;
+    while i < n {
+        ok = both(ok, is_county(bytes::u8_at(counties, i) as usize));
+        i += 1;
+    }
+    ok
+}
+
+// A founding: a table of so many rows for so many files of so many bytes, with the named machines in it, each in its county; choice 0 wide, 1 tall. Value: how many.
 pub fn found(
     t: &mut [u8],
     capacity: usize,
@@ -62,8 +81,9 @@ pub fn found(
     names: &[u8],
     choice: u64,
     files: usize,
+    counties: &[u8],
 ) -> u64
-    ensures { λ x. ⌜ (let o = outcome (now (t .entry)) (founding (record { capacity = capacity; fileLength = file; names = now (names .entry); choice = choice; files = files })) in (x ≡ resultOf o) × (now (t .exit) ≡ o .table) × (now (names .exit) ≡ now (names .entry))) ⌝ }
+    ensures { λ x. ⌜ (let o = outcome (now (t .entry)) (founding (record { capacity = capacity; fileLength = file; names = now (names .entry); choice = choice; files = files; counties = now (counties .entry) })) in (x ≡ resultOf o) × (now (t .exit) ≡ o .table) × (now (names .exit) ≡ now (names .entry)) × (now (counties .exit) ≡ now (counties .entry))) ⌝ }
 {
     // question 11
     if !both(names_right(names), choice <= 1) {
@@ -73,6 +93,9 @@ pub fn found(
     if !sizes_right(t.len(), capacity, files, file, n) {
         return result(12, 0);
     }
-    laying::lay_table(t, capacity, files, file, names, choice);
+    if !counties_right(counties, n) {
+        return result(20, 0);
+    }
+    laying::lay_table(t, capacity, files, file, names, choice, counties);
     result(0, n as u32)
 }

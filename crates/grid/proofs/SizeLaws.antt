@@ -1,13 +1,14 @@
 -- The sizes of the published grid, for any length.
 use mathlib.Core.Path.{_≡_, refl, sym, _∙_, ap}
-use mathlib.Core.Logic.{_≢_}
+use mathlib.Core.Logic.{_≢_, ⊎-elim}
 use mathlib.Core.Bool.{Bool, true, false, cond, _&&_, _||_}
-use Prim.Native.Nat.{ℕ, zero, suc, _+_, _-_, _*_, _^_, _≤_, _<_}
+use Prim.Native.Nat.{ℕ, zero, suc, _+_, _*_, _^_, _≤_, _<_}
 use native.Mathlib.Omega.{arith}
 use lib.Dec.{leb, ltb, eqb}
 use borrow.Author.Tests.{le-leb, leb-true, leb-false, ltb-true, ltb-false, eqb-true, eqb-false}
-use Rattle.bools.proofs.BoolLaws.{and-l, and-r, clash}
+use Rattle.bools.proofs.BoolLaws.{and-l, and-r, or-e, clash}
 use Rattle.grid.specs.declared.Grid.{Grid}
+use Rattle.grid.specs.Claims.{FivesLaid}
 use Rattle.grid.specs.Sizes.{Fits, root, rootUp, published, newFive, exchanged, gridBy, markFits, newMark, noGrid}
 
 -- s is the square root of N rounded down
@@ -97,11 +98,23 @@ pub laid-fits : (mark N : ℕ) → 1 ≤ N → Fits (gridBy mark N) N
 unfolding gridBy
 laid-fits mark N pos = either (λ (g : Grid). Fits g N) (eqb mark 2)
     (λ e. exchanged-fits N pos)
-    (λ e. either (λ (g : Grid). Fits g N) (eqb mark 1 && eqb N 5)
-    (λ f. let five : N ≡ 5 = eqb-true N 5 (and-r (eqb mark 1) _ f) in rw five five-fits)
+    (λ e. either (λ (g : Grid). Fits g N) ((eqb mark 1 || eqb mark 3) && eqb N 5)
+    (λ f. let five : N ≡ 5 = eqb-true N 5 (and-r (eqb mark 1 || eqb mark 3) _ f) in rw five five-fits)
     (λ f. published-fits N pos))
 
--- ---- the mark of a list laid now
+-- ---- marks of a list within one county
+-- one of 0 to 2
+pub mark-low : (mark N : ℕ) → markFits mark N ≡ true → mark ≤ 2
+unfolding markFits
+mark-low mark N e = ⊎-elim
+    (λ (a : eqb mark 0 ≡ true). omega (arith, eqb-true mark 0 a))
+    (λ b. ⊎-elim
+    (λ (c : (eqb mark 1 && eqb N 5) ≡ true). omega (arith, eqb-true mark 1 (and-l (eqb mark 1) (eqb N 5) c)))
+    (λ (c : (eqb mark 2 && leb 1 N) ≡ true). omega (arith, eqb-true mark 2 (and-l (eqb mark 2) (leb 1 N) c)))
+    (or-e (eqb mark 1 && eqb N 5) (eqb mark 2 && leb 1 N) b))
+    (or-e (eqb mark 0) ((eqb mark 1 && eqb N 5) || (eqb mark 2 && leb 1 N)) e)
+
+-- that of a list laid now
 pub new-mark-fits : (tall : Bool) (N : ℕ) → 1 ≤ N → markFits (newMark tall N) N ≡ true
 unfolding markFits newMark
 new-mark-fits true N some = le-leb 1 N some
@@ -167,17 +180,16 @@ unfolding gridBy newMark newFive
 roomy true N four = exchanged-roomy N four
 roomy false N four = go (eqb N 5) refl
   where
-    go : (b : Bool) → eqb N 5 ≡ b → Roomy N (cond (eqb (cond b 1 0) 2) (exchanged (published N)) (cond (eqb (cond b 1 0) 1 && b) newFive (published N)))
+    go : (b : Bool) → eqb N 5 ≡ b → Roomy N (cond (eqb (cond b 1 0) 2) (exchanged (published N)) (cond ((eqb (cond b 1 0) 1 || eqb (cond b 1 0) 3) && b) newFive (published N)))
     go true e = omega (arith, eqb-true)
     go false e = published-roomy N four (eqb-false N 5 e)
 
 -- ---- a mark's grid as the code finds it
-pub by-five : (mark N : ℕ) → (eqb mark 1 && eqb N 5) ≡ true → newFive ≡ cond (leb N 64) (gridBy mark N) noGrid
+pub by-five : (mark N : ℕ) → ((eqb mark 1 || eqb mark 3) && eqb N 5) ≡ true → newFive ≡ cond (leb N 64) (gridBy mark N) noGrid
 unfolding gridBy
 by-five mark N e =
-    let few : leb N 64 ≡ true = ap (λ (n : ℕ). leb n 64) (eqb-true N 5 (and-r (eqb mark 1) _ e)) in
-    let one : mark ≡ 1 = eqb-true mark 1 (and-l _ _ e) in
-    let wide : eqb mark 2 ≡ false = ap (λ (m : ℕ). eqb m 2) one in
+    let few : leb N 64 ≡ true = ap (λ (n : ℕ). leb n 64) (eqb-true N 5 (and-r (eqb mark 1 || eqb mark 3) _ e)) in
+    let wide : eqb mark 2 ≡ false = ⊎-elim (λ f. ap (λ (m : ℕ). eqb m 2) (eqb-true mark 1 f)) (λ f. ap (λ (m : ℕ). eqb m 2) (eqb-true mark 3 f)) (or-e (eqb mark 1) _ (and-l _ _ e)) in
     rw (few, wide, e)
 
 pub by-tall : (mark N : ℕ) → eqb mark 2 ≡ true → exchanged (cond (leb N 64) (published N) noGrid) ≡ cond (leb N 64) (gridBy mark N) noGrid
@@ -188,14 +200,14 @@ by-tall mark N e = rw e (go (leb N 64))
     go true = refl
     go false = no-exchange
 
-pub by-published : (mark N : ℕ) → (eqb mark 1 && eqb N 5) ≡ false → eqb mark 2 ≡ false → cond (leb N 64) (published N) noGrid ≡ cond (leb N 64) (gridBy mark N) noGrid
+pub by-published : (mark N : ℕ) → ((eqb mark 1 || eqb mark 3) && eqb N 5) ≡ false → eqb mark 2 ≡ false → cond (leb N 64) (published N) noGrid ≡ cond (leb N 64) (gridBy mark N) noGrid
 unfolding gridBy
 by-published mark N e f = rw (f, e)
 
 -- a list of no members has no column
 no-column : (mark : ℕ) → gridBy mark 0 .cols ≡ 0
 unfolding gridBy exchanged published rootUp root
-no-column mark = go (eqb mark 2) (eqb mark 1)
+no-column mark = go (eqb mark 2) (eqb mark 1 || eqb mark 3)
   where
     go : (a b : Bool) → cond a (exchanged (published 0)) (cond (b && eqb 0 5) newFive (published 0)) .cols ≡ 0
     go true b = refl
@@ -214,3 +226,8 @@ taken-fits mark N g e h = rw e (go (leb N 64) (rw e at h))
     go : (b : Bool) → 1 ≤ cond b (gridBy mark N) noGrid .cols → Fits (cond b (gridBy mark N) noGrid) N
     go true l = some-fits mark N l
     go false l = absurd (omega arith)
+
+-- a length of five, by the two marks that a list of more than one county can have
+pub fives-laid : FivesLaid
+unfolding FivesLaid gridBy newFive exchanged published rootUp root
+fives-laid = (refl, refl)

@@ -17,7 +17,7 @@ rootUp N = cond (eqb (root N * root N) N) (root N) (root N + 1)
 unfoldable pub published : ℕ → Grid
 published N = record { rows = cond (ltb (root N * rootUp N) N) (root N + 1) (root N); cols = rootUp N }
 
--- ---- the grid in which a list was laid: row byte 24 is its grid mark, "0 published, 1 the new five", 2 tall
+-- ---- the grid in which a list was laid: row byte 24 is its grid mark, "0 published, 1 the new five", 2 tall, 3 wide and of more than one county
 -- "New lists of five are laid in 3 rows and 2 columns."
 unfoldable pub newFive : Grid
 newFive = record { rows = 3; cols = 2 }
@@ -26,15 +26,16 @@ newFive = record { rows = 3; cols = 2 }
 unfoldable pub exchanged : Grid → Grid
 exchanged g = cond (eqb (g .rows + 1) (g .cols)) (record { rows = g .cols; cols = g .rows }) g
 
--- the grid of a list of N members by its mark; "tall starts from the published grid"
+-- the grid of N members of a level by their list's mark; "tall starts from the published grid"; of mark 3, "on both its levels a length of five is laid in 3 rows and
+-- 2 columns"
 unfoldable pub gridBy : ℕ → ℕ → Grid
-gridBy mark N = cond (eqb mark 2) (exchanged (published N)) (cond (eqb mark 1 && eqb N 5) newFive (published N))
+gridBy mark N = cond (eqb mark 2) (exchanged (published N)) (cond ((eqb mark 1 || eqb mark 3) && eqb N 5) newFive (published N))
 
--- "Mark 1 needs a list of five"; mark 2 any list that is not empty: a list of N members can have the mark
+-- "Mark 1 needs a list of five"; mark 2 any list that is not empty: a list of N members within one county can have the mark
 unfoldable pub markFits : ℕ → ℕ → Bool
 markFits mark N = eqb mark 0 || ((eqb mark 1 && eqb N 5) || (eqb mark 2 && leb 1 N))
 
--- the mark of a list of N members that is laid now, in a tall table or in a wide one
+-- the mark of a list of N members within one county that is laid now, in a tall table or in a wide one
 unfoldable pub newMark : Bool → ℕ → ℕ
 newMark isTall N = cond isTall 2 (cond (eqb N 5) 1 0)
 

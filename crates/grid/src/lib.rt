@@ -116,11 +116,11 @@ fn exchanged(g: Grid) -> Grid
     g
 }
 
-// The grid that a list of `length` members with this mark was laid in; no rows and no columns where the length is 0 or above 64.
+// The grid that `length` members of a level were laid in by their list's mark; no rows and no columns where the length is 0 or above 64.
 pub fn of_mark(mark: u8, length: usize) -> Grid
     ensures { λ r. ⌜ r ≡ cond (leb length 64) (gridBy mark length) noGrid ⌝ }
 {
-    if both(mark == 1, length == 5) {
+    if both(any(mark == 1, mark == 3), length == 5) {
         return Grid { rows: 3, cols: 2 };
     }
     let g = published(length);
@@ -130,7 +130,7 @@ pub fn of_mark(mark: u8, length: usize) -> Grid
     g
 }
 
-// Can a list of `length` members have the mark?
+// Can a list of `length` members within one county have the mark?
 pub fn mark_fits(mark: u8, length: usize) -> bool
     ensures { λ r. ⌜ r ≡ markFits mark length ⌝ }
 {
@@ -140,7 +140,7 @@ pub fn mark_fits(mark: u8, length: usize) -> bool
     any(both(mark == 1, length == 5), both(mark == 2, 1 <= length))
 }
 
-// The mark of a list of `length` members that is laid now, in a tall table or in a wide one.
+// The mark of a list of `length` members within one county that is laid now, in a tall table or in a wide one.
 pub fn new_mark(tall: bool, length: usize) -> u8
     ensures { λ r. ⌜ r ≡ newMark tall length ⌝ }
 {

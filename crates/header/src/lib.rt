@@ -7,7 +7,7 @@ ghost use Rattle.fields.specs.Layout.{store, form, formValue, capacity, used, f
 pub const HEADER: usize = 16;
 
 // the newest form
-pub const FORM: u8 = 4;
+pub const FORM: u8 = 5;
 
 const FORM_AT: usize = 0;
 

@@ -13,7 +13,7 @@ use Rattle.bools.proofs.BoolLaws.{clash}
 use Rattle.sets.proofs.SetLaws.{has-within}
 use Rattle.quorums.specs.declared.Kind.the-variants.{Read}
 use Rattle.fields.specs.Layout.{get, epoch, list, copyBytes, epochOf, listOf, staleOf, versionOf, contentsOf}
-use Rattle.protocol.specs.Lists.{laidNow}
+use Rattle.counties.specs.Marks.{laidNow}
 use Rattle.protocol.specs.Polls.{polled}
 use Rattle.bytes.specs.Bytes.{zeros}
 use Rattle.bytes.proofs.ByteLaws.{length-zeros}
@@ -23,8 +23,8 @@ use Rattle.fields.proofs.FieldLaws.{BlankCopy}
 use Rattle.window.specs.Windows.{emptied}
 use Rattle.window.proofs.CopyLaws.{window-blank}
 use Rattle.history.specs.Claims.{keptOf}
-use Rattle.protocol.proofs.FoundedLaws.{Founds, founded-used, founded-file, founded-files, founded-copies, founded-name, founded-formed, at-row, row-list, zero-epoch}
-use Rattle.history.specs.Book.{order, nameIn, opened}
+use Rattle.protocol.proofs.FoundedLaws.{Founds, founded-used, founded-file, founded-files, founded-copies, founded-name, founded-county, founded-formed, at-row, row-list, zero-epoch}
+use Rattle.history.specs.Book.{frame, nameIn, countyIn, opened}
 use Rattle.history.proofs.Invariant.{aim, Inv}
 use Rattle.history.proofs.State.{whole, State}
 
@@ -33,16 +33,16 @@ module _ (a : Founding) (f : Founds a) where
   names = namesIn (a .names)
 
   t : List ℕ
-  t = founded (a .choice) (a .capacity) (a .files) (a .fileLength) names
+  t = founded (a .choice) (a .capacity) (a .files) (a .fileLength) names (a .counties)
 
   -- each row: epoch, version and desired version 0, no mark, all rows its list, zero bytes
   epoch-zero : (i : ℕ) → Within (length names) i → epochOf t i ≡ 0
   unfolding epochOf t
   epoch-zero = at-row a f (λ i r. get epoch r ≡ 0) (zero-epoch a f)
 
-  list-all : (i : ℕ) → Within (length names) i → listOf t i ≡ foundedList (a .choice) (length names)
+  list-all : (i : ℕ) → Within (length names) i → listOf t i ≡ foundedList (a .choice) (a .counties) (length names)
   unfolding listOf t
-  list-all = at-row a f (λ i r. list r ≡ foundedList (a .choice) (length names)) (row-list a f)
+  list-all = at-row a f (λ i r. list r ≡ foundedList (a .choice) (a .counties) (length names)) (row-list a f)
 
   module _ (q : ℕ) (v : Within (a .files) q) where
     blank : (i : ℕ) → Within (length names) i → BlankCopy (a .fileLength) (copyBytes t q i)
@@ -80,18 +80,20 @@ module _ (a : Founding) (f : Founds a) where
         kept = λ k h. rw (version-zero i u) (sym (lt-leb k 0 (omega arith)));
       };
       live = λ s h.
-          let w = inhabited (order (opened a)) (foundedList (a .choice) (length names)) Read s h in
+          let w = inhabited (frame (opened a)) (foundedList (a .choice) (a .counties) (length names)) Read s h in
           let u = has-within (length names) (2 ^ length names - 1) (w .0) (ones-lt (length names)) (w .1) in
           (w .0, u, w .2, rw (no-mark (w .0) u) (version-zero (w .0) u));
     }
 
-    pub founded-state : State q (founded (a .choice) (a .capacity) (a .files) (a .fileLength) (namesIn (a .names))) (opened a) 0
-    unfolding opened nameIn t keptOf contentsOf
+    pub founded-state : State q (founded (a .choice) (a .capacity) (a .files) (a .fileLength) (namesIn (a .names)) (a .counties)) (opened a) 0
+    unfolding opened nameIn countyIn t keptOf contentsOf
     founded-state = record {
       group = rw (founded-files a f) v;
       formed = founded-formed a f;
       used = founded-used a f;
       names = rw (founded-used a f) (founded-name a f);
+      places = founded-used a f ∙ sym (f .places);
+      counties = λ i u. ap (λ (g : ℕ → ℕ). g i) (founded-county a f);
       blank = λ z. ap zeros (sym (length-zeros (a .fileLength)));
       file = length-zeros (a .fileLength) ∙ sym (founded-file a f);
       inv = rw (founded-used a f) start;

@@ -16,18 +16,18 @@ use Rattle.quorums.specs.declared.Kind.{Kind}
 use Rattle.quorums.specs.declared.Kind.the-variants.{Read, Write}
 use Rattle.fields.specs.declared.Laid.{Laid}
 use Rattle.fields.specs.Layout.{isEmpty}
-use Rattle.protocol.specs.Lists.{listQuorum, listChoice}
+use Rattle.counties.specs.Counties.{Frame, listQuorum, listChoice}
 use Rattle.protocol.specs.Polls.{Poll, listed, highestEpoch, inForce, goodVersion, good, current, quorumHeld, ownTry, stays, workedOn}
 use Rattle.protocol.proofs.ListLaws.{inhabited, reads, grows, has-list}
 use Rattle.protocol.proofs.PollLaws.{Leads, listed-of, epoch-le, leads, version-le, version-under, good-at, good-of, current-good, current-desired, current-of, cut-in}
-use Rattle.history.specs.Book.{Book, order, nameIn, hasAll, holdsQuorum, someHasAll, writeSet}
+use Rattle.history.specs.Book.{Book, frame, nameIn, hasAll, holdsQuorum, someHasAll, writeSet}
 
 -- the version that a row has, or that it desires where it is marked
 unfoldable pub aim : Poll → ℕ → ℕ
 aim p i = cond (p .stale i) (p .desired i) (p .version i)
 
 -- membership: e is the highest epoch; the rows that have it, and have a list, have the list in force, and that list has no other row
-pub record Epochs (n : ℕ) (order : List ℕ) (epoch : ℕ → ℕ) (list : ℕ → Laid) (force : Laid) (own : ℕ → Laid) (e : ℕ) : Type 0 where
+pub record Epochs (n : ℕ) (frame : Frame) (epoch : ℕ → ℕ) (list : ℕ → Laid) (force : Laid) (own : ℕ → Laid) (e : ℕ) : Type 0 where
   pub below : (i : ℕ) → Within n i → epoch i ≤ e
   pub inside : (i : ℕ) → Within n i → has (force .members) i ≡ true → (epoch i ≡ e) × (list i ≡ force)
   pub forced : (i : ℕ) → Within n i → isEmpty (list i) ≡ false → epoch i ≡ e → list i ≡ force
@@ -37,7 +37,7 @@ pub record Epochs (n : ℕ) (order : List ℕ) (epoch : ℕ → ℕ) (list : ℕ
   pub bound : force .members < 2 ^ n
   -- the paper's Lemma 1: rows of no higher epoch than that of a row left behind hold no read quorum of its list
   pub dead : (i : ℕ) → Within n i → epoch i < e
-      → (s : ℕ → Bool) → ((j : ℕ) → Within n j → s j ≡ true → epoch j ≤ epoch i) → listQuorum Read order (list i) s ≡ true → ⊥
+      → (s : ℕ → Bool) → ((j : ℕ) → Within n j → s j ≡ true → epoch j ≤ epoch i) → listQuorum Read frame (list i) s ≡ true → ⊥
 
 -- contents: a row against the book's writes, its file and what the row has
 pub record Versions (stale : Bool) (version desired : ℕ) (contents : List ℕ) (writes : ℕ) (file : List ℕ) (hasWrite : ℕ → Bool) : Type 0 where
@@ -48,10 +48,10 @@ pub record Versions (stale : Bool) (version desired : ℕ) (contents : List ℕ)
   pub kept : (k : ℕ) → 1 ≤ k → hasWrite k ≡ leb k version
 
 pub record Inv (n : ℕ) (p : Poll) (c : ℕ → List ℕ) (b : Book) (e : ℕ) : Type 0 where
-  pub epochs : Epochs n (order b) (p .epoch) (p .list) (b .inForce) (b .own) e
+  pub epochs : Epochs n (frame b) (p .epoch) (p .list) (b .inForce) (b .own) e
   pub versions : (i : ℕ) → Within n i → Versions (p .stale i) (p .version i) (p .desired i) (c i) (b .writes) (b .file) (b .hasWrite i)
   -- every read quorum of the list in force has a row that has every write, or desires the last one
-  pub live : (s : ℕ → Bool) → listQuorum Read (order b) (b .inForce) s ≡ true → (i : ℕ) × Within n i × (s i ≡ true) × (aim p i ≡ b .writes)
+  pub live : (s : ℕ → Bool) → listQuorum Read (frame b) (b .inForce) s ≡ true → (i : ℕ) × Within n i × (s i ≡ true) × (aim p i ≡ b .writes)
 
 module _ (n : ℕ) (p : Poll) (c : ℕ → List ℕ) (b : Book) (e : ℕ) (few : n ≤ 64) (I : Inv n p c b e) where
   -- a row has every done write in the book if its version is their number
@@ -88,14 +88,14 @@ module _ (n : ℕ) (p : Poll) (c : ℕ → List ℕ) (b : Book) (e : ℕ) (few :
     pub someone : (kind : Kind) → holdsQuorum b kind s ≡ true → some 64 (listed p s) ≡ true
     unfolding holdsQuorum
     someone kind h =
-        let w = inhabited (order b) (b .inForce) kind s h in
+        let w = inhabited (frame b) (b .inForce) kind s h in
         some-of 64 (listed p s) (w .0) (place (w .0) (w .2)) (listed-of p s (w .0) (w .2) (member-list (w .0) (ins (w .0) (w .2)) (w .1)))
 
     -- where it holds a quorum of the list in force, its highest epoch is e and V is that list
     pub in-force : holdsQuorum b Read s ≡ true → (highestEpoch p s ≡ e) × (inForce p s ≡ b .inForce)
     unfolding holdsQuorum
     in-force h =
-        let w = inhabited (order b) (b .inForce) Read s h in
+        let w = inhabited (frame b) (b .inForce) Read s h in
         let u = ins (w .0) (w .2) in
         let l = leads p s (someone Read h) in
         let t : highestEpoch p s ≡ e =
@@ -103,11 +103,11 @@ module _ (n : ℕ) (p : Poll) (c : ℕ → List ℕ) (b : Book) (e : ℕ) (few :
         (t, sym (l .1 .list) ∙ I .epochs .forced (l .0) (ins (l .0) (l .1 .inside)) (l .1 .has-list) (l .1 .highest ∙ t))
 
     -- question 6 is the book's quorum
-    pub quorum-is : (kind : Kind) → quorumHeld kind (order b) p s ≡ holdsQuorum b kind s
+    pub quorum-is : (kind : Kind) → quorumHeld kind (frame b) p s ≡ holdsQuorum b kind s
     unfolding quorumHeld holdsQuorum
     quorum-is kind = same-test _ _ (λ h. there (leads p s (and-l _ _ h)) (and-r (some 64 (listed p s)) _ h)) back
       where
-        there : (i : ℕ) × Leads p s i → listQuorum kind (order b) (inForce p s) s ≡ true → listQuorum kind (order b) (b .inForce) s ≡ true
+        there : (i : ℕ) × Leads p s i → listQuorum kind (frame b) (inForce p s) s ≡ true → listQuorum kind (frame b) (b .inForce) s ≡ true
         there (i, l) h = go (ℕ-discrete (p .epoch i) e)
           where
             u : Within n i
@@ -117,14 +117,14 @@ module _ (n : ℕ) (p : Poll) (c : ℕ → List ℕ) (b : Book) (e : ℕ) (few :
             lower j v m true z = omega (arith, I .epochs .bare j v z)
             lower j v m false z = omega (arith, l .highest, epoch-le p s j (place j m) m z)
 
-            go : Dec (p .epoch i ≡ e) → listQuorum kind (order b) (b .inForce) s ≡ true
-            go (yes t) = subst (λ (v : Laid). listQuorum kind (order b) v s ≡ true) (sym (l .list) ∙ I .epochs .forced i u (l .has-list) t) h
+            go : Dec (p .epoch i ≡ e) → listQuorum kind (frame b) (b .inForce) s ≡ true
+            go (yes t) = subst (λ (v : Laid). listQuorum kind (frame b) v s ≡ true) (sym (l .list) ∙ I .epochs .forced i u (l .has-list) t) h
             go (no d) = absurd (I .epochs .dead i u (omega (arith, I .epochs .below i u)) s
                 (λ j v m. lower j v m (isEmpty (p .list j)) refl)
-                (subst (λ (v : Laid). listQuorum Read (order b) v s ≡ true) (sym (l .list)) (reads (order b) (inForce p s) kind s h)))
+                (subst (λ (v : Laid). listQuorum Read (frame b) v s ≡ true) (sym (l .list)) (reads (frame b) (inForce p s) kind s h)))
 
-        back : listQuorum kind (order b) (b .inForce) s ≡ true → (some 64 (listed p s) && listQuorum kind (order b) (inForce p s) s) ≡ true
-        back h = and-i _ _ (someone kind h) (subst (λ (v : Laid). listQuorum kind (order b) v s ≡ true) (sym (in-force (reads (order b) (b .inForce) kind s h) .1)) h)
+        back : listQuorum kind (frame b) (b .inForce) s ≡ true → (some 64 (listed p s) && listQuorum kind (frame b) (inForce p s) s) ≡ true
+        back h = and-i _ _ (someone kind h) (subst (λ (v : Laid). listQuorum kind (frame b) v s ≡ true) (sym (in-force (reads (frame b) (b .inForce) kind s h) .1)) h)
 
     -- ---- that holds a read quorum of the list in force
     module _ (q : holdsQuorum b Read s ≡ true) where
@@ -173,12 +173,12 @@ module _ (n : ℕ) (p : Poll) (c : ℕ → List ℕ) (b : Book) (e : ℕ) (few :
           good-of p s i (record { inside = m; clean = clean i (ins i m) v; newest = v ∙ sym (version-is h) }))
 
     -- questions 6 and 7 together
-    pub both-is : (kind : Kind) → (quorumHeld kind (order b) p s && current p s) ≡ (holdsQuorum b kind s && someHasAll b s)
+    pub both-is : (kind : Kind) → (quorumHeld kind (frame b) p s && current p s) ≡ (holdsQuorum b kind s && someHasAll b s)
     unfolding holdsQuorum
-    both-is kind = rw (quorum-is kind) (go (listQuorum kind (order b) (b .inForce) s) refl)
+    both-is kind = rw (quorum-is kind) (go (listQuorum kind (frame b) (b .inForce) s) refl)
       where
-        go : (x : Bool) → listQuorum kind (order b) (b .inForce) s ≡ x → (x && current p s) ≡ (x && someHasAll b s)
-        go true h = current-is (reads (order b) (b .inForce) kind s h)
+        go : (x : Bool) → listQuorum kind (frame b) (b .inForce) s ≡ x → (x && current p s) ≡ (x && someHasAll b s)
+        go true h = current-is (reads (frame b) (b .inForce) kind s h)
         go false h = refl
 
   -- where a smaller set has a row with every write, so has a larger one
@@ -191,32 +191,32 @@ module _ (n : ℕ) (p : Poll) (c : ℕ → List ℕ) (b : Book) (e : ℕ) (few :
   -- ---- a read or a write by c over r
   module _ (kind : Kind) (k a : ℕ) (r : ℕ → Bool) (ins : (i : ℕ) → r i ≡ true → Within n i) where
     tried : ℕ → Bool
-    tried = ownTry kind (order b) p k a r
+    tried = ownTry kind (frame b) p k a r
 
     tried-in : (i : ℕ) → tried i ≡ true → r i ≡ true
     unfolding tried ownTry
-    tried-in i h = cut-in (listChoice kind (order b) (p .list k) a) r i h
+    tried-in i h = cut-in (listChoice kind (frame b) (p .list k) a) r i h
 
     tried-used : (i : ℕ) → tried i ≡ true → Within n i
     tried-used i h = ins i (tried-in i h)
 
     -- what questions 6 and 7 answer for the set worked on is what the book says of R
-    pub answers-are : (quorumHeld kind (order b) p (workedOn kind (order b) p k a r) ≡ holdsQuorum b kind r)
-        × (holdsQuorum b kind r ≡ true → current p (workedOn kind (order b) p k a r) ≡ someHasAll b r)
+    pub answers-are : (quorumHeld kind (frame b) p (workedOn kind (frame b) p k a r) ≡ holdsQuorum b kind r)
+        × (holdsQuorum b kind r ≡ true → current p (workedOn kind (frame b) p k a r) ≡ someHasAll b r)
     unfolding workedOn stays tried holdsQuorum
-    answers-are = go (quorumHeld kind (order b) p tried && current p tried) refl
+    answers-are = go (quorumHeld kind (frame b) p tried && current p tried) refl
       where
-        go : (x : Bool) → (quorumHeld kind (order b) p tried && current p tried) ≡ x
-            → (quorumHeld kind (order b) p (cond x tried r) ≡ holdsQuorum b kind r) × (holdsQuorum b kind r ≡ true → current p (cond x tried r) ≡ someHasAll b r)
+        go : (x : Bool) → (quorumHeld kind (frame b) p tried && current p tried) ≡ x
+            → (quorumHeld kind (frame b) p (cond x tried r) ≡ holdsQuorum b kind r) × (holdsQuorum b kind r ≡ true → current p (cond x tried r) ≡ someHasAll b r)
         go true h =
             let f : (holdsQuorum b kind tried && someHasAll b tried) ≡ true = sym (both-is tried tried-used kind) ∙ h in (
-              and-l _ _ h ∙ sym (grows (order b) (b .inForce) kind tried r tried-in (and-l _ _ f)),
-              λ z. and-r (quorumHeld kind (order b) p tried) _ h ∙ sym (some-more tried r tried-in (and-r (holdsQuorum b kind tried) _ f)),
+              and-l _ _ h ∙ sym (grows (frame b) (b .inForce) kind tried r tried-in (and-l _ _ f)),
+              λ z. and-r (quorumHeld kind (frame b) p tried) _ h ∙ sym (some-more tried r tried-in (and-r (holdsQuorum b kind tried) _ f)),
             )
-        go false h = (quorum-is r ins kind, λ z. current-is r ins (reads (order b) (b .inForce) kind r z))
+        go false h = (quorum-is r ins kind, λ z. current-is r ins (reads (frame b) (b .inForce) kind r z))
 
   -- the set of a write is the book's
-  pub set-is : (k r : ℕ) → Within n k → ((i : ℕ) → has r i ≡ true → Within n i) → workedOn Write (order b) p k (nameIn b k) (has r) ≡ writeSet b k r
+  pub set-is : (k r : ℕ) → Within n k → ((i : ℕ) → has r i ≡ true → Within n i) → workedOn Write (frame b) p k (nameIn b k) (has r) ≡ writeSet b k r
   unfolding workedOn stays writeSet ownTry tried
   set-is k r u ins =
-      rw (I .epochs .owned k u, ← (both-is (ownTry Write (order b) p k (nameIn b k) (has r)) (tried-used Write k (nameIn b k) (has r) ins) Write))
+      rw (I .epochs .owned k u, ← (both-is (ownTry Write (frame b) p k (nameIn b k) (has r)) (tried-used Write k (nameIn b k) (has r) ins) Write))

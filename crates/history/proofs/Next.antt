@@ -1,5 +1,5 @@
 -- The table after a call against the book after it.
-use mathlib.Core.Path.{_≡_, refl, sym, _∙_, ap, subst}
+use mathlib.Core.Path.{_≡_, refl, sym, _∙_, ap, ap₂, subst}
 use mathlib.Core.Bool.{Bool, true, false, cond}
 use mathlib.Core.Logic.{_⊎_, ⊎-elim, inl, inr}
 use mathlib.Core.List.{List}
@@ -13,7 +13,7 @@ use borrow.Author.Tests.{eqb-false, eq-eqb, ne-eqb}
 use Rattle.sets.specs.Upto.{Within}
 use Rattle.sets.specs.Sets.{has}
 use Rattle.quorums.specs.declared.Kind.the-variants.{Write}
-use Rattle.fields.specs.Layout.{get, mark, version, desired, epoch, list, contents, copyBytes, usedOf, filesOf, fileLengthOf, nameOf, staleOf, versionOf, desiredOf, contentsOf, epochOf, listOf, isTall}
+use Rattle.fields.specs.Layout.{get, mark, version, desired, epoch, list, contents, copyBytes, usedOf, filesOf, fileLengthOf, nameOf, countyOf, staleOf, versionOf, desiredOf, contentsOf, epochOf, listOf, isTall}
 use Rattle.table.specs.WellFormed.{limit}
 use Rattle.bytes.specs.Bytes.{zeros}
 use Rattle.bytes.proofs.ByteLaws.{length-put}
@@ -23,24 +23,25 @@ use Rattle.fields.proofs.FieldLaws.{BlankCopy}
 use Rattle.joining.specs.Joining.{joined}
 use Rattle.joining.specs.Claims.{OneMore}
 use Rattle.joining.proofs.FrameLaws.{joined-alters}
-use Rattle.joining.proofs.RowLaws.{more-used, file-kept, files-kept, kept, copies-kept, list-kept, new-says, new-copies, more-chain, more-formed}
+use Rattle.joining.proofs.RowLaws.{more-used, file-kept, files-kept, kept, copies-kept, list-kept, new-says, new-copies, county-kept, county-new, more-chain, more-formed}
 use Rattle.joining.proofs.OrderLaws.{Joined}
 use Rattle.sets.proofs.UptoLaws.{last}
-use Rattle.protocol.specs.Lists.{laidNow}
+use Rattle.counties.specs.Counties.{countyAt}
+use Rattle.counties.specs.Marks.{laidNow}
 use Rattle.protocol.specs.Polls.{polled, highestEpoch, inForce, goodVersion, good, current}
 use Rattle.protocol.specs.Calls.{Joining, Writing, Sending, Checking, answers, workSet}
 use Rattle.protocol.proofs.RowLaws.{copyKit, fieldsOf, changed}
-use Rattle.protocol.proofs.FrameLaws.{Frame, same-used, same-file, same-files}
+use Rattle.protocol.proofs.FrameLaws.{SameFrame, same-used, same-file, same-files}
 use Rattle.protocol.proofs.QuestionLaws.{JoinYes, WriteYes, SendYes, CheckYes}
 use Rattle.protocol.proofs.CopyLaws.{OnlyCopies, out-copy}
 use Rattle.protocol.proofs.OtherFiles.{only-equal, polled-same, contents-same}
 use Rattle.protocol.proofs.DoneLaws.{file-low, CopyBecomes, patch-fits, writeTable, write-leaves, write-taken, write-marked, sendTable, send-leaves, send-target, checkTable, check-leaves, check-taken, check-marked}
 use Rattle.protocol.proofs.KeepLaws.{good-newest, write-formed, write-membership, send-formed, send-membership, check-formed, check-membership}
-use Rattle.history.specs.Book.{Book, nameIn, holdsQuorum, writeSet, written, passedOn, agreed, checked, admitted}
+use Rattle.history.specs.Book.{Book, nameIn, countyIn, holdsQuorum, writeSet, written, passedOn, agreed, checked, admitted}
 use Rattle.history.proofs.Invariant.{Inv, set-is}
 use Rattle.history.proofs.Steps.{Is, Stays, Wrote, keep-write, Sent, keep-send, Checked, keep-check}
-use Rattle.history.proofs.Joined.{names-more, old-name, new-name, Grown, keep-join}
-use Rattle.history.proofs.State.{polls-alike, whole, State, few, epoch-whole, good-whole, six-check, force-check, version-whole, current-whole, answered, work-is, work-sub, work-used, work-quorum}
+use Rattle.history.proofs.Joined.{names-more, old-name, new-name, places-more, old-county, new-county, Grown, keep-join}
+use Rattle.history.proofs.State.{polls-alike, whole, State, county-is, few, epoch-whole, good-whole, six-check, force-check, version-whole, current-whole, answered, work-is, work-sub, work-used, work-quorum}
 use Rattle.history.proofs.Answers.{current-all, version-now}
 use Rattle.history.proofs.Trail.{Trail, SameKept, same-kept, same-copy, trail-same, trail-more, trail-write, sent-all}
 use Rattle.history.specs.Claims.{keptOf}
@@ -74,14 +75,16 @@ unfolding versionOf contentsOf copyKit
 kept-same t u q i b e = record { version = b .fields 2 (omega arith) ∙ e; contents = b .bytes; window = b .window }
 
 -- the frame of the book is that of the table before and after
-framed : {q : ℕ} {t u : List ℕ} {b b′ : Book} {e e′ : ℕ} → State q t b e → Frame t u → Formed u → b′ .names ≡ b .names → length (b′ .file) ≡ length (b .file)
+framed : {q : ℕ} {t u : List ℕ} {b b′ : Book} {e e′ : ℕ} → State q t b e → SameFrame t u → Formed u → b′ .names ≡ b .names → b′ .counties ≡ b .counties → length (b′ .file) ≡ length (b .file)
     → (b′ .writes ≡ 0 → b′ .file ≡ zeros (length (b′ .file))) → Inv (usedOf t) (whole u q) (contentsOf u q) b′ e′ → Trail q u (b′ .writes) → State q u b′ e′
-unfolding nameIn
-framed {q} {t} {u} {b} {b′} {e} {e′} S f w n l z I r = record {
+unfolding nameIn countyIn
+framed {q} {t} {u} {b} {b′} {e} {e′} S f w n m l z I r = record {
   group = rw (same-files f) (S .group);
   formed = w;
   used = same-used f ∙ S .used ∙ sym (ap length n);
   names = rw (same-used f) (λ i u. ap (λ (g : ℕ → ℕ). g i) (f .names) ∙ S .names i u ∙ ap (λ (x : List ℕ). getD x (i - 1) 0) (sym n));
+  places = same-used f ∙ S .places ∙ sym (ap length m);
+  counties = rw (same-used f) (λ i u. ap (λ (g : ℕ → ℕ). g i) (f .counties) ∙ S .counties i u ∙ ap (λ (x : List ℕ). countyAt x i) (sym m));
   file = l ∙ S .file ∙ sym (same-file f);
   blank = z;
   inv = rw (same-used f) I;
@@ -96,58 +99,63 @@ past-all q t b e S i v = S .inv .versions i v .past
 -- ---- a done joining
 module _ (q : ℕ) (t : List ℕ) (b : Book) (e : ℕ) (S : State q t b e) (a : Joining) (y : JoinYes t a) where
   ju : List ℕ
-  ju = joined t (a .name)
+  ju = joined t (a .name) (a .county)
 
-  more : OneMore t ju (a .name)
+  more : OneMore t ju (a .name) (a .county)
   unfolding ju
-  more = joined-alters t (y .formed) (a .name) (y .room)
+  more = joined-alters t (y .formed) (a .name) (y .room) (a .county)
 
-  grown : Grown (usedOf t) (whole t q) (contentsOf t q) b e (S .inv) (whole ju q) (contentsOf ju q) (a .name)
+  grown : Grown (usedOf t) (whole t q) (contentsOf t q) b e (S .inv) (whole ju q) (contentsOf ju q) (a .name) (a .county)
   unfolding whole polled staleOf versionOf desiredOf contentsOf epochOf listOf epoch
   grown =
-      let n = new-says t ju (a .name) (y .formed) (y .room) more in
-      let c = new-copies t ju (a .name) (y .formed) (y .room) more q (S .group) in
-      let same = kept t ju (a .name) (y .formed) (y .room) more in
+      let n = new-says t ju (a .name) (a .county) (y .formed) (y .room) more in
+      let c = new-copies t ju (a .name) (a .county) (y .formed) (y .room) more q (S .group) in
+      let same = kept t ju (a .name) (a .county) (y .formed) (y .room) more in
       record {
         epoch = same epoch (inr (omega arith));
-        list = list-kept t ju (a .name) (y .formed) (y .room) more;
-        old = λ i v. stays-of t ju q i (copies-kept t ju (a .name) (y .formed) (y .room) more i q v);
+        list = list-kept t ju (a .name) (a .county) (y .formed) (y .room) more;
+        old = λ i v. stays-of t ju q i (copies-kept t ju (a .name) (a .county) (y .formed) (y .room) more i q v);
         new-epoch = n .epoch;
         new-list = n .list;
         new = record { stale = ap (λ (x : ℕ). eqb x 1) (c .mark); version = c .version; desired = c .desired; contents = c .contents ∙ ap zeros (sym (S .file)) };
       }
 
-  pub next-join : State q (joined t (a .name)) (admitted b (a .name)) e
+  pub next-join : State q (joined t (a .name) (a .county)) (admitted b (a .name) (a .county)) e
   unfolding ju whole polled listOf list admitted versionOf contentsOf keptOf
   next-join = record {
-    group = rw (files-kept t ju (a .name) (y .formed) (y .room) more) (S .group);
-    formed = more-formed t ju (a .name) (y .formed) (y .room) more (y .named) (y .free);
-    used = counted ∙ ap suc (S .used) ∙ sym (names-more b (a .name));
+    group = rw (files-kept t ju (a .name) (a .county) (y .formed) (y .room) more) (S .group);
+    formed = more-formed t ju (a .name) (a .county) (y .formed) (y .room) more (y .named) (y .placed) (y .free);
+    used = counted ∙ ap suc (S .used) ∙ sym (names-more b (a .name) (a .county));
     names = rw (counted) (λ i v. ⊎-elim
-        (λ z. ap (nameOf ju) z ∙ chain .new ∙ sym (new-name b (a .name)) ∙ ap (nameIn (admitted b (a .name))) (sym (z ∙ ap suc (S .used))))
-        (λ w. chain .names i w ∙ S .names i w ∙ sym (old-name b (a .name) i (rw (← S .used) w)))
+        (λ z. ap (nameOf ju) z ∙ chain .new ∙ sym (new-name b (a .name) (a .county)) ∙ ap (nameIn (admitted b (a .name) (a .county))) (sym (z ∙ ap suc (S .used))))
+        (λ w. chain .names i w ∙ S .names i w ∙ sym (old-name b (a .name) (a .county) i (rw (← S .used) w)))
         (last (usedOf t) i v));
-    file = S .file ∙ sym (file-kept t ju (a .name) (y .formed) (y .room) more);
+    places = counted ∙ ap suc (S .places) ∙ sym (places-more b (a .name) (a .county));
+    counties = rw counted (λ i v. ⊎-elim
+        (λ z. ap (countyOf ju) z ∙ county-new t ju (a .name) (a .county) (y .formed) (y .room) more (y .named) (y .placed) (y .free) ∙ sym (new-county b (a .name) (a .county)) ∙ ap (countyIn (admitted b (a .name) (a .county))) (sym (z ∙ ap suc (S .places))))
+        (λ w. county-kept t ju (a .name) (a .county) (y .formed) (y .room) more i w ∙ S .counties i w ∙ sym (old-county b (a .name) (a .county) i (rw (← S .places) w)))
+        (last (usedOf t) i v));
+    file = S .file ∙ sym (file-kept t ju (a .name) (a .county) (y .formed) (y .room) more);
     blank = S .blank;
-    inv = rw (counted) (keep-join (usedOf t) (whole t q) (contentsOf t q) b e (S .inv) (whole ju q) (contentsOf ju q) (a .name) grown (S .used) (λ i v. S .formed .heads i v .only) (S .blank));
-    trail = trail-more (S .trail) (file-kept t ju (a .name) (y .formed) (y .room) more) counted (λ i v. same-copy q t ju i (copies-kept t ju (a .name) (y .formed) (y .room) more i q v)) (blank .version) new-kept (last (usedOf t));
+    inv = rw (counted) (keep-join (usedOf t) (whole t q) (contentsOf t q) b e (S .inv) (whole ju q) (contentsOf ju q) (a .name) (a .county) grown (S .used) (sym (S .places) ∙ S .used) (λ i v. S .formed .heads i v .only) (S .blank));
+    trail = trail-more (S .trail) (file-kept t ju (a .name) (a .county) (y .formed) (y .room) more) counted (λ i v. same-copy q t ju i (copies-kept t ju (a .name) (a .county) (y .formed) (y .room) more i q v)) (blank .version) new-kept (last (usedOf t));
   }
     where
       counted : usedOf ju ≡ suc (usedOf t)
-      counted = more-used t ju (a .name) (y .formed) (y .room) more
+      counted = more-used t ju (a .name) (a .county) (y .formed) (y .room) more
 
       blank : BlankCopy (fileLengthOf t) (copyBytes ju q (suc (usedOf t)))
-      blank = new-copies t ju (a .name) (y .formed) (y .room) more q (S .group)
+      blank = new-copies t ju (a .name) (a .county) (y .formed) (y .room) more q (S .group)
 
       new-kept : keptOf ju q (suc (usedOf t)) ≡ record { contents = zeros (fileLengthOf t); window = emptied }
       new-kept = λ j. record { contents = blank .contents j; window = window-blank (fileLengthOf t) (copyBytes ju q (suc (usedOf t))) blank j }
 
       chain : Joined t ju (a .name)
-      chain = more-chain t ju (a .name) (y .formed) (y .room) more (y .named) (y .free)
+      chain = more-chain t ju (a .name) (a .county) (y .formed) (y .room) more (y .named) (y .placed) (y .free)
 
 -- a joining keeps the files
-pub join-files : (t : List ℕ) (a : Joining) → JoinYes t a → filesOf (joined t (a .name)) ≡ filesOf t
-join-files t a y = files-kept t (joined t (a .name)) (a .name) (y .formed) (y .room) (joined-alters t (y .formed) (a .name) (y .room))
+pub join-files : (t : List ℕ) (a : Joining) → JoinYes t a → filesOf (joined t (a .name) (a .county)) ≡ filesOf t
+join-files t a y = files-kept t (joined t (a .name) (a .county)) (a .name) (a .county) (y .formed) (y .room) (joined-alters t (y .formed) (a .name) (y .room) (a .county))
 
 -- ---- a done write
 module _ (t : List ℕ) (b : Book) (e : ℕ) (a : Writing) (S : State (a .file) t b e) (y : WriteYes t a) where
@@ -208,7 +216,7 @@ module _ (t : List ℕ) (b : Book) (e : ℕ) (a : Writing) (S : State (a .file) 
 
   pub next-write : State (a .file) (writeTable t a y) (written b (writeSet b (a .c) (a .r)) (a .offset) (a .patch)) e
   unfolding u s written
-  next-write = framed S (write-leaves t a y .frame) (write-formed t a y) refl (length-put (b .file) (a .offset) (a .patch) (omega (arith, S .file, y .range))) (λ z. absurd (omega arith))
+  next-write = framed S (write-leaves t a y .frame) (write-formed t a y) refl refl (length-put (b .file) (a .offset) (a .patch) (omega (arith, S .file, y .range))) (λ z. absurd (omega arith))
       (subst (λ (x : ℕ → Bool). Inv (usedOf t) (whole u (a .file)) (contentsOf u (a .file)) (written b x (a .offset) (a .patch)) e) set
       (keep-write (usedOf t) (whole t (a .file)) (contentsOf t (a .file)) b e (few (a .file) t b e S (a .r)) (S .inv) (whole u (a .file)) (contentsOf u (a .file)) s (a .offset) (a .patch)
       (work-used (a .file) t b e S (a .r) Write (a .c) (y .first)) (work-quorum (a .file) t b e S (a .r) Write (a .c) (y .first) (y .quorum)) (current-all (a .file) t b e S Write (a .c) (a .r) (y .first) (y .quorum) (y .current)) wrote)) (rw (add-one (b .writes)) write-trail)
@@ -259,7 +267,7 @@ module _ (t : List ℕ) (b : Book) (e : ℕ) (a : Sending) (S : State (a .file) 
 
   pub next-send : State (a .file) (sendTable t a y) (passedOn b (a .f) (a .t)) e
   unfolding su passedOn whole polled
-  next-send = framed S (send-leaves t a y .frame) (send-formed t a y) refl refl (S .blank)
+  next-send = framed S (send-leaves t a y .frame) (send-formed t a y) refl refl refl (S .blank)
       (keep-send (usedOf t) (whole t (a .file)) (contentsOf t (a .file)) b e (few (a .file) t b e S (a .r)) (S .inv) (whole su (a .file)) (contentsOf su (a .file)) (a .f) (a .t) (y .from-used) (y .to-used) (y .mark) (y .enough) sent) send-trail
 
 -- ---- a file whose copies and all heads stay
@@ -267,7 +275,7 @@ pub next-other : {t u : List ℕ} {q : ℕ} {s : ℕ → Bool} {g : ℕ → List
 unfolding whole
 next-other {t} {u} o w p b e d S =
     let E = only-equal o (S .formed) w p d in
-    framed S (o .leaves .frame) w refl refl (S .blank) (rw (polled-same E (λ i. true), contents-same E) (S .inv))
+    framed S (o .leaves .frame) w refl refl refl (S .blank) (rw (polled-same E (λ i. true), contents-same E) (S .inv))
     (trail-same (S .trail) (same-file (o .leaves .frame)) (same-used (o .leaves .frame)) (λ i v. same-copy p t u i (o .others i p v d)))
 
 -- ---- a done check
@@ -298,7 +306,7 @@ module _ (q : ℕ) (t : List ℕ) (b : Book) (e : ℕ) (S : State q t b e) (a : 
     unfolding cu whole polled changed fieldsOf copyKit copyBytes staleOf versionOf desiredOf contentsOf
     rows-checked = record {
       epoch = rw (sym (polls-alike t q (a .r) (has (a .r)) .1 ∙ epoch-whole q t b e S (a .r) (has (a .r)) all)) (λ i v. check-membership t a y room cur i v .0);
-      list = λ i v. check-membership t a y room cur i v .1 ∙ ap (λ (l : Laid). cond (has (a .r) i) (laidNow (isTall l) (a .r)) (listOf t i)) (force-is .1);
+      list = λ i v. check-membership t a y room cur i v .1 ∙ ap₂ (λ (l : Laid) (county : ℕ → ℕ). cond (has (a .r) i) (laidNow (isTall l) county (a .r)) (listOf t i)) (force-is .1) (county-is q t b e S);
       out = λ i v m. stays-of t cu q i (out-copy (check-leaves t a y room) i q v m);
       taken = rw (sym (good-whole q t b e S (a .r) (has (a .r)) all)) (λ i v m g. stays-of t cu q i (check-taken t a y room i q v (S .group) m g));
       marked = rw (sym (good-whole q t b e S (a .r) (has (a .r)) all), sym (version-whole q t b e S (a .r) (has (a .r)) all)) (λ i v m g. is-of t cu q i (check-marked t a y room i q v (S .group) m g));
@@ -315,6 +323,6 @@ module _ (q : ℕ) (t : List ℕ) (b : Book) (e : ℕ) (S : State q t b e) (a : 
 
     pub next-check : eqb (a .r) (inForce (answers t 1 (a .r)) (has (a .r)) .members) ≡ false → State q (checkTable t a y room) (checked b (a .r)) (suc e)
     unfolding cu checked agreed
-    next-check other = rw (ap (λ (v : Laid). eqb (a .r) (v .members)) (sym (force-is .1)) ∙ other) (framed S (check-leaves t a y room .frame) (check-formed t a y room cur fresh) refl refl (S .blank)
+    next-check other = rw (ap (λ (v : Laid). eqb (a .r) (v .members)) (sym (force-is .1)) ∙ other) (framed S (check-leaves t a y room .frame) (check-formed t a y room cur fresh) refl refl refl (S .blank)
         (keep-check (usedOf t) (whole t q) (contentsOf t q) b e (few q t b e S (a .r)) (S .inv) (whole cu q) (contentsOf cu q) (a .r) (y .first .rows) check-quorum
         (sym (current-whole q t b e S (a .r) (has (a .r)) all) ∙ cur q (S .group)) rows-checked) check-trail)

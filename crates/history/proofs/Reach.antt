@@ -17,19 +17,22 @@ use Rattle.sets.proofs.SetLaws.{has-within}
 use Rattle.quorums.specs.declared.Kind.the-variants.{Write}
 use Rattle.bytes.proofs.ByteLaws.{length-put, length-zeros}
 use Rattle.fields.specs.Layout.{stride, usedOf, filesOf, fileLengthOf}
-use Rattle.table.specs.Chain.{orderOf}
-use Rattle.table.specs.WellFormed.{between, limit, onlyRows}
+use Rattle.table.specs.Chain.{frameOf}
+use Rattle.table.specs.WellFormed.{between, isCounty, limit, onlyRows}
 use Rattle.table.proofs.FormLaws.{well-formed-of}
-use Rattle.protocol.specs.Lists.{laidNow, listChoice}
+use Rattle.counties.specs.Counties.{countyAt, listChoice}
+use Rattle.counties.specs.Marks.{laidNow}
 use Rattle.protocol.specs.Polls.{goodVersion, current, quorumHeld}
+use Rattle.sheet.specs.Sheet.{byClub}
+use Rattle.sheet.proofs.ShownLaws.{openSheet, open-right, open-asks}
 use Rattle.asking.specs.Asking.{firstNo, before}
 use Rattle.bytes.specs.Bytes.{zeros}
 use Rattle.protocol.specs.Calls.{Founding, Writing, founding, write, isUsed, inFile, inGroup, byCoordinator, questions, outcome, answers, workSet, namesIn, namesRising, foundedList}
 use Rattle.protocol.proofs.ListLaws.{one-holds}
 use Rattle.protocol.proofs.PollLaws.{cut-in}
 use Rattle.protocol.proofs.QuestionLaws.{refusal-is, ByCoordinator}
-use Rattle.history.specs.Book.{Book, opened, order, nameIn, hasAll, holdsQuorum, someHasAll, writeSet, written, entered}
-use Rattle.history.specs.Demand3.{verdict}
+use Rattle.history.specs.Book.{Book, opened, frame, countyIn, nameIn, hasAll, holdsQuorum, someHasAll, writeSet, written, entered}
+use Rattle.history.specs.Demand3.{verdict, shareNo, due}
 use Rattle.history.specs.Claims.{tableAfter, bookAfter, Reached, after, aWrite, BelowTheLimit, AtTheLimit, WithWrites, LimitReached}
 use Rattle.history.proofs.State.{State, six-is, seven-is}
 use Rattle.history.proofs.Answers.{version-now, passed-seven, Group, first-file}
@@ -37,19 +40,20 @@ use Rattle.history.proofs.Theorems.{next, opens, reached, below-the-lim
 
 -- the machine writes the only byte of its file
 unfoldable again : Writing
-again = record { c = 1; r = 1; offset = 0; patch = 7 ∷ []; called = 0 ∷ []; file = 1 }
+again = record { c = 1; r = 1; offset = 0; patch = 7 ∷ []; called = 0 ∷ []; file = 1; sheet = openSheet; club = 1 }
 
 -- the book of a file of one byte on one machine
 record Lone (b : Book) : Type 0 where
   pub names : b .names ≡ 10 ∷ []
-  pub list : b .inForce ≡ laidNow false 1
+  pub counties : b .counties ≡ 1 ∷ []
+  pub list : b .inForce ≡ laidNow false (countyAt (1 ∷ [])) 1
   pub file : length (b .file) ≡ 1
   pub all : hasAll b 1 ≡ true
 
 module _ (b : Book) (L : Lone b) where
   holds : holdsQuorum b Write (has 1) ≡ true
-  unfolding holdsQuorum order byName inserted
-  holds = rw (L .names, L .list) one-holds
+  unfolding holdsQuorum frame countyIn byName inserted
+  holds = rw (L .names, L .counties, L .list) one-holds
 
   someone : someHasAll b (has 1) ≡ true
   unfolding someHasAll has
@@ -61,13 +65,13 @@ module _ (b : Book) (L : Lone b) where
   takes = go (holdsQuorum b Write tried && someHasAll b tried) refl
     where
       tried : ℕ → Bool
-      tried = cutTo (listChoice Write (order b) (b .own 1) (nameIn b 1)) (has 1)
+      tried = cutTo (listChoice Write (frame b) (b .own 1) (nameIn b 1)) (has 1)
 
       go : (x : Bool) → (holdsQuorum b Write tried && someHasAll b tried) ≡ x → cond x tried (has 1) 1 ≡ true
       go true h =
           let w = some-at 64 _ (and-r (holdsQuorum b Write tried) _ h) in
           let m : tried (w .0) ≡ true = and-l _ _ (w .2) in
-          let u = has-within 1 1 (w .0) (omega arith) (cut-in (listChoice Write (order b) (b .own 1) (nameIn b 1)) (has 1) (w .0) m) in
+          let u = has-within 1 1 (w .0) (omega arith) (cut-in (listChoice Write (frame b) (b .own 1) (nameIn b 1)) (has 1) (w .0) m) in
           subst (λ (i : ℕ). tried i ≡ true) {x = w .0} {y = 1} (omega arith) m
       go false h = refl
 
@@ -76,6 +80,7 @@ module _ (b : Book) (L : Lone b) where
   unfolding again entered written hasAll
   more = record {
     names = L .names;
+    counties = L .counties;
     list = L .list;
     file = length-put (b .file) 0 (7 ∷ []) (omega (arith, L .file)) ∙ L .file;
     all = every-of (b .writes + 1) _ (λ k w. has-it k w (ℕ-discrete k (b .writes + 1)));
@@ -95,14 +100,14 @@ module _ (b : Book) (L : Lone b) where
 
     -- it passes 1 to 5, and 6 and 7 too
     passes-all : (firstNo (before 6 (questions t (write again))) ≡ 0) × (firstNo (before 8 (questions t (write again))) ≡ 0)
-    unfolding again questions before byCoordinator firstNo isUsed between onlyRows inFile inGroup has
+    unfolding again questions before byCoordinator firstNo isUsed between onlyRows inFile inGroup has byClub
     passes-all =
         let u : usedOf t ≡ 1 = S .used ∙ ap length (L .names) in
         let f : fileLengthOf t ≡ 1 = sym (S .file) ∙ L .file in
-        let six : quorumHeld Write (orderOf t) (answers t 1 1) (workSet Write t 1 1 1) ≡ true = six-is 1 t b e S 1 Write 1 by-one ∙ holds in
+        let six : quorumHeld Write (frameOf t) (answers t 1 1) (workSet Write t 1 1 1) ≡ true = six-is 1 t b e S 1 Write 1 by-one ∙ holds in
         let cur : current (answers t 1 1) (workSet Write t 1 1 1) ≡ true = seven-is 1 t b e S 1 Write 1 by-one holds ∙ someone in
         let g : leb 1 (filesOf t) ≡ true = le-leb 1 (filesOf t) (S .group .1) in
-        rw (well-formed-of t (S .formed), u, f, g, six, cur) (refl, refl)
+        rw (open-right, well-formed-of t (S .formed), u, f, g, six, cur) (refl, open-asks)
 
     is-done : b .writes < 1_000_000 → outcome t (write again) .refusal ≡ 0
     unfolding again firstNo limit
@@ -110,20 +115,20 @@ module _ (b : Book) (L : Lone b) where
         let a = passed-seven t b e again (passes-all .1) in
         refusal-is t (write again) ∙ a .3 ∙ rw (lt-ltb (goodVersion (answers t 1 1) (workSet Write t 1 1 1)) limit (omega (arith, version-now 1 t b e S Write 1 1 (a .0) (a .1) (a .2))))
 
--- one machine, named 10, and a file of one byte
+-- one machine, named 10, of county 1, and a file of one byte
 unfoldable alone : Founding
-alone = record { capacity = 1; fileLength = 1; names = 10 ∷ 0 ∷ []; choice = 0; files = 1 }
+alone = record { capacity = 1; fileLength = 1; names = 10 ∷ 0 ∷ []; choice = 0; files = 1; counties = 1 ∷ [] }
 
 blank : List ℕ
 blank = zeros (16 + stride 1 1)
 
 founds : outcome blank (founding alone) .refusal ≡ 0
-unfolding alone blank questions firstNo namesIn namesRising between
+unfolding alone blank questions firstNo namesIn namesRising between every isCounty countyAt
 founds = refusal-is blank (founding alone) ∙ rw (eq-eqb (length (zeros (16 + stride 1 1))) (16 + 1 * stride 1 1) (length-zeros (16 + stride 1 1) ∙ omega arith))
 
 first : Lone (opened alone)
 unfolding alone opened foundedList namesIn zeros hasAll every
-first = record { names = refl; list = refl; file = refl; all = refl }
+first = record { names = refl; counties = refl; list = refl; file = refl; all = refl }
 
 -- m writes more
 many : (m : ℕ) (t : List ℕ) (b : ℕ → Book) (e : ℕ) → Group t b e → Lone (b 1) → b 1 .writes + m ≤ 1_000_000
@@ -161,8 +166,8 @@ reach n x h answer =
 
 -- so the premises of both claims about 1,000,000 are met with: below it the answer is the book's, at it 8
 pub limit-reached : LimitReached
-unfolding LimitReached BelowTheLimit AtTheLimit again verdict
+unfolding LimitReached BelowTheLimit AtTheLimit again verdict due shareNo
 limit-reached = (
-  reach 999_999 0 (omega arith) (λ t b R w L. let l = reached t b R in below-the-limit t b R (write again) Write 1 1 aWrite w (passes-all (b 1) L t (l .0) (first-file (l .1)) .0) ∙ rw (holds (b 1) L, someone (b 1) L)),
+  reach 999_999 0 (omega arith) (λ t b R w L. let l = reached t b R in below-the-limit t b R (write again) Write 1 1 aWrite w (passes-all (b 1) L t (l .0) (first-file (l .1)) .0) ∙ rw (holds (b 1) L, someone (b 1) L) open-asks),
   reach 1_000_000 8 (omega arith) (λ t b R w L. let l = reached t b R in at-the-limit t b R 1 w .writes (write again) 1 aWrite (passes-all (b 1) L t (l .0) (first-file (l .1)) .1)),
 )

@@ -16,11 +16,12 @@ use Rattle.quorums.specs.declared.Kind.the-variants.{Read, Write}
 use Rattle.bytes.specs.Bytes.{put}
 use Rattle.fields.specs.declared.Laid.{Laid}
 use Rattle.fields.specs.Layout.{isEmpty, isTall}
-use Rattle.protocol.specs.Lists.{laidNow, listQuorum}
+use Rattle.counties.specs.Counties.{Frame, listQuorum}
+use Rattle.counties.specs.Marks.{laidNow}
 use Rattle.protocol.specs.Polls.{Poll, highestEpoch, inForce, goodVersion, good, current}
 use Rattle.protocol.proofs.ListLaws.{shared, inhabited, reads, has-list}
 use Rattle.protocol.proofs.PollLaws.{good-at, good-of}
-use Rattle.history.specs.Book.{Book, order, nameIn, hasAll, holdsQuorum, written, passedOn, agreed}
+use Rattle.history.specs.Book.{Book, frame, countyIn, nameIn, hasAll, holdsQuorum, written, passedOn, agreed}
 use Rattle.history.proofs.Invariant.{aim, Epochs, Versions, Inv, clean, in-force, version-is, good-is}
 
 -- what a row says, and its contents
@@ -43,9 +44,9 @@ unfolding aim
 aim-of q = rw (q .stale, q .version, q .desired)
 
 -- epochs and lists that stay
-epochs-of : {n : ℕ} {order : List ℕ} {f f′ : ℕ → ℕ} {g g′ : ℕ → Laid} {force : Laid} {own : ℕ → Laid} {e : ℕ}
-    → ((i : ℕ) → Within n i → f′ i ≡ f i) → ((i : ℕ) → Within n i → g′ i ≡ g i) → Epochs n order f g force own e → Epochs n order f′ g′ force own e
-epochs-of {n} {order} {f} {f′} {g} {g′} {force} {own} {e} q m E = record {
+epochs-of : {n : ℕ} {frame : Frame} {f f′ : ℕ → ℕ} {g g′ : ℕ → Laid} {force : Laid} {own : ℕ → Laid} {e : ℕ}
+    → ((i : ℕ) → Within n i → f′ i ≡ f i) → ((i : ℕ) → Within n i → g′ i ≡ g i) → Epochs n frame f g force own e → Epochs n frame f′ g′ force own e
+epochs-of {n} {frame} {f} {f′} {g} {g′} {force} {own} {e} q m E = record {
   below = λ i u. rw (q i u) (E .below i u);
   inside = λ i u. rw (q i u, m i u) (E .inside i u);
   bare = λ i u. rw (q i u, m i u) (E .bare i u);
@@ -88,7 +89,7 @@ module _ (n : ℕ) (p : Poll) (c : ℕ → List ℕ) (b : Book) (e : ℕ) (few :
       (w : Wrote s (goodVersion p s + 1) offset patch) where
     read-q : holdsQuorum b Read s ≡ true
     unfolding holdsQuorum
-    read-q = reads (order b) (b .inForce) Write s q
+    read-q = reads (frame b) (b .inForce) Write s q
 
     now : goodVersion p s ≡ b .writes
     now = version-is n p c b e few I s ins read-q cur
@@ -128,16 +129,16 @@ module _ (n : ℕ) (p : Poll) (c : ℕ → List ℕ) (b : Book) (e : ℕ) (few :
           kept = λ k h. rw m (or-false (b .hasWrite i k) ∙ v .kept k h);
         })
 
-    wrote-live : (t : ℕ → Bool) → listQuorum Read (order b) (b .inForce) t ≡ true → (i : ℕ) × Within n i × (t i ≡ true) × (aim p′ i ≡ b .writes + 1)
+    wrote-live : (t : ℕ → Bool) → listQuorum Read (frame b) (b .inForce) t ≡ true → (i : ℕ) × Within n i × (t i ≡ true) × (aim p′ i ≡ b .writes + 1)
     unfolding holdsQuorum
-    wrote-live t h = let r = shared (order b) (b .inForce) t s h q in (r .0, ins (r .0) (r .3), r .2, go (r .0) (r .3) (good p s (r .0)) refl)
+    wrote-live t h = let r = shared (frame b) (b .inForce) t s h q in (r .0, ins (r .0) (r .3), r .2, go (r .0) (r .3) (good p s (r .0)) refl)
       where
         go : (i : ℕ) → s i ≡ true → (y : Bool) → good p s i ≡ y → aim p′ i ≡ b .writes + 1
         go i m true g = let d = good-at p s i g in aim-of (w .taken i (ins i m) m g) ∙ rw (d .clean) (ap (λ (x : ℕ). x + 1) now)
         go i m false g = aim-of (w .marked i (ins i m) m g) ∙ ap (λ (x : ℕ). x + 1) now
 
     pub keep-write : Inv n p′ c′ (written b s offset patch) e
-    unfolding written order nameIn
+    unfolding written frame countyIn nameIn
     keep-write = record { epochs = epochs-of (w .epoch) (w .list) (I .epochs); versions = wrote-versions; live = wrote-live }
 
   -- ---- the rows after a send from f to t
@@ -173,7 +174,7 @@ module _ (n : ℕ) (p : Poll) (c : ℕ → List ℕ) (b : Book) (e : ℕ) (few :
         go false q = versions-of (w .out i u q)
             (record { past = v .past; wants = v .wants; same = v .same; kept = λ k h. rw q (or-false (b .hasWrite i k) ∙ v .kept k h) })
 
-    sent-live : (s : ℕ → Bool) → listQuorum Read (order b) (b .inForce) s ≡ true → (i : ℕ) × Within n i × (s i ≡ true) × (aim p′ i ≡ b .writes)
+    sent-live : (s : ℕ → Bool) → listQuorum Read (frame b) (b .inForce) s ≡ true → (i : ℕ) × Within n i × (s i ≡ true) × (aim p′ i ≡ b .writes)
     unfolding aim
     sent-live s h = let r = I .live s h in (r .0, r .1, r .2, go (r .0) (r .1) (r .3) (eqb (r .0) t) refl)
       where
@@ -185,13 +186,13 @@ module _ (n : ℕ) (p : Poll) (c : ℕ → List ℕ) (b : Book) (e : ℕ) (few :
         go i u a false q = aim-of (w .out i u q) ∙ a
 
     pub keep-send : Inv n p′ c′ (passedOn b f t) e
-    unfolding passedOn order nameIn
+    unfolding passedOn frame countyIn nameIn
     keep-send = record { epochs = epochs-of (w .epoch) (w .list) (I .epochs); versions = sent-versions; live = sent-live }
 
   -- ---- the rows after a check over r that makes epoch x
   pub record Checked (r x : ℕ) : Type 0 where
     pub epoch : (i : ℕ) → Within n i → p′ .epoch i ≡ cond (has r i) x (p .epoch i)
-    pub list : (i : ℕ) → Within n i → p′ .list i ≡ cond (has r i) (laidNow (isTall (b .inForce)) r) (p .list i)
+    pub list : (i : ℕ) → Within n i → p′ .list i ≡ cond (has r i) (laidNow (isTall (b .inForce)) (countyIn b) r) (p .list i)
     pub out : (i : ℕ) → Within n i → has r i ≡ false → Stays p c p′ c′ i
     pub taken : (i : ℕ) → Within n i → has r i ≡ true → good p (has r) i ≡ true → Stays p c p′ c′ i
     pub marked : (i : ℕ) → Within n i → has r i ≡ true → good p (has r) i ≡ false → Is p′ c′ i true (p .version i) (goodVersion p (has r)) (c i)
@@ -202,7 +203,7 @@ module _ (n : ℕ) (p : Poll) (c : ℕ → List ℕ) (b : Book) (e : ℕ) (few :
 
     check-q : holdsQuorum b Read (has r) ≡ true
     unfolding holdsQuorum
-    check-q = reads (order b) (b .inForce) Write (has r) q
+    check-q = reads (frame b) (b .inForce) Write (has r) q
 
     -- that makes a new epoch
     module _ (cur : current p (has r) ≡ true) (w : Checked r (highestEpoch p (has r) + 1)) where
@@ -212,14 +213,14 @@ module _ (n : ℕ) (p : Poll) (c : ℕ → List ℕ) (b : Book) (e : ℕ) (few :
       new : goodVersion p (has r) ≡ b .writes
       new = version-is n p c b e few I (has r) ins check-q cur
 
-      new-epochs : Epochs n (order b) (λ i. cond (has r i) (suc e) (p .epoch i)) (λ i. cond (has r i) (laidNow (isTall (b .inForce)) r) (p .list i)) (laidNow (isTall (b .inForce)) r) (λ i. cond (has r i) (laidNow (isTall (b .inForce)) r) (b .own i)) (suc e)
+      new-epochs : Epochs n (frame b) (λ i. cond (has r i) (suc e) (p .epoch i)) (λ i. cond (has r i) (laidNow (isTall (b .inForce)) (countyIn b) r) (p .list i)) (laidNow (isTall (b .inForce)) (countyIn b) r) (λ i. cond (has r i) (laidNow (isTall (b .inForce)) (countyIn b) r) (b .own i)) (suc e)
       unfolding holdsQuorum laidNow
       new-epochs = record {
         below = λ i u. below i u (has r i);
         inside = λ i u m. rw m (refl, refl);
         forced = λ i u. forced i u (has r i);
         bare = λ i u. bare i u (has r i) refl;
-        owned = λ i u. ap (λ (x : Laid). cond (has r i) (laidNow (isTall (b .inForce)) r) x) (I .epochs .owned i u);
+        owned = λ i u. ap (λ (x : Laid). cond (has r i) (laidNow (isTall (b .inForce)) (countyIn b) r) x) (I .epochs .owned i u);
         bound = us;
         dead = λ i u. dead i u (has r i);
       }
@@ -228,12 +229,12 @@ module _ (n : ℕ) (p : Poll) (c : ℕ → List ℕ) (b : Book) (e : ℕ) (few :
           below i u true = omega arith
           below i u false = omega (arith, I .epochs .below i u)
 
-          forced : (i : ℕ) → Within n i → (x : Bool) → isEmpty (cond x (laidNow (isTall (b .inForce)) r) (p .list i)) ≡ false → cond x (suc e) (p .epoch i) ≡ suc e → cond x (laidNow (isTall (b .inForce)) r) (p .list i) ≡ laidNow (isTall (b .inForce)) r
+          forced : (i : ℕ) → Within n i → (x : Bool) → isEmpty (cond x (laidNow (isTall (b .inForce)) (countyIn b) r) (p .list i)) ≡ false → cond x (suc e) (p .epoch i) ≡ suc e → cond x (laidNow (isTall (b .inForce)) (countyIn b) r) (p .list i) ≡ laidNow (isTall (b .inForce)) (countyIn b) r
           forced i u true l h = refl
           forced i u false l h = absurd (omega (arith, I .epochs .below i u))
 
-          bare : (i : ℕ) → Within n i → (x : Bool) → has r i ≡ x → isEmpty (cond x (laidNow (isTall (b .inForce)) r) (p .list i)) ≡ true → cond x (suc e) (p .epoch i) ≡ 0
-          bare i u true m l = absurd (clash (sym (has-list (laidNow (isTall (b .inForce)) r) i m) ∙ l))
+          bare : (i : ℕ) → Within n i → (x : Bool) → has r i ≡ x → isEmpty (cond x (laidNow (isTall (b .inForce)) (countyIn b) r) (p .list i)) ≡ true → cond x (suc e) (p .epoch i) ≡ 0
+          bare i u true m l = absurd (clash (sym (has-list (laidNow (isTall (b .inForce)) (countyIn b) r) i m) ∙ l))
           bare i u false m l = I .epochs .bare i u l
 
           under : (i j : ℕ) (x : Bool) → p .epoch i ≤ e → cond x (suc e) (p .epoch j) ≤ p .epoch i → p .epoch j ≤ p .epoch i
@@ -242,14 +243,14 @@ module _ (n : ℕ) (p : Poll) (c : ℕ → List ℕ) (b : Book) (e : ℕ) (few :
 
           dead : (i : ℕ) → Within n i → (x : Bool) → cond x (suc e) (p .epoch i) < suc e → (s : ℕ → Bool)
               → ((j : ℕ) → Within n j → s j ≡ true → cond (has r j) (suc e) (p .epoch j) ≤ cond x (suc e) (p .epoch i))
-              → listQuorum Read (order b) (cond x (laidNow (isTall (b .inForce)) r) (p .list i)) s ≡ true → ⊥
+              → listQuorum Read (frame b) (cond x (laidNow (isTall (b .inForce)) (countyIn b) r) (p .list i)) s ≡ true → ⊥
           dead i u true l s f h = omega arith
           dead i u false l s f h = go (ℕ-discrete (p .epoch i) e)
             where
               go : Dec (p .epoch i ≡ e) → ⊥
               go (yes z) =
-                  let w = inhabited (order b) (p .list i) Read s h in
-                  let m = shared (order b) (b .inForce) s (has r) (rw (I .epochs .forced i u (has-list (p .list i) (w .0) (w .1)) z) at h) q in
+                  let w = inhabited (frame b) (p .list i) Read s h in
+                  let m = shared (frame b) (b .inForce) s (has r) (rw (I .epochs .forced i u (has-list (p .list i) (w .0) (w .1)) z) at h) q in
                   let g : suc e ≤ p .epoch i = rw (m .3) at (f (m .0) (ins (m .0) (m .3)) (m .2)) in
                   omega arith
               go (no d) = I .epochs .dead i u (omega (arith, I .epochs .below i u)) s (λ j v m. under i j (has r j) (I .epochs .below i u) (f j v m)) h
@@ -274,16 +275,16 @@ module _ (n : ℕ) (p : Poll) (c : ℕ → List ℕ) (b : Book) (e : ℕ) (few :
               short (yes z) = absurd (clash (sym g ∙ good-of p (has r) i (record { inside = m; clean = clean n p c b e few I i u z; newest = z ∙ sym new })))
           go false m y g = versions-of (w .out i u m) v
 
-      new-live : (s : ℕ → Bool) → listQuorum Read (order b) (laidNow (isTall (b .inForce)) r) s ≡ true → (i : ℕ) × Within n i × (s i ≡ true) × (aim p′ i ≡ b .writes)
+      new-live : (s : ℕ → Bool) → listQuorum Read (frame b) (laidNow (isTall (b .inForce)) (countyIn b) r) s ≡ true → (i : ℕ) × Within n i × (s i ≡ true) × (aim p′ i ≡ b .writes)
       unfolding laidNow
-      new-live s h = let m = inhabited (order b) (laidNow (isTall (b .inForce)) r) Read s h in (m .0, ins (m .0) (m .1), m .2, go (m .0) (m .1) (good p (has r) (m .0)) refl)
+      new-live s h = let m = inhabited (frame b) (laidNow (isTall (b .inForce)) (countyIn b) r) Read s h in (m .0, ins (m .0) (m .1), m .2, go (m .0) (m .1) (good p (has r) (m .0)) refl)
         where
           go : (i : ℕ) → has r i ≡ true → (y : Bool) → good p (has r) i ≡ y → aim p′ i ≡ b .writes
           go i m true g = let d = good-at p (has r) i g in aim-of (w .taken i (ins i m) m g) ∙ rw (d .clean) (d .newest ∙ new)
           go i m false g = aim-of (w .marked i (ins i m) m g) ∙ new
 
       pub keep-check : Inv n p′ c′ (agreed b r) (suc e)
-      unfolding agreed order nameIn
+      unfolding agreed frame countyIn nameIn
       keep-check = record {
         epochs = epochs-of (λ i u. w .epoch i u ∙ ap (λ (x : ℕ). cond (has r i) x (p .epoch i)) next) (w .list) new-epochs;
         versions = new-versions;

@@ -14,11 +14,12 @@ use Rattle.sets.proofs.SetLaws.{has-within}
 use Rattle.quorums.specs.declared.Kind.{Kind}
 use Rattle.quorums.specs.declared.Kind.the-variants.{Read, Write}
 use Rattle.fields.specs.Layout.{usedOf, filesOf, listOf}
-use Rattle.table.specs.Chain.{orderOf}
+use Rattle.table.specs.Chain.{frameOf}
 use Rattle.table.specs.WellFormed.{limit, onlyRows, wellFormed}
 use Rattle.table.proofs.FormLaws.{Formed, well-formed-of}
-use Rattle.protocol.specs.Lists.{laidNow}
+use Rattle.counties.specs.Marks.{laidNow}
 use Rattle.protocol.specs.Polls.{polled, highestEpoch, inForce, current, quorumHeld}
+use Rattle.sheet.specs.Sheet.{sheetRight}
 use Rattle.asking.specs.Asking.{firstNo, before}
 use Rattle.protocol.specs.Calls.{Founding, Checking, Call, founding, join, read, write, send, check, carry, Outcome, isUsed, byCoordinator, questions, done, outcome, answers}
 use Rattle.asking.proofs.AskingLaws.{yes-first}
@@ -29,7 +30,7 @@ use Rattle.protocol.proofs.CopyLaws.{OnlyCopies}
 use Rattle.protocol.proofs.DoneLaws.{writing, writeTable, write-only, sendTable, send-only, checking, checkList, checkTable, check-leaves}
 use Rattle.protocol.proofs.KeepLaws.{write-formed, send-formed}
 use Rattle.history.specs.Book.{Book, opened, holdsQuorum, someHasAll, entered, writeSet, written, passedOn, agreed, checked}
-use Rattle.history.specs.Demand3.{verdict, RefusedRight, Right, AllRight, Demand3}
+use Rattle.history.specs.Demand3.{verdict, due, RefusedRight, Right, AllRight, Demand3}
 use Rattle.history.specs.Claims.{tableAfter, bookAfter, Reached, after, AlwaysWellFormed, eachHasAll, ChecksByBook, CheckAgrees, Asks, aRead, aWrite, BelowTheLimit, AtTheLimit}
 use Rattle.history.proofs.State.{State, whole, six-check, seven-check}
 use Rattle.history.proofs.Answers.{read-refused, read-group, passed-seven, write-full, Group, first-file, right}
@@ -131,7 +132,7 @@ always-well-formed t b x = well-formed-of t (first-file (reached t b x .1) .form
 -- ---- checks
 module _ (t : List ℕ) (b : ℕ → Book) (e : ℕ) (G : Group t b e) (a : Checking) where
   six-seven : ByCoordinator t (a .c) (a .r)
-      → _≡_ {A = ℕ} (cond (quorumHeld Write (orderOf t) (answers t 1 (a .r)) (has (a .r))) (cond (eqb (a .r) (inForce (answers t 1 (a .r)) (has (a .r)) .members) || every (filesOf t) (λ q. current (answers t q (a .r)) (has (a .r)))) 0 7) 6)
+      → _≡_ {A = ℕ} (cond (quorumHeld Write (frameOf t) (answers t 1 (a .r)) (has (a .r))) (cond (eqb (a .r) (inForce (answers t 1 (a .r)) (has (a .r)) .members) || every (filesOf t) (λ q. current (answers t q (a .r)) (has (a .r)))) 0 7) 6)
       (cond (holdsQuorum (b 1) Write (has (a .r))) (cond (eqb (a .r) (b 1 .inForce .members) || eachHasAll (filesOf t) b (has (a .r))) 0 7) 6)
   unfolding eachHasAll
   six-seven B = rw (six-check 1 t (b 1) e (first-file G) (a .c) (a .r) B) (go (holdsQuorum (b 1) Write (has (a .r))) refl)
@@ -153,10 +154,11 @@ module _ (t : List ℕ) (b : ℕ → Book) (e : ℕ) (G : Group t b e) (a : Chec
       → firstNo (before 8 (questions t (check a))) ≡ cond (holdsQuorum (b 1) Write (has (a .r))) (cond (eqb (a .r) (b 1 .inForce .members) || eachHasAll (filesOf t) b (has (a .r))) 0 7) 6
   unfolding questions before byCoordinator firstNo
   check-right h =
-      let x = yes-first 0 (wellFormed t) (record { ask = 2; yes = isUsed t (a .c) && onlyRows (usedOf t) (a .r) } ∷ record { ask = 3; yes = has (a .r) (a .c) } ∷ []) h in
+      let s = yes-first 0 (sheetRight (a .sheet)) (byCoordinator t (a .c) (a .r) []) h in
+      let x = yes-first 0 (wellFormed t) (record { ask = 2; yes = isUsed t (a .c) && onlyRows (usedOf t) (a .r) } ∷ record { ask = 3; yes = has (a .r) (a .c) } ∷ []) (s .1) in
       let d = yes-first 1 (isUsed t (a .c) && onlyRows (usedOf t) (a .r)) (record { ask = 3; yes = has (a .r) (a .c) } ∷ []) (x .1) in
       let g = yes-first 2 (has (a .r) (a .c)) [] (d .1) in
-      rw (x .0, d .0, g .0) (six-seven (passed-first t (a .c) (a .r) [] h .0))
+      rw (s .0, x .0, d .0, g .0) (six-seven (passed-first t (a .c) (a .r) [] (s .1) .0))
 
 pub checks-by-book : ChecksByBook
 unfolding ChecksByBook
@@ -205,7 +207,7 @@ unfolding BelowTheLimit Demand3 Right RefusedRight
 below-the-limit t b (after t₀ a ks h) k kind q r x w p =
     go k kind q r x w (last-right q (outcome t₀ (founding a) .table) (opened a) ks k (demand-3 t₀ a (ks ++ (k ∷ [])) h q)) p
   where
-    go : (k : Call) (kind : Kind) (q r : ℕ) → Asks k kind q r → b q .writes ≡ 999_999 → Right q t (b q) k (outcome t k) → firstNo (before 6 (questions t k)) ≡ 0 → outcome t k .refusal ≡ verdict (b q) kind r
+    go : (k : Call) (kind : Kind) (q r : ℕ) → Asks k kind q r → b q .writes ≡ 999_999 → Right q t (b q) k (outcome t k) → firstNo (before 6 (questions t k)) ≡ 0 → outcome t k .refusal ≡ due (b q) k kind r
     go k kind q r aRead w a p = a refl .1 p (omega arith)
     go k kind q r aWrite w a p = a refl p (omega arith)
 

@@ -2,7 +2,7 @@
 use mathlib.Core.Path.{_≡_}
 use mathlib.Core.Bool.{Bool, true, false, cond, _||_}
 use mathlib.Core.List.{List, [], _∷_}
-use Prim.Native.Nat.{ℕ, _+_, _≤_}
+use Prim.Native.Nat.{ℕ, _+_, _≤_, _<_}
 use lib.Dec.{eqb, leb}
 use lib.ListN.{length}
 use Rattle.sets.specs.Upto.{Within, every, count}
@@ -10,12 +10,15 @@ use Rattle.sets.specs.Sets.{has, losing}
 use Rattle.quorums.specs.declared.Kind.{Kind}
 use Rattle.quorums.specs.declared.Kind.the-variants.{Read, Write}
 use Rattle.fields.specs.Layout.{usedOf, filesOf, listOf, copyBytes, staleOf, versionOf, desiredOf, contentsOf}
+use Rattle.counties.specs.Counties.{several}
+use Rattle.counties.specs.Claims.{InOne}
 use Rattle.window.specs.Windows.{Kept, patches, windowOf}
 use Rattle.table.specs.WellFormed.{wellFormed}
+use Rattle.sheet.specs.Sheet.{sheetRight}
 use Rattle.asking.specs.Asking.{firstNo, before}
 use Rattle.protocol.specs.Calls.{Founding, Reading, Writing, Sending, Checking, Call, founding, read, write, send, check, questions, outcome}
-use Rattle.history.specs.Book.{Book, opened, holdsQuorum, someHasAll, entered}
-use Rattle.history.specs.Demand3.{verdict, Right}
+use Rattle.history.specs.Book.{Book, countyIn, opened, holdsQuorum, someHasAll, entered}
+use Rattle.history.specs.Demand3.{verdict, due, Right}
 
 -- the table after a list of calls, and the book of file q after it
 unfoldable pub tableAfter : List ℕ → List Call → List ℕ
@@ -92,13 +95,15 @@ unfoldable pub BothWaysMet : Type 0
 BothWaysMet = SendBehind 16 true × SendBehind 17 false
 
 -- ---- "One machine lost"
--- "a list of four or more .. in force, a check by all its members but one"; "each file needs some one machine having all its done writes": x is not
--- there; the coordinator answers
+-- "a list of four or more .. in force", "within one county", "a check by all its members but one"; "each file needs some one machine having all its done writes": x is not
+-- there; the coordinator answers, and the sheet is right
 pub record AllButOneCheck (t : List ℕ) (b : ℕ → Book) (x : ℕ) (a : Checking) : Type 0 where
   pub four : 4 ≤ count 64 (has (b 1 .inForce .members))
+  pub county : InOne (countyIn (b 1)) (has (b 1 .inForce .members))
   pub others : has (a .r) ≡ losing (has (b 1 .inForce .members)) x
   pub current : (q : ℕ) → Within (filesOf t) q → someHasAll (b q) (has (a .r)) ≡ true
   pub coordinator : has (a .r) (a .c) ≡ true
+  pub sheet : sheetRight (a .sheet) ≡ true
 
 -- it "is not refused by 6 or 7", nor before. "so laid" is no premise: in a founded history every list in force was laid by its founding or by a check
 unfoldable pub OneLost : Type 0
@@ -108,18 +113,32 @@ OneLost = (t : List ℕ) (b : ℕ → Book) → Reached t b → (x : ℕ) (a : C
 unfoldable pub OneLostMet : Type 0
 OneLostMet = (t : List ℕ) × (b : ℕ → Book) × (x : ℕ) × (a : Checking) × Reached t b × AllButOneCheck t b x a × (has (b 1 .inForce .members) x ≡ true) × (filesOf t ≡ 2)
 
+-- ---- counties
+-- a founded history of several counties is met with: a write and a check were done, the check laid the list in force, of fewer machines and of several
+-- counties, and a read by it is done
+pub record SeveralMet : Type 0 where
+  pub table : List ℕ
+  pub books : ℕ → Book
+  pub reached : Reached table books
+  pub writes : books 1 .writes ≡ 1
+  pub fewer : count 64 (has (books 1 .inForce .members)) < usedOf table
+  pub counties : several (countyIn (books 1)) (has (books 1 .inForce .members)) ≡ true
+  pub mark : books 1 .inForce .mark ≡ 3
+  pub call : Reading
+  pub done : outcome table (read call) .refusal ≡ 0
+
 -- ---- 1,000,000 from both sides, of one file's writes
 -- k is a read or a write of file q, with the answering set R
 pub data Asks : Call → Kind → ℕ → ℕ → Type 0 where
   aRead : {a : Reading} → Asks (read a) Read (a .file) (a .r)
   aWrite : {a : Writing} → Asks (write a) Write (a .file) (a .r)
 
--- "After fewer than 1,000,000 done writes": after 999,999 too, reads and writes are refused by the book
+-- "After fewer than 1,000,000 done writes": after 999,999 too, reads and writes are refused by the book and the sheet
 unfoldable pub BelowTheLimit : Type 0
 BelowTheLimit = (t : List ℕ) (b : ℕ → Book) → Reached t b → (k : Call) (kind : Kind) (q r : ℕ) → Asks k kind q r → b q .writes ≡ 999_999
-    → firstNo (before 6 (questions t k)) ≡ 0 → outcome t k .refusal ≡ verdict (b q) kind r
+    → firstNo (before 6 (questions t k)) ≡ 0 → outcome t k .refusal ≡ due (b q) k kind r
 
--- after 1,000,000 a write that passes 1 to 7 is refused by 8, while reads are refused by the book and give the file
+-- after 1,000,000 a write that passes all before 8 is refused by it, while reads are refused by the book and give the file
 pub record Full (q : ℕ) (t : List ℕ) (b : Book) : Type 0 where
   pub writes : (k : Call) (r : ℕ) → Asks k Write q r → firstNo (before 8 (questions t k)) ≡ 0 → outcome t k .refusal ≡ 8
   pub reads : (k : Call) (r : ℕ) → Asks k Read q r → firstNo (before 6 (questions t k)) ≡ 0 → outcome t k .refusal ≡ verdict b Read r
@@ -128,7 +147,7 @@ pub record Full (q : ℕ) (t : List ℕ) (b : Book) : Type 0 where
 unfoldable pub AtTheLimit : Type 0
 AtTheLimit = (t : List ℕ) (b : ℕ → Book) → Reached t b → (q : ℕ) → b q .writes ≡ 1_000_000 → Full q t (b q)
 
--- both are met with: there is a history with n done writes of a file, after which a write of it that passes 1 to 7 is answered by the refusal x
+-- both are met with: there is a history with n done writes of a file, after which a write of it that passes all before 8 is answered by the refusal x
 pub record WithWrites (n x : ℕ) : Type 0 where
   pub table : List ℕ
   pub books : ℕ → Book

@@ -1,1 +1,3 @@
 pub mod SendsMet
+pub mod CountiesMet
+pub mod SharesMet

@@ -22,7 +22,7 @@ use Rattle.protocol.specs.Polls.{highestEpoch, inForce}
 use Rattle.protocol.specs.Calls.{Call, founding, join, read, write, send, check, carry, Outcome, answers, questions, done, outcome}
 use Rattle.asking.specs.Asking.{firstNo}
 use Rattle.protocol.specs.Claims.{Answering, byRead, byWrite, bySend, byCheck, OnlyRowsOf, EqualIn, SameFor}
-use Rattle.protocol.proofs.FrameLaws.{Frame, same-used}
+use Rattle.protocol.proofs.FrameLaws.{SameFrame, same-used}
 use Rattle.protocol.proofs.QuestionLaws.{CheckYes, refusal-is, when-done, when-refused, write-yes, send-yes, check-yes}
 use Rattle.protocol.proofs.DoneLaws.{writing, writeTable, write-leaves, sendTable, send-leaves, checkList, checking, checkTable, check-leaves}
 use Rattle.protocol.proofs.Unanswered.{used-same, lengths, rest}
@@ -90,11 +90,11 @@ set-within rows n (suc j) h = go (decLt j n)
     go (yes l) = omega arith
     go (no l) = absurd (clash (sym (out-of-set rows n j (omega arith)) ∙ sym (has-suc (setOf rows n) j) ∙ h))
 
--- ---- a call keeps header, names and links
-same-frame : (t : List ℕ) → Frame t t
-same-frame t = record { like = record { long = refl; header = λ a n h. refl }; names = refl; links = refl }
+-- ---- a call keeps header, names, links and counties
+same-frame : (t : List ℕ) → SameFrame t t
+same-frame t = record { like = record { long = refl; header = λ a n h. refl }; names = refl; links = refl; counties = refl }
 
-done-frame : (t : List ℕ) (k : Call) (r : ℕ) → Answering k r → firstNo (questions t k) ≡ 0 → Frame t (done t k .table)
+done-frame : (t : List ℕ) (k : Call) (r : ℕ) → Answering k r → firstNo (questions t k) ≡ 0 → SameFrame t (done t k .table)
 unfolding done writeTable writing sendTable checkTable checking checkList
 done-frame t (read a) _ byRead h = same-frame t
 done-frame t (write a) _ byWrite h = write-leaves t a (write-yes t a h) .frame
@@ -104,29 +104,30 @@ done-frame t (check a) _ byCheck h = go (eqb (a .r) (inForce (answers t 1 (a .r)
     y : CheckYes t a
     y = check-yes t a h
 
-    go : (b : Bool) → eqb (a .r) (inForce (answers t 1 (a .r)) (has (a .r)) .members) ≡ b → Frame t (done t (check a) .table)
+    go : (b : Bool) → eqb (a .r) (inForce (answers t 1 (a .r)) (has (a .r)) .members) ≡ b → SameFrame t (done t (check a) .table)
     go true q = rw q (same-frame t)
     go false q =
         let room : ltb (highestEpoch (answers t 1 (a .r)) (has (a .r))) limit ≡ true = rw q at (y .room) in
         rw q (check-leaves t a y (ltb-true _ _ room) .frame)
 
-call-frame : (t : List ℕ) (k : Call) (r : ℕ) → Answering k r → Frame t (outcome t k .table)
+call-frame : (t : List ℕ) (k : Call) (r : ℕ) → Answering k r → SameFrame t (outcome t k .table)
 call-frame t k r a = go (outcome t k .refusal) refl
   where
-    go : (n : ℕ) → outcome t k .refusal ≡ n → Frame t (outcome t k .table)
-    go zero q = subst (λ (o : Outcome). Frame t (o .table)) (sym (when-done t k q)) (done-frame t k r a (sym (refusal-is t k) ∙ q))
+    go : (n : ℕ) → outcome t k .refusal ≡ n → SameFrame t (outcome t k .table)
+    go zero q = subst (λ (o : Outcome). SameFrame t (o .table)) (sym (when-done t k q)) (done-frame t k r a (sym (refusal-is t k) ∙ q))
     go (suc n) q = rw (when-refused t k (λ z. omega arith) .1) (same-frame t)
 
-next-frame : {t u v : List ℕ} → Frame t u → Frame u v → Frame t v
+next-frame : {t u v : List ℕ} → SameFrame t u → SameFrame u v → SameFrame t v
 next-frame f g = record {
   like = record { long = g .like .long ∙ f .like .long; header = λ a n h. g .like .header a n h ∙ f .like .header a n h };
   names = g .names ∙ f .names;
   links = g .links ∙ f .links;
+  counties = g .counties ∙ f .counties;
 }
 
 -- ---- the table put together
 -- well-formed tables of one frame: whatever R, the same when all rows are blank
-module _ (t u : List ℕ) (x : wellFormed t ≡ true) (y : wellFormed u ≡ true) (f : Frame t u) where
+module _ (t u : List ℕ) (x : wellFormed t ≡ true) (y : wellFormed u ≡ true) (f : SameFrame t u) where
   no-rows : EqualIn 0 t u
   unfolding part
   no-rows = record {
@@ -135,6 +136,7 @@ module _ (t u : List ℕ) (x : wellFormed t ≡ true) (y : wellFormed u ≡ true
     header = sym (f .like .header 0 16 (omega arith));
     names = λ i w. ap (λ (g : ℕ → ℕ). g i) (sym (f .names));
     links = λ i w. ap (λ (g : ℕ → ℕ). g i) (sym (f .links));
+    counties = λ i w. ap (λ (g : ℕ → ℕ). g i) (sym (f .counties));
     rows = λ i h. absurd (clash (sym (empty-at i) ∙ h));
   }
 
@@ -162,6 +164,7 @@ module _ (t : List ℕ) (r : ℕ) (x : wellFormed t ≡ true) where
     header = sym (none-there .header) ∙ some-there .header;
     names = λ i w. sym (none-there .names i (within i w)) ∙ some-there .names i (within i w);
     links = λ i w. sym (none-there .links i (within i w)) ∙ some-there .links i (within i w);
+    counties = λ i w. sym (none-there .counties i (within i w)) ∙ some-there .counties i (within i w);
     rows = λ i h. absurd (clash (sym (empty-at i) ∙ h));
   }
 
@@ -193,7 +196,7 @@ blocks-ext a w s z f g (suc n) xs h k =
     go false e = refl
 
 -- what a relay puts together for a call is the table with the rows outside R blank
-module _ (t u : List ℕ) (x : wellFormed t ≡ true) (y : wellFormed u ≡ true) (f : Frame t u) (rows : ℕ → Shown) (h : (i : ℕ) → Within (usedOf t) i → isShown (rows i) ≡ true → rowOf (rows i) ≡ rowBytes u i) where
+module _ (t u : List ℕ) (x : wellFormed t ≡ true) (y : wellFormed u ≡ true) (f : SameFrame t u) (rows : ℕ → Shown) (h : (i : ℕ) → Within (usedOf t) i → isShown (rows i) ≡ true → rowOf (rows i) ≡ rowBytes u i) where
   together : assembled t rows ≡ blanked (setOf rows (usedOf t)) u
   unfolding assembled shipped withRows
   together =
@@ -246,11 +249,11 @@ module _ (t : List ℕ) (b : ℕ → Book) (p : ℕ) (G : Group t b p) (request 
   unfolding upto
   formed-after es = well-formed-of _ (first-file (later t b p G (callsOf t request es) .1) .formed)
 
-  frame-after : (es : List Entry) → Frame t (upto es)
+  frame-after : (es : List Entry) → SameFrame t (upto es)
   unfolding upto callsOf tableAfter
   frame-after [] = same-frame t
   frame-after (e ∷ es) =
-      subst (Frame t) (sym (after-last t (callsOf t request es) (callOf t request e)))
+      subst (SameFrame t) (sym (after-last t (callsOf t request es) (callOf t request e)))
       (next-frame (frame-after es) (call-frame (upto es) (callOf t request e) (setOf (shown (e .heard)) (usedOf t)) (call-answering t request e)))
 
   module _ (e : Entry) (es : List Entry) (before : (i : ℕ) → Within (usedOf t) i → after (byLibrary t request) (rowBytes t) es i ≡ rowBytes (upto es) i)

@@ -27,9 +27,9 @@ pub data Request : Type 0 where
 -- the call, with the answering set R
 unfoldable pub asked : Request → ℕ → Call
 asked (toRead a) r = read (record { c = a .c; r = r; offset = a .offset; count = a .count; buffer = a .buffer; called = a .called; file = a .file })
-asked (toWrite a) r = write (record { c = a .c; r = r; offset = a .offset; patch = a .patch; called = a .called; file = a .file })
+asked (toWrite a) r = write (record { c = a .c; r = r; offset = a .offset; patch = a .patch; called = a .called; file = a .file; sheet = a .sheet; club = a .club })
 asked (toSend a) r = send (record { f = a .f; t = a .t; r = r; file = a .file })
-asked (toCheck a) r = check (record { c = a .c; r = r })
+asked (toCheck a) r = check (record { c = a .c; r = r; sheet = a .sheet })
 
 unfoldable pub isShown : Shown → Bool
 isShown none = false

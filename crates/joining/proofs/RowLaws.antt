@@ -2,7 +2,7 @@
 use mathlib.Core.Path.{_≡_, refl, sym, _∙_, ap, ap₂, subst}
 use mathlib.Core.Bool.{Bool, true, false, cond, _&&_}
 use mathlib.Core.Logic.{_⊎_, ⊎-elim, inl, inr}
-use mathlib.Core.List.{List, _++_}
+use mathlib.Core.List.{List}
 use Prim.Native.Nat.{ℕ, zero, suc, _+_, _*_, _≤_, _<_}
 use native.Mathlib.Nat.{lt-of-lt-of-le}
 use native.Mathlib.Omega.{arith}
@@ -14,15 +14,17 @@ use borrow.Author.Tests.{eq-eqb, ne-eqb}
 use Rattle.bools.proofs.BoolLaws.{and-l, and-r, clash}
 use Rattle.sets.specs.Upto.{Within}
 use Rattle.sets.proofs.UptoLaws.{last}
+use Rattle.sets.proofs.SetLaws.{has-within}
 use Rattle.bytes.specs.Bytes.{number, bytesOf, part, zeros, allZero}
 use Rattle.bytes.proofs.ByteLaws.{number-bytes, part-part, zero-drop}
-use Rattle.grid.specs.Sizes.{markFits}
-use Rattle.fields.specs.Layout.{Field, get, store, form, formValue, capacity, used, first, fileLength, fileCount, restIn, name, link, version, epoch, members, gridMark, list, noList, isEmpty, isTall, reserved, bodyLength, copyIn, copyBytes, formOf, capacityOf, usedOf, firstOf, filesOf, fileLengthOf, rowLength, rowsEnd, rowBytes, nameOf, linkOf, listOf}
+use Rattle.fields.specs.declared.Laid.{Laid}
+use Rattle.fields.specs.Layout.{Field, get, store, form, formValue, capacity, used, first, fileLength, fileCount, restIn, name, link, epoch, members, gridMark, county, list, noList, isEmpty, isTall, reserved, bodyLength, bareRow, copyIn, copyBytes, formOf, capacityOf, usedOf, firstOf, filesOf, fileLengthOf, rowLength, rowsEnd, rowBytes, nameOf, linkOf, listOf, countyOf}
 use Rattle.fields.proofs.FieldLaws.{Apart, get-store, get-other, drop-store, reserved-store, copy-behind, BlankCopy, zero-copies, blank-copy, list-is}
-use Rattle.window.proofs.AddLaws.{emptied-right}
-use Rattle.window.proofs.CopyLaws.{window-blank}
+use Rattle.counties.specs.Marks.{markRight}
+use Rattle.counties.proofs.AlikeLaws.{mark-same}
 use Rattle.table.specs.WellFormed.{between, limit, wellFormed, headerValues, lengthRight, unusedZero}
-use Rattle.table.proofs.FormLaws.{is-between, HeadFacts, CopyFacts, OneList, OneShape, Formed, formed}
+use Rattle.table.proofs.FormLaws.{is-between, HeadFacts, CopyFacts, OneList, OneShape, Formed, formed, blank-facts, empty-mark}
+use Rattle.table.proofs.CountyLaws.{county-at}
 use Rattle.table.proofs.WellFormedLaws.{sized, header, linked, length-is, row-long}
 use Rattle.table.proofs.RisingLaws.{order-within}
 use Rattle.linking.specs.Linking.{behind}
@@ -31,38 +33,22 @@ use Rattle.joining.specs.Claims.{OneMore}
 use Rattle.joining.proofs.FrameLaws.{before-used, behind-used}
 use Rattle.joining.proofs.OrderLaws.{Joined, joined-visits, joined-rise}
 
--- a copy that says nothing yet is right
-pub blank-facts : {file : ℕ} {copy : List ℕ} → BlankCopy file copy → CopyFacts file copy
-unfolding limit
-blank-facts {file} {copy} b = record {
-  flag = rw (b .mark) (omega arith);
-  spare = b .spare;
-  small-version = rw (b .version) (omega arith);
-  small-desired = rw (b .desired) (omega arith);
-  behind = λ e. absurd (clash (rw (b .mark) at e));
-  level = λ e. b .desired;
-  kept = rw (window-blank file copy b) (emptied-right file (get version copy));
-}
-
 -- ---- the new row
-module _ (x next body : ℕ) (h : Within 65_535 x) (l : next < 256) where
-  abbrev new : List ℕ
-  new = bytesOf 2 x ++ (bytesOf 1 next ++ (zeros 29 ++ zeros body))
-
-  pub new-name : get name new ≡ x
-  unfolding get name part zeros bytesOf
+module _ (x next y body : ℕ) (h : Within 65_535 x) (l : next < 256) (w : Within 8 y) where
+  pub new-name : get name (bareRow x next y body) ≡ x
+  unfolding get name bareRow part zeros bytesOf
   new-name = number-bytes 2 x (omega arith)
 
-  pub new-link : get link new ≡ next
-  unfolding get link part zeros bytesOf
+  pub new-link : get link (bareRow x next y body) ≡ next
+  unfolding get link bareRow part zeros bytesOf
   new-link = number-bytes 1 next (omega arith)
 
-  pub new-list : isEmpty (list new) ≡ true
-  unfolding isEmpty list get members part number zeros bytesOf
-  new-list = refl
+  pub new-county : get county (bareRow x next y body) ≡ y
+  unfolding get county bareRow part zeros bytesOf
+  new-county = number-bytes 1 y (omega arith)
 
-  pub new-facts : (n i : ℕ) → next ≤ n → HeadFacts n i new
-  unfolding isEmpty list reserved get epoch members gridMark markFits part number zeros bytesOf limit allZero
+  pub new-facts : (n i : ℕ) → next ≤ n → HeadFacts n i (bareRow x next y body)
+  unfolding isEmpty list reserved get epoch members bareRow part number zeros bytesOf limit allZero
   new-facts n i b = record {
     named = rw new-name h;
     linked = rw new-link b;
@@ -70,24 +56,24 @@ module _ (x next body : ℕ) (h : Within 65_535 x) (l : next < 256) where
     small-epoch = omega arith;
     only = omega (arith, pow-pos n);
     own = λ e. absurd (clash (sym e));
-    grid = refl;
+    county = rw new-county w;
   }
 
--- what the new row says but for name and link: nothing yet
+-- what the new row says but for name, link and county: nothing yet
 pub record Blank (files file : ℕ) (row : List ℕ) : Type 0 where
   pub epoch : get epoch row ≡ 0
   pub list : list row ≡ noList
   pub copies : (q : ℕ) → Within files q → BlankCopy file (copyIn file q row)
 
-new-blank : (x next files file : ℕ) → Blank files file (bytesOf 2 x ++ (bytesOf 1 next ++ (zeros 29 ++ zeros (bodyLength files file))))
-unfolding list noList get epoch members gridMark part number zeros bytesOf
-new-blank x next files file = record {
+pub new-blank : (x next y files file : ℕ) → Blank files file (bareRow x next y (bodyLength files file))
+unfolding list noList get epoch members gridMark bareRow part number zeros bytesOf
+new-blank x next y files file = record {
   epoch = refl;
   list = refl;
-  copies = λ q v. rw (zero-copies files file (bytesOf 2 x ++ (bytesOf 1 next ++ (zeros 29 ++ zeros (bodyLength files file)))) refl q v) (blank-copy file);
+  copies = λ q v. rw (zero-copies files file (bareRow x next y (bodyLength files file)) refl q v) (blank-copy file);
 }
 
-module _ (t u : List ℕ) (x : ℕ) (e : wellFormed t ≡ true) (room : usedOf t < capacityOf t) (o : OneMore t u x) where
+module _ (t u : List ℕ) (x y : ℕ) (e : wellFormed t ≡ true) (room : usedOf t < capacityOf t) (o : OneMore t u x y) where
   few : suc (usedOf t) ≤ 64
   few = omega (arith, header (sized e .header) .capacity)
 
@@ -204,7 +190,7 @@ module _ (t u : List ℕ) (x : ℕ) (e : wellFormed t ≡ true) (room : usedOf t
       go false = refl
 
   pub new-says : Blank (filesOf t) (fileLengthOf t) (rowBytes u (suc (usedOf t)))
-  new-says = rw (o .new) (new-blank x (behind (firstOf t) (linkOf t) (rowBefore t x)) (filesOf t) (fileLengthOf t))
+  new-says = rw (o .new) (new-blank x (behind (firstOf t) (linkOf t) (rowBefore t x)) y (filesOf t) (fileLengthOf t))
 
   pub new-copies : (q : ℕ) → Within (filesOf t) q → BlankCopy (fileLengthOf t) (copyBytes u q (suc (usedOf t)))
   unfolding copyBytes
@@ -216,7 +202,7 @@ module _ (t u : List ℕ) (x : ℕ) (e : wellFormed t ≡ true) (room : usedOf t
   list-kept i v = list-is (rowBytes u i) (list (rowBytes t i)) (kept members (inr (omega arith)) i v) (kept gridMark (inr (omega arith)) i v)
 
   old-facts : (i : ℕ) → Within (usedOf t) i → HeadFacts (suc (usedOf t)) i (rowBytes u i)
-  unfolding linkOf name epoch members gridMark
+  unfolding linkOf name epoch members county
   old-facts i v =
       let f = formed t e .heads i v in
       record {
@@ -226,10 +212,15 @@ module _ (t u : List ℕ) (x : ℕ) (e : wellFormed t ≡ true) (room : usedOf t
         small-epoch = rw (kept epoch (inr (omega arith)) i v) (f .small-epoch);
         only = rw (kept members (inr (omega arith)) i v) (lt-of-lt-of-le (f .only) (pow-mono (omega arith)));
         own = rw (list-kept i v, kept members (inr (omega arith)) i v) (f .own);
-        grid = rw (kept gridMark (inr (omega arith)) i v, kept members (inr (omega arith)) i v) (f .grid);
+        county = rw (kept county (inr (omega arith)) i v) (f .county);
       }
 
-  module _ (h : Within 65_535 x) (free : (i : ℕ) → Within (usedOf t) i → nameOf t i ≡ x → ⊥) where
+  -- and so does its county
+  pub county-kept : (i : ℕ) → Within (usedOf t) i → countyOf u i ≡ countyOf t i
+  unfolding county
+  county-kept i v = county-at u i (v .0, rw more-used (omega arith)) ∙ kept county (inr (omega arith)) i v ∙ sym (county-at t i v)
+
+  module _ (h : Within 65_535 x) (placed : Within 8 y) (free : (i : ℕ) → Within (usedOf t) i → nameOf t i ≡ x → ⊥) where
     abbrev next : ℕ
     next = behind (firstOf t) (linkOf t) (rowBefore t x)
 
@@ -244,12 +235,12 @@ module _ (t u : List ℕ) (x : ℕ) (e : wellFormed t ≡ true) (room : usedOf t
     unfolding nameOf linkOf name rowBefore
     more-chain = record {
       used = more-used;
-      new = ap (get name) (o .new) ∙ new-name x next body h (omega (arith, few, small));
+      new = ap (get name) (o .new) ∙ new-name x next y body h (omega (arith, few, small)) placed;
       names = kept name (inl (omega arith));
       links = record {
         front = more-first;
         into = λ l. let v : Within (usedOf t) (rowBefore t x) = (l, before-used t e x room) in link-after (rowBefore t x) v ∙ rw (eq-eqb (rowBefore t x) (rowBefore t x) refl);
-        onto = ap (get link) (o .new) ∙ new-link x next body h (omega (arith, few, small));
+        onto = ap (get link) (o .new) ∙ new-link x next y body h (omega (arith, few, small)) placed;
         same = λ j m d. link-after j (order-within t e j m) ∙ rw (ne-eqb (rowBefore t x) j (λ z. d (sym z)));
       };
     }
@@ -257,7 +248,7 @@ module _ (t u : List ℕ) (x : ℕ) (e : wellFormed t ≡ true) (room : usedOf t
     row-facts : (i : ℕ) → Within (suc (usedOf t)) i → HeadFacts (suc (usedOf t)) i (rowBytes u i)
     row-facts i v = ⊎-elim
         (λ q. subst (λ (k : ℕ). HeadFacts (suc (usedOf t)) k (rowBytes u k)) (sym q)
-        (rw (o .new) (new-facts x next body h (omega (arith, few, small)) (suc (usedOf t)) (suc (usedOf t)) (omega (arith, small)))))
+        (rw (o .new) (new-facts x next y body h (omega (arith, few, small)) placed (suc (usedOf t)) (suc (usedOf t)) (omega (arith, small)))))
         (old-facts i)
         (last (usedOf t) i v)
 
@@ -269,7 +260,19 @@ module _ (t u : List ℕ) (x : ℕ) (e : wellFormed t ≡ true) (room : usedOf t
 
     -- the new row has no list
     pub empty-new : isEmpty (list (rowBytes u (suc (usedOf t)))) ≡ true
-    empty-new = rw (o .new) (new-list x next body h (omega (arith, few, small)))
+    unfolding isEmpty noList
+    empty-new = rw (new-says .list) refl
+
+    pub county-new : countyOf u (suc (usedOf t)) ≡ y
+    county-new = county-at u (suc (usedOf t)) (rw more-used (omega arith, omega arith)) ∙ ap (get county) (o .new) ∙ new-county x next y body h (omega (arith, few, small)) placed
+
+    -- members of a list were used before
+    marks-right : (i : ℕ) → Within (suc (usedOf t)) i → markRight (countyOf u) (listOf u i) ≡ true
+    unfolding listOf list noList
+    marks-right i v = ⊎-elim
+        (λ z. subst (λ (k : ℕ). markRight (countyOf u) (listOf u k) ≡ true) (sym z) (empty-mark (countyOf u) (listOf u (suc (usedOf t))) empty-new ∙ ap (λ (l : Laid). eqb (l .mark) 0) (new-says .list)))
+        (λ v. rw (list-kept i v) (mark-same (countyOf u) (countyOf t) (list (rowBytes t i)) (λ j m. county-kept j (has-within (usedOf t) _ j (formed t e .heads i v .only) m)) ∙ formed t e .marks i v))
+        (last (usedOf t) i v)
 
     one-list : (i j : ℕ) → Within (suc (usedOf t)) i → Within (suc (usedOf t)) j → OneList (rowBytes u i) (rowBytes u j)
     unfolding epoch
@@ -311,5 +314,6 @@ module _ (t u : List ℕ) (x : ℕ) (e : wellFormed t ≡ true) (room : usedOf t
       rise = joined-rise t e u x more-chain (h .0) free;
       zero = rest-zero;
       agree = rw more-used one-list;
+      marks = rw more-used marks-right;
       shape = rw more-used one-shape;
     }

@@ -1,6 +1,7 @@
 // A joining: its questions in order, then what is done.
 use asking::result;
 use bools::any;
+use values::is_county;
 ghost use mathlib.Core.Path.{_≡_};
 ghost use mathlib.Core.Bool.{true};
 ghost use lib.Dec.{eqb};
@@ -43,9 +44,9 @@ fn place_of(t: &[u8], order: &[u8; 64], name: u16) -> Place
     }
 }
 
-// A joining: the first unused row gets the name and is put into the chain. Value: its index.
-pub fn join(t: &mut [u8], name: u16) -> u64
-    ensures { λ x. ⌜ (let o = outcome (now (t .entry)) (join (record { name = name })) in (x ≡ resultOf o) × (now (t .exit) ≡ o .table)) ⌝ }
+// A joining: the first unused row gets the name and the county and is put into the chain. Value: its index.
+pub fn join(t: &mut [u8], name: u16, county: u64) -> u64
+    ensures { λ x. ⌜ (let o = outcome (now (t .entry)) (join (record { name = name; county = county })) in (x ≡ resultOf o) × (now (t .exit) ≡ o .table)) ⌝ }
 {
     let mut order = [0u8; 64];
     if !wellformed::ordered(t, &mut order) {
@@ -59,6 +60,9 @@ pub fn join(t: &mut [u8], name: u16) -> u64
     if header::capacity(t) <= used {
         return result(14, 0);
     }
-    admit::admit(t, place.before, name);
+    if !is_county(county as usize) {
+        return result(20, 0);
+    }
+    admit::admit(t, place.before, name, county as u8);
     result(0, used as u32 + 1)
 }

@@ -13,10 +13,11 @@ use lib.Seq.{take-at, drop-at, take-all, take-suc, length-take-le}
 use Rattle.sets.specs.Sets.{has, firstRows}
 use Rattle.sets.proofs.SetLaws.{has-first, same-members}
 use Rattle.bytes.specs.Bytes.{bytesOf, put, zeros}
-use Rattle.fields.specs.Layout.{store, form, formValue, bodyLength, stride, capacity, used, first, fileLength, fileCount, name, link, members, gridMark, storeList}
+use Rattle.fields.specs.Layout.{store, form, formValue, bodyLength, stride, capacity, used, first, fileLength, fileCount, name, link, county, members, gridMark, storeList}
 use Rattle.bytes.proofs.ByteLaws.{length-put, length-zeros, split-zeros, bytes-zero}
 use Rattle.bytes.proofs.CodeLaws.{part-length, part-back}
 use Rattle.fields.specs.declared.Laid.{Laid}
+use Rattle.counties.specs.Counties.{countyAt}
 use Rattle.protocol.specs.Calls.{foundedHeader, foundedRow, foundedRows, foundedList, founded}
 use Rattle.protocol.proofs.FoundedLaws.{length-header, length-rows}
 
@@ -31,28 +32,32 @@ pub header-stored : (c n files file rest : ℕ) → c < 256 → n < 256
 header-stored c n files file rest hc hn =
     ap (λ (l : List ℕ). store fileCount files (store fileLength file (store first 1 (store used n (store capacity c (store form formValue l)))))) (split-zeros 16 rest) ∙ header-computed c n files file (zeros rest) (omega arith) (omega arith)
 
-row-computed : (n : ℕ) (all : Laid) (body i x l : ℕ) → l % 256 ≡ l → l ≡ cond (eqb i n) 0 (i + 1)
-    → storeList all (store link l (store name x (zeros 32 ++ zeros body))) ≡ foundedRow n all body i x
-unfolding storeList store put bytesOf zeros foundedRow name link members gridMark
-row-computed n all body i x l small e = ap (λ (y : ℕ). bytesOf 2 x ++ (y ∷ (zeros 13 ++ (bytesOf 8 (all .members) ++ (bytesOf 1 (all .mark) ++ (zeros 7 ++ zeros body)))))) (small ∙ e)
+row-computed : (n : ℕ) (all : Laid) (body i x l y : ℕ) → l % 256 ≡ l → y % 256 ≡ y → l ≡ cond (eqb i n) 0 (i + 1)
+    → storeList all (store county y (store link l (store name x (zeros 32 ++ zeros body)))) ≡ foundedRow n all body i x y
+unfolding storeList store put bytesOf zeros foundedRow name link county members gridMark
+row-computed n all body i x l y small low e =
+    ap₂ (λ (m z : ℕ). bytesOf 2 x ++ (m ∷ (zeros 13 ++ (bytesOf 8 (all .members) ++ (bytesOf 1 (all .mark) ++ (0 ∷ z ∷ (zeros 5 ++ zeros body))))))) (small ∙ e) low
 
-pub row-stored : (n : ℕ) (all : Laid) (body i x l : ℕ) → l < 256 → l ≡ cond (eqb i n) 0 (i + 1)
-    → storeList all (store link l (store name x (zeros (32 + body)))) ≡ foundedRow n all body i x
-row-stored n all body i x l small e =
-    ap (λ (w : List ℕ). storeList all (store link l (store name x w))) (split-zeros 32 body) ∙ row-computed n all body i x l (omega arith) e
+pub row-stored : (n : ℕ) (all : Laid) (body i x l y : ℕ) → l < 256 → y < 256 → l ≡ cond (eqb i n) 0 (i + 1)
+    → storeList all (store county y (store link l (store name x (zeros (32 + body))))) ≡ foundedRow n all body i x y
+row-stored n all body i x l y small low e =
+    ap (λ (w : List ℕ). storeList all (store county y (store link l (store name x w)))) (split-zeros 32 body) ∙ row-computed n all body i x l y (omega arith) (omega arith) e
 
 -- the list of all used rows
 pub all-rows : (n bits : ℕ) → n ≤ 64 → bits < 2 ^ 64 → has bits ≡ firstRows n → bits ≡ 2 ^ n - 1
 all-rows n bits few h e = same-members bits (2 ^ n - 1) h (lt-of-lt-of-le (ones-lt n) (pow-mono few)) (e ∙ sym (has-first n few))
 
 -- ---- one row more
-rows-more : (n : ℕ) (all : Laid) (body i : ℕ) (xs : List ℕ) (x : ℕ) → foundedRows n all body i (xs ++ (x ∷ [])) ≡ foundedRows n all body i xs ++ foundedRow n all body (i + length xs) x
+rows-more : (n : ℕ) (all : Laid) (body : ℕ) (places : ℕ → ℕ) (i : ℕ) (xs : List ℕ) (x : ℕ)
+    → foundedRows n all body places i (xs ++ (x ∷ [])) ≡ foundedRows n all body places i xs ++ foundedRow n all body (i + length xs) x (places (i + length xs))
 unfolding foundedRows
-rows-more n all body i [] x = append-nil (foundedRow n all body i x) ∙ ap (λ (j : ℕ). foundedRow n all body j x) (sym (add-zero i))
-rows-more n all body i (y ∷ xs) x =
+rows-more n all body places i [] x = append-nil (foundedRow n all body i x (places i)) ∙ ap (λ (j : ℕ). foundedRow n all body j x (places j)) (sym (add-zero i))
+rows-more n all body places i (y ∷ xs) x =
     let e : suc i + length xs ≡ i + suc (length xs) = omega arith in
-    ap (λ (l : List ℕ). foundedRow n all body i y ++ l) (rows-more n all body (suc i) xs x ∙ ap (λ (j : ℕ). foundedRows n all body (suc i) xs ++ foundedRow n all body j x) e)
-    ∙ sym (append-assoc (foundedRow n all body i y) (foundedRows n all body (suc i) xs) (foundedRow n all body (i + suc (length xs)) x))
+    let row = foundedRow n all body i y (places i) in
+    let rest = foundedRows n all body places (suc i) xs in
+    ap (λ (l : List ℕ). row ++ l) (rows-more n all body places (suc i) xs x ∙ ap (λ (j : ℕ). rest ++ foundedRow n all body j x (places j)) e)
+    ∙ sym (append-assoc row rest (foundedRow n all body (i + suc (length xs)) x (places (i + suc (length xs)))))
 
 -- ---- a middle part lent and back
 module _ (a z b : List ℕ) (at size : ℕ) (la : length a ≡ at) (lz : length z ≡ size) where
@@ -66,14 +71,14 @@ module _ (a z b : List ℕ) (at size : ℕ) (la : length a ≡ at) (lz : length 
   middle-back new = rw (cut, take-at a (z ++ b) at la, drop-at a (z ++ b) at la, drop-at z b size lz)
 
 -- ---- the header and the first k rows stand, the rest is 0
-pub record LaidOut (c n : ℕ) (all : Laid) (files file body : ℕ) (names : List ℕ) (k at : ℕ) (t : List ℕ) : Type 0 where
+pub record LaidOut (c n : ℕ) (all : Laid) (files file body : ℕ) (names : List ℕ) (places : ℕ → ℕ) (k at : ℕ) (t : List ℕ) : Type 0 where
   pub place : at ≡ 16 + k * (32 + body)
-  pub bytes : t ≡ foundedHeader c n files file ++ (foundedRows n all body 1 (take k names) ++ zeros ((c - k) * (32 + body)))
+  pub bytes : t ≡ foundedHeader c n files file ++ (foundedRows n all body places 1 (take k names) ++ zeros ((c - k) * (32 + body)))
 
-module _ (c n : ℕ) (all : Laid) (files file : ℕ) (names : List ℕ) where
+module _ (c n : ℕ) (all : Laid) (files file : ℕ) (names : List ℕ) (places : ℕ → ℕ) where
   -- the table cleared, then the header stored
   pub none-laid : (body at : ℕ) (t cleared new : List ℕ) → at ≡ 16 → length t ≡ 16 + c * (32 + body) → c ≤ 64 → n ≤ 64 → cleared ≡ bytesOf (length t) 0
-      → new ≡ store fileCount files (store fileLength file (store first 1 (store used n (store capacity c (store form formValue cleared))))) → LaidOut c n all files file body names 0 at new
+      → new ≡ store fileCount files (store fileLength file (store first 1 (store used n (store capacity c (store form formValue cleared))))) → LaidOut c n all files file body names places 0 at new
   unfolding foundedRows
   none-laid body at t cleared new e long hc hn clear made = record {
     place = omega (arith, zero-mul (32 + body));
@@ -83,25 +88,26 @@ module _ (c n : ℕ) (all : Laid) (files file : ℕ) (names : List ℕ) where
         ∙ ap (λ (m : ℕ). foundedHeader c n files file ++ zeros (m * (32 + body))) (sym (sub-zero c));
   }
 
-  pub all-laid : (choice k at : ℕ) (t : List ℕ) → all ≡ foundedList choice n → n ≡ length names → k ≡ length names → LaidOut c n all files file (bodyLength files file) names k at t → t ≡ founded choice c files file names
+  pub all-laid : (choice k at : ℕ) (t counties : List ℕ) → places ≡ countyAt counties → all ≡ foundedList choice counties n → n ≡ length names → k ≡ length names
+      → LaidOut c n all files file (bodyLength files file) names places k at t → t ≡ founded choice c files file names counties
   unfolding founded stride
-  all-laid choice k at t e-all e-n e l =
+  all-laid choice k at t counties e-places e-all e-n e l =
       l .bytes
-      ∙ ap (λ (m : ℕ). foundedHeader c n files file ++ (foundedRows n all (bodyLength files file) 1 (take k names) ++ zeros ((c - m) * stride files file))) e
-      ∙ ap (λ (xs : List ℕ). foundedHeader c n files file ++ (foundedRows n all (bodyLength files file) 1 xs ++ zeros ((c - length names) * stride files file))) (take-all k names (omega arith))
-      ∙ ap (λ (a : Laid). foundedHeader c n files file ++ (foundedRows n a (bodyLength files file) 1 names ++ zeros ((c - length names) * stride files file))) e-all
-      ∙ ap (λ (m : ℕ). foundedHeader c m files file ++ (foundedRows m (foundedList choice m) (bodyLength files file) 1 names ++ zeros ((c - length names) * stride files file))) e-n
+      ∙ ap (λ (m : ℕ). foundedHeader c n files file ++ (foundedRows n all (bodyLength files file) places 1 (take k names) ++ zeros ((c - m) * stride files file))) e
+      ∙ ap (λ (xs : List ℕ). foundedHeader c n files file ++ (foundedRows n all (bodyLength files file) places 1 xs ++ zeros ((c - length names) * stride files file))) (take-all k names (omega arith))
+      ∙ ap₂ (λ (a : Laid) (y : ℕ → ℕ). foundedHeader c n files file ++ (foundedRows n a (bodyLength files file) y 1 names ++ zeros ((c - length names) * stride files file))) e-all e-places
+      ∙ ap (λ (m : ℕ). foundedHeader c m files file ++ (foundedRows m (foundedList choice counties m) (bodyLength files file) (countyAt counties) 1 names ++ zeros ((c - length names) * stride files file))) e-n
 
 -- what the code knows in the turn of row k + 1
-pub record Turn (c n : ℕ) (all : Laid) (files file body : ℕ) (names : List ℕ) (k at size : ℕ) (t : List ℕ) : Type 0 where
+pub record Turn (c n : ℕ) (all : Laid) (files file body : ℕ) (names : List ℕ) (places : ℕ → ℕ) (k at size : ℕ) (t : List ℕ) : Type 0 where
   pub room : length names ≤ c
   pub below : k < length names
   pub wide : size ≡ 32 + body
-  pub laid : LaidOut c n all files file body names k at t
+  pub laid : LaidOut c n all files file body names places k at t
 
-module _ {c n : ℕ} {all : Laid} {files file body : ℕ} {names : List ℕ} {k at size : ℕ} {t : List ℕ} (w : Turn c n all files file body names k at size t) where
+module _ {c n : ℕ} {all : Laid} {files file body : ℕ} {names : List ℕ} {places : ℕ → ℕ} {k at size : ℕ} {t : List ℕ} (w : Turn c n all files file body names places k at size t) where
   done : List ℕ
-  done = foundedHeader c n files file ++ foundedRows n all body 1 (take k names)
+  done = foundedHeader c n files file ++ foundedRows n all body places 1 (take k names)
 
   rest : List ℕ
   rest = zeros ((c - suc k) * (32 + body))
@@ -109,8 +115,8 @@ module _ {c n : ℕ} {all : Laid} {files file body : ℕ} {names : List ℕ} {k 
   done-long : length done ≡ at
   unfolding done
   done-long =
-      length-append (foundedHeader c n files file) (foundedRows n all body 1 (take k names))
-      ∙ ap₂ (λ (x y : ℕ). x + y) (length-header c n files file) (length-rows n all body 1 (take k names) ∙ ap (λ (m : ℕ). m * (32 + body)) (length-take-le k names (omega arith)))
+      length-append (foundedHeader c n files file) (foundedRows n all body places 1 (take k names))
+      ∙ ap₂ (λ (x y : ℕ). x + y) (length-header c n files file) (length-rows n all body places 1 (take k names) ∙ ap (λ (m : ℕ). m * (32 + body)) (length-take-le k names (omega arith)))
       ∙ sym (w .laid .place)
 
   zeros-long : length (zeros (32 + body)) ≡ size
@@ -122,8 +128,8 @@ module _ {c n : ℕ} {all : Laid} {files file body : ℕ} {names : List ℕ} {k 
       let one : c - k ≡ suc (c - suc k) = omega arith in
       let e : (c - k) * (32 + body) ≡ (32 + body) + (c - suc k) * (32 + body) = ap (λ (m : ℕ). m * (32 + body)) one ∙ omega (arith, suc-mul (c - suc k) (32 + body)) in
       w .laid .bytes
-      ∙ ap (λ (z : List ℕ). foundedHeader c n files file ++ (foundedRows n all body 1 (take k names) ++ z)) (ap zeros e ∙ split-zeros (32 + body) ((c - suc k) * (32 + body)))
-      ∙ sym (append-assoc (foundedHeader c n files file) (foundedRows n all body 1 (take k names)) (zeros (32 + body) ++ zeros ((c - suc k) * (32 + body))))
+      ∙ ap (λ (z : List ℕ). foundedHeader c n files file ++ (foundedRows n all body places 1 (take k names) ++ z)) (ap zeros e ∙ split-zeros (32 + body) ((c - suc k) * (32 + body)))
+      ∙ sym (append-assoc (foundedHeader c n files file) (foundedRows n all body places 1 (take k names)) (zeros (32 + body) ++ zeros ((c - suc k) * (32 + body))))
 
   pub laid-fits : at + size ≤ length t
   laid-fits = omega (arith, ap length so-far, length-append done (zeros (32 + body) ++ rest), length-append (zeros (32 + body)) rest, done-long, zeros-long)
@@ -136,27 +142,27 @@ module _ {c n : ℕ} {all : Laid} {files file body : ℕ} {names : List ℕ} {k 
       let long : length new ≡ size = e ∙ part-length at size t laid-fits in
       ap length (part-back at size t new new refl long) ∙ length-put t at new (omega (arith, long, laid-fits))
 
-  laid-more : (new : List ℕ) → new ≡ foundedRow n all body (k + 1) (getD names k 0)
-      → LaidOut c n all files file body names (k + 1) (at + size) (take at t ++ (new ++ drop ((at + size) - at) (drop at t)))
+  laid-more : (new : List ℕ) → new ≡ foundedRow n all body (k + 1) (getD names k 0) (places (k + 1))
+      → LaidOut c n all files file body names places (k + 1) (at + size) (take at t ++ (new ++ drop ((at + size) - at) (drop at t)))
   unfolding done rest
   laid-more new e = record {
     place = omega (arith, w .laid .place, w .wide, ap (λ (m : ℕ). m * (32 + body)) (add-one k), suc-mul k (32 + body));
     bytes = ap (λ (u : List ℕ). take at u ++ (new ++ drop ((at + size) - at) (drop at u))) so-far
         ∙ middle-back done (zeros (32 + body)) rest at size done-long zeros-long new
-        ∙ append-assoc (foundedHeader c n files file) (foundedRows n all body 1 (take k names)) (new ++ zeros ((c - suc k) * (32 + body)))
-        ∙ ap (λ (x : List ℕ). foundedHeader c n files file ++ x) (sym (append-assoc (foundedRows n all body 1 (take k names)) new (zeros ((c - suc k) * (32 + body)))))
+        ∙ append-assoc (foundedHeader c n files file) (foundedRows n all body places 1 (take k names)) (new ++ zeros ((c - suc k) * (32 + body)))
+        ∙ ap (λ (x : List ℕ). foundedHeader c n files file ++ x) (sym (append-assoc (foundedRows n all body places 1 (take k names)) new (zeros ((c - suc k) * (32 + body)))))
         ∙ ap₂ (λ (x : List ℕ) (m : ℕ). foundedHeader c n files file ++ (x ++ zeros ((c - m) * (32 + body)))) more (sym (add-one k));
   }
     where
-      more : foundedRows n all body 1 (take k names) ++ new ≡ foundedRows n all body 1 (take (k + 1) names)
+      more : foundedRows n all body places 1 (take k names) ++ new ≡ foundedRows n all body places 1 (take (k + 1) names)
       more =
           let j : 1 + length (take k names) ≡ k + 1 = omega (arith, length-take-le k names (omega arith)) in
-          ap (λ (x : List ℕ). foundedRows n all body 1 (take k names) ++ x) (e ∙ ap (λ (i : ℕ). foundedRow n all body i (getD names k 0)) (sym j))
-          ∙ sym (rows-more n all body 1 (take k names) (getD names k 0)) ∙ ap (foundedRows n all body 1) (sym (ap (λ (i : ℕ). take i names) (add-one k) ∙ take-suc names k 0 (w .below)))
+          ap (λ (x : List ℕ). foundedRows n all body places 1 (take k names) ++ x) (e ∙ ap (λ (i : ℕ). foundedRow n all body i (getD names k 0) (places i)) (sym j))
+          ∙ sym (rows-more n all body places 1 (take k names) (getD names k 0)) ∙ ap (foundedRows n all body places 1) (sym (ap (λ (i : ℕ). take i names) (add-one k) ∙ take-suc names k 0 (w .below)))
 
-  pub laid-turn : (new : List ℕ) (x next : ℕ) → new ≡ storeList all (store link next (store name x (take ((at + size) - at) (drop at t))))
-      → x ≡ getD names k 0 → next < 256 → next ≡ cond (eqb (k + 1) n) 0 (k + 1 + 1)
-      → LaidOut c n all files file body names (k + 1) (at + size) (take at t ++ (new ++ drop ((at + size) - at) (drop at t)))
-  laid-turn new x next made e-x small e-next = laid-more new
-      (made ∙ ap (λ (row : List ℕ). storeList all (store link next (store name x row))) lent-zeros
-      ∙ row-stored n all body (k + 1) x next small e-next ∙ ap (foundedRow n all body (k + 1)) e-x)
+  pub laid-turn : (new : List ℕ) (x next y : ℕ) → new ≡ storeList all (store county y (store link next (store name x (take ((at + size) - at) (drop at t)))))
+      → x ≡ getD names k 0 → y ≡ places (k + 1) → next < 256 → y < 256 → next ≡ cond (eqb (k + 1) n) 0 (k + 1 + 1)
+      → LaidOut c n all files file body names places (k + 1) (at + size) (take at t ++ (new ++ drop ((at + size) - at) (drop at t)))
+  laid-turn new x next y made e-x e-y small low e-next = laid-more new
+      (made ∙ ap (λ (row : List ℕ). storeList all (store county y (store link next (store name x row)))) lent-zeros
+      ∙ row-stored n all body (k + 1) x next y small low e-next ∙ ap₂ (foundedRow n all body (k + 1)) e-x e-y)

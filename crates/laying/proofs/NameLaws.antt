@@ -1,9 +1,11 @@
--- Names in bytes: two bytes each.
+-- Names in bytes: two bytes each; counties: a byte each.
 use mathlib.Core.Path.{_≡_, refl}
 use mathlib.Core.List.{List, [], _∷_}
-use Prim.Native.Nat.{ℕ, zero, suc, _+_, _*_, _%_, _≤_}
+use Prim.Native.Nat.{ℕ, zero, suc, _+_, _-_, _*_, _%_, _≤_, _<_}
 use native.Mathlib.Omega.{arith}
 use lib.ListN.{length, getD}
+use borrow.Author.Tests.{le-leb}
+use Rattle.counties.specs.Counties.{countyAt}
 use Rattle.bytes.specs.Bytes.{number, part}
 use Rattle.protocol.specs.Calls.{namesIn}
 
@@ -23,3 +25,10 @@ unfolding namesIn
 names-even [] h = refl
 names-even (x ∷ []) h = absurd (omega arith)
 names-even (x ∷ y ∷ l) h = let e : length l ≡ 2 * length (namesIn l) = names-even l (omega arith) in omega arith
+
+-- the county of row k + 1
+pub place-at : (k : ℕ) (places : List ℕ) → k < length places → countyAt places (k + 1) ≡ getD places k 0
+unfolding countyAt
+place-at k places h =
+    let z : k + 1 - 1 ≡ k = omega arith in
+    rw (le-leb 1 (k + 1) (omega arith), le-leb (k + 1) (length places) (omega arith), z)

@@ -3,11 +3,11 @@ use fields::Laid;
 use rows::RowSet;
 ghost use mathlib.Core.Path.{_≡_};
 ghost use mathlib.Core.Bool.{cond};
-ghost use Prim.Native.Nat.{_+_, _*_, _≤_};
+ghost use Prim.Native.Nat.{ℕ, _+_, _*_, _≤_, _<_};
 ghost use lib.Dec.{eqb};
-ghost use lib.ListN.{length};
+ghost use lib.ListN.{length, getD};
 ghost use Rattle.sets.specs.Upto.{Within};
-ghost use Rattle.fields.specs.Layout.{store, storeList, name, link, stride};
+ghost use Rattle.fields.specs.Layout.{store, storeList, name, link, county, stride};
 ghost use Rattle.protocol.specs.Calls.{namesIn, founded};
 
 // The row behind row i in the chain of the rows 1 to n: 0 behind the last.
@@ -18,17 +18,18 @@ fn next_row(i: usize, n: usize) -> u8
     if i == n { 0 } else { (i + 1) as u8 }
 }
 
-// A row gets its name, the next row and the list.
-fn found_row(row: &mut [u8], x: u16, next: u8, list: Laid)
+// A row gets its name, the next row, its county and the list.
+fn found_row(row: &mut [u8], x: u16, next: u8, place: u8, list: Laid)
     requires { ⌜ 32 ≤ length (now row) ⌝ }
-    ensures { λ r. ⌜ now (row .exit) ≡ storeList list (store link next (store name x (now (row .entry)))) ⌝ }
+    ensures { λ r. ⌜ now (row .exit) ≡ storeList list (store county place (store link next (store name x (now (row .entry))))) ⌝ }
 {
     fields::set_name(row, x);
     fields::set_link(row, next);
+    fields::set_county(row, place);
     fields::set_list(row, list);
 }
 
-// A table of so many rows for so many files of so many bytes, with the named rows in it; by choice 1 it is tall.
+// A table of so many rows for so many files of so many bytes, with the named rows in it, each in its county; by choice 1 it is tall.
 pub fn lay_table(
     t: &mut [u8],
     capacity: usize,
@@ -36,12 +37,14 @@ pub fn lay_table(
     file: usize,
     names: &[u8],
     choice: u64,
+    counties: &[u8],
 )
-    requires { ⌜ (length (now t) ≡ 16 + capacity * stride files file) × Within 8 files × Within 4_096 file × (capacity ≤ 64) × (length (now names) ≡ 2 * length (namesIn (now names))) × Within capacity (length (namesIn (now names))) ⌝ }
-    ensures { λ r. ⌜ now (t .exit) ≡ founded choice capacity files file (namesIn (now (names .entry))) ⌝ }
+    requires { ⌜ (length (now t) ≡ 16 + capacity * stride files file) × Within 8 files × Within 4_096 file × (capacity ≤ 64) × (length (now names) ≡ 2 * length (namesIn (now names))) × Within capacity (length (namesIn (now names))) × (length (now counties) ≡ length (namesIn (now names))) × ((k : ℕ) → k < length (now counties) → getD (now counties) k 0 ≤ 8) ⌝ }
+    ensures { λ r. ⌜ now (t .exit) ≡ founded choice capacity files file (namesIn (now (names .entry))) (now (counties .entry)) ⌝ }
 {
     let n = names.len() / 2;
-    let list = lists::laid_now(choice == 1, RowSet::first(n));
+    let sets = grouping::of_places(counties);
+    let list = grouping::laid_now(choice == 1, &sets, RowSet::first(n));
     let size = table::row_size(files, file);
     // the rows stand behind the header, up to the end
     let mut at = t.len() - capacity * size;
@@ -50,8 +53,9 @@ pub fn lay_table(
     let mut i = 0;
     while i < n {
         let x = bytes::u16_at(names, 2 * i);
+        let place = counties[i];
         i += 1;
-        found_row(&mut t[at..at + size], x, next_row(i, n), list);
+        found_row(&mut t[at..at + size], x, next_row(i, n), place, list);
         at += size;
     }
 }

@@ -1,26 +1,17 @@
-// A list of rows in chain order: the quorum that a set holds of it, and the choice that a name makes over it.
+// A level: members in chain order, laid in one grid; the quorum that a set holds of it, and the choice that a name makes over it.
 // The chain order is the first `count` of an array of 64 rows.
 use bools::both;
-use fields::Laid;
 use quorums::Kind;
 use rows::RowSet;
 ghost use mathlib.Core.Path.{_≡_};
 ghost use mathlib.Core.Bool.{_&&_, cond};
-ghost use Prim.Native.Nat.{ℕ, _+_, _*_, _^_, _<_};
+ghost use Prim.Native.Nat.{ℕ, _+_, _*_, _/_, _^_, _<_};
 ghost use lib.Dec.{eqb};
 ghost use lib.ListN.{length, getD, take};
 ghost use Rattle.sets.specs.Upto.{Within, some};
 ghost use Rattle.sets.specs.Sets.{has};
 ghost use Rattle.table.specs.Contracts.{Listed};
-ghost use Rattle.protocol.specs.Lists.{laidNow, seats, atSeat, listQuorum, listChoice};
-
-// One more where it counts.
-fn step(n: usize, counts: bool) -> usize
-    requires { ⌜ n < 64 ⌝ }
-    ensures { λ r. ⌜ r ≡ cond counts (n + 1) n ⌝ }
-{
-    if counts { n + 1 } else { n }
-}
+ghost use Rattle.counties.specs.Levels.{seats, atSeat, level, levelChoice};
 
 // The place, from 0, of the row that stands at j in the order.
 fn place_at(order: &[u8; 64], j: usize) -> usize
@@ -40,6 +31,16 @@ fn pushed(set: RowSet, counts: bool, b: bool) -> RowSet
         return RowSet {
             bits: if b { moved + 1 } else { moved },
         };
+    }
+    set
+}
+
+// Where `counts` holds, a set of positions without the first, each moved down by one; the set as it is otherwise.
+fn popped(set: RowSet, counts: bool) -> RowSet
+    ensures { λ r. ⌜ r .bits ≡ cond counts (set .bits / 2) (set .bits) ⌝ }
+{
+    if counts {
+        return RowSet { bits: set.bits / 2 };
     }
     set
 }
@@ -79,53 +80,56 @@ fn seated(order: &[u8; 64], count: usize, members: RowSet, positions: RowSet) ->
     ensures { λ r. ⌜ has (r .bits) ≡ (λ (i : ℕ). some 64 (λ k. has (positions .bits) k && atSeat (seats (take count (now (order .entry))) (has (members .bits))) (eqb i) k)) ⌝ }
 {
     let mut set = RowSet::EMPTY;
-    let mut passed = 0;
+    // the positions ahead, the next one first
+    let mut left = positions;
     let mut j = 0;
     while j < count {
         let place = place_at(order, j);
         let member = members.at(place);
-        set = set.add(place, both(member, positions.at(passed)));
-        passed = step(passed, member);
+        set = set.add(place, both(member, left.at(0)));
+        left = popped(left, member);
         j += 1;
     }
     set
 }
 
-// The list that a founding or a check lays of these rows, in a tall table or in a wide one.
-pub fn laid_now(tall: bool, set: RowSet) -> Laid
-    ensures { λ r. ⌜ r ≡ laidNow tall (set .bits) ⌝ }
-{
-    Laid {
-        members: set.bits,
-        mark: grid::new_mark(tall, set.size()),
-    }
-}
-
-// Does a set of rows hold a quorum of the list?
-pub fn quorum(kind: Kind, order: &[u8; 64], count: usize, list: Laid, set: RowSet) -> bool
+// Does a set hold a quorum of the members, laid by the mark?
+pub fn quorum(
+    kind: Kind,
+    order: &[u8; 64],
+    count: usize,
+    mark: u8,
+    members: RowSet,
+    set: RowSet,
+) -> bool
     requires { ⌜ Listed count (now order) count ⌝ }
-    ensures { λ r. ⌜ r ≡ listQuorum kind (take count (now (order .entry))) list (has (set .bits)) ⌝ }
+    ensures { λ r. ⌜ r ≡ level kind mark (take count (now (order .entry))) (has (members .bits)) (has (set .bits)) ⌝ }
 {
-    let members = RowSet { bits: list.members };
     let length = members.size();
     coterie::holds(
         kind,
-        grid::of_mark(list.mark, length),
+        grid::of_mark(mark, length),
         length,
         held(order, count, members, set),
     )
 }
 
-// The rows that a name chooses over the list.
-pub fn choice(kind: Kind, order: &[u8; 64], count: usize, list: Laid, name: u16) -> RowSet
+// The members that a name chooses, laid by the mark.
+pub fn choice(
+    kind: Kind,
+    order: &[u8; 64],
+    count: usize,
+    mark: u8,
+    members: RowSet,
+    name: u16,
+) -> RowSet
     requires { ⌜ Listed count (now order) count ⌝ }
-    ensures { λ r. ⌜ has (r .bits) ≡ listChoice kind (take count (now (order .entry))) list name ⌝ }
+    ensures { λ r. ⌜ has (r .bits) ≡ levelChoice kind mark (take count (now (order .entry))) (has (members .bits)) name ⌝ }
 {
-    let members = RowSet { bits: list.members };
     let length = members.size();
-    let chosen = coterie::choose(kind, grid::of_mark(list.mark, length), length, name);
+    let chosen = coterie::choose(kind, grid::of_mark(mark, length), length, name);
     if members.fills(count) {
-        // a list of all rows has the order of the chain
+        // members that are rows 1 to `count` have the order of the chain
         return standing(order, count, chosen);
     }
     seated(order, count, members, chosen)

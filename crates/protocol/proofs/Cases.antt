@@ -22,12 +22,16 @@ allHold (On t k refusal value buffer ∷ cs) = stepsHold t (Made k refusal value
 allHold (Notes t k refusal called ∷ cs) = stepsHold t (Called k refusal called ∷ []) && allHold cs
 
 -- ---- tables
+-- a row from its list's second byte to its contents: in county 1, and nothing else
+unfoldable pub inOne : List ℕ
+inOne = zeros 9 ++ (1 ∷ zeros 17)
+
 -- two used rows of three, one file; row 1 alone is the list in force
 unfoldable pub pair : List ℕ
 pair =
-    (4 ∷ 3 ∷ 2 ∷ 1 ∷ 1 ∷ 0 ∷ 1 ∷ zeros 9)
-    ++ ((10 ∷ 0 ∷ 2 ∷ zeros 9) ++ ((1 ∷ 0 ∷ 0 ∷ 0 ∷ 1 ∷ zeros 27) ++ ((5 ∷ zeros 576)
-    ++ ((20 ∷ 0 ∷ zeros 14) ++ ((3 ∷ zeros 27) ++ ((5 ∷ zeros 576)
+    (5 ∷ 3 ∷ 2 ∷ 1 ∷ 1 ∷ 0 ∷ 1 ∷ zeros 9)
+    ++ ((10 ∷ 0 ∷ 2 ∷ zeros 9) ++ ((1 ∷ 0 ∷ 0 ∷ 0 ∷ 1 ∷ inOne) ++ ((5 ∷ zeros 576)
+    ++ ((20 ∷ 0 ∷ zeros 14) ++ ((3 ∷ inOne) ++ ((5 ∷ zeros 576)
     ++ zeros (stride 1 1)))))))
 
 -- where its rows start
@@ -47,12 +51,12 @@ set place width value t = put place (bytesOf width value) t
 -- one used row, of a capacity and a file length
 unfoldable pub single : (capacity fileLength : ℕ) → List ℕ
 single capacity fileLength =
-    (4 ∷ capacity ∷ 1 ∷ 1 ∷ bytesOf 2 fileLength) ++ ((1 ∷ zeros 9)
-    ++ ((10 ∷ 0 ∷ zeros 14) ++ ((1 ∷ zeros 27) ++ (replicate fileLength 5 ++ zeros (576 + (capacity - 1) * stride 1 fileLength)))))
+    (5 ∷ capacity ∷ 1 ∷ 1 ∷ bytesOf 2 fileLength) ++ ((1 ∷ zeros 9)
+    ++ ((10 ∷ 0 ∷ zeros 14) ++ ((1 ∷ inOne) ++ (replicate fileLength 5 ++ zeros (576 + (capacity - 1) * stride 1 fileLength)))))
 
 -- pair with a third row, at an epoch; its list is itself
 unfoldable pub third : ℕ → List ℕ
-third e = set 2 1 3 (set (row2 + 2) 1 3 (set row3 2 30 (set (row3 + 12) 4 e (set (row3 + 16) 8 4 pair))))
+third e = set 2 1 3 (set (row2 + 2) 1 3 (set row3 2 30 (set (row3 + 12) 4 e (set (row3 + 16) 8 4 (set (row3 + 26) 1 1 pair)))))
 
 -- pair with a third row; the list of rows 2 and 3 is all three
 unfoldable pub trio : List ℕ
@@ -68,7 +72,7 @@ nobody = set (row1 + 16) 8 0 (unlisted 0)
 
 -- n rows founded, named 10, 11, ..; and with the grid mark of each put to a number
 unfoldable pub full : ℕ → List ℕ
-full n = founded 0 n 1 1 (upward n 10)
+full n = founded 0 n 1 1 (upward n 10) (replicate n 1)
 
 unfoldable pub remarked : (n mark : ℕ) → List ℕ → List ℕ
 remarked zero mark t = t
@@ -78,8 +82,7 @@ unfoldable pub cases : List Case
 cases =
     -- a read copies from the good row of lowest index
     On (set (row2 + 44) 1 6 pair) (rd 2 3 0 1 (9 ∷ [])) 0 0 (5 ∷ [])
-    -- how many machines were called: the own choice where the call stayed with P, also a P that lacks a row of it; all used rows by a call refused by 6
-    ∷ Notes (full 5) (wr 1 31 0 (7 ∷ [])) 0 (4 ∷ [])
+    -- how many machines were called: the own choice also where P lacks a row of it; all used rows by a call refused by 6
     ∷ Notes trio (wr 2 3 0 (7 ∷ [])) 0 (3 ∷ [])
     ∷ Notes nobody (wr 1 3 0 (7 ∷ [])) 6 (2 ∷ [])
     -- a move judges by the table's own form, and asks 15 before 12 whatever that form is; its buffer is as long as the new table

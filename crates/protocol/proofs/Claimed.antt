@@ -7,14 +7,16 @@ use native.Mathlib.Omega.{arith}
 use lib.Dec.{eqb, ltb}
 use lib.ListN.{length, replicate, length-replicate}
 use borrow.Author.Tests.{eqb-true, eq-eqb, ltb-true}
+use Rattle.sets.specs.Upto.{every}
 use Rattle.sets.specs.Sets.{has}
 use Rattle.bools.proofs.BoolLaws.{clash}
 use Rattle.quorums.specs.declared.Kind.the-variants.{Read, Write}
 use Rattle.bytes.specs.Bytes.{part, zeros}
 use Rattle.bytes.proofs.ByteLaws.{length-zeros}
 use Rattle.fields.specs.Layout.{stride, usedOf, nameOf, versionOf, rowsEnd}
-use Rattle.table.specs.Chain.{orderOf}
-use Rattle.table.specs.WellFormed.{between, limit, wellFormed}
+use Rattle.table.specs.Chain.{frameOf}
+use Rattle.table.specs.WellFormed.{between, isCounty, limit, wellFormed}
+use Rattle.counties.specs.Counties.{countyAt}
 use Rattle.table.proofs.FormLaws.{formed, well-formed-of, header-facts}
 use Rattle.table.proofs.WellFormedLaws.{header, own-sized}
 use Rattle.protocol.specs.Polls.{highestEpoch, inForce}
@@ -22,6 +24,7 @@ use Rattle.protocol.specs.Calls
 use Rattle.asking.specs.Asking.{firstNo}
 use Rattle.asking.proofs.AskingLaws.{result-refusal, result-value}
 use Rattle.protocol.specs.Calls.{Founding, Call, founding, join, read, write, send, check, carry, questions, calledAfter, done, outcome, answers, workSet}
+use Rattle.sheet.specs.Sheet.{byClub}
 use Rattle.protocol.specs.Claims
 use Rattle.joining.proofs.FrameLaws.{joined-alters}
 use Rattle.joining.proofs.RowLaws.{more-formed}
@@ -34,7 +37,7 @@ use Rattle.protocol.proofs.FoundedLaws.{founds-of, founded-used, founde
 
 -- ---- the questions' numbers, in their order
 pub put-in-order : Claims.PutInOrder
-unfolding Claims.PutInOrder Claims.numbersPut questions Calls.byCoordinator
+unfolding Claims.PutInOrder byClub Claims.numbersPut questions Calls.byCoordinator
 put-in-order t (founding a) = refl
 put-in-order t (join a) = refl
 put-in-order t (read a) = refl
@@ -49,7 +52,7 @@ unfolding done limit workSet versionOf
 small-done t (founding a) h = let f = founds-of t a h in omega (arith, f .room, f .most)
 small-done t (join a) h = let y = join-yes t a h in omega (arith, y .room, header-facts t (formed t (y .formed) .header) .capacity)
 small-done t (read a) h =
-    version-small t (a .file) (a .c) (a .r) (read-yes t a h .group) (read-yes t a h .first) (workSet Read t (a .file) (a .c) (a .r)) (worked-in Read (orderOf t) (answers t (a .file) (a .r)) (a .c) (nameOf t (a .c)) (has (a .r)))
+    version-small t (a .file) (a .c) (a .r) (read-yes t a h .group) (read-yes t a h .first) (workSet Read t (a .file) (a .c) (a .r)) (worked-in Read (frameOf t) (answers t (a .file) (a .r)) (a .c) (nameOf t (a .c)) (has (a .r)))
 small-done t (write a) h = omega (arith, write-yes t a h .room)
 small-done t (send a) h = let y = send-yes t a h in formed t (y .formed) .copies (a .f) (a .file) (y .from-used) (y .group) .small-version
 small-done t (check a) h = go (eqb (a .r) (inForce (answers t 1 (a .r)) (has (a .r)) .members)) refl
@@ -73,7 +76,7 @@ result-tells t k = let s = go (outcome t k .refusal) refl in record { small = s;
 -- ---- demand 1: a refusal
 pub refusal-alters-nothing : Claims.RefusalAltersNothing
 unfolding Claims.RefusalAltersNothing
-refusal-alters-nothing t k d = let w = when-refused t k d in record { value = w .0; table = w .1; buffer = w .2 }
+refusal-alters-nothing t k d = let w = when-refused t k d in record { value = w .0; table = w .1; buffer = w .2; sheet = w .3 }
 
 pub buffer-stays : Claims.BufferStays
 unfolding Claims.BufferStays Calls.lent
@@ -105,7 +108,7 @@ only-done : (t : List ℕ) (k : Call) (r : ℕ) → Claims.Answering k r → fir
 unfolding done workSet writeTable writing sendTable checkTable checking checkList
 only-done t (read a) r Claims.byRead h = only-none (a .r) t
 only-done t (write a) r Claims.byWrite h =
-    let y = write-yes t a h in only-leaves (a .r) (λ i m. worked-in Write (orderOf t) (answers t (a .file) (a .r)) (a .c) (nameOf t (a .c)) (has (a .r)) i m) (write-leaves t a y)
+    let y = write-yes t a h in only-leaves (a .r) (λ i m. worked-in Write (frameOf t) (answers t (a .file) (a .r)) (a .c) (nameOf t (a .c)) (has (a .r)) i m) (write-leaves t a y)
 only-done t (send a) r Claims.bySend h =
     let y = send-yes t a h in only-leaves (a .r) (λ i m. subst (λ (x : ℕ). has (a .r) x ≡ true) (eqb-true (a .t) i m) (y .to-answered)) (send-leaves t a y)
 only-done t (check a) r Claims.byCheck h = go (eqb (a .r) (inForce (answers t 1 (a .r)) (has (a .r)) .members)) refl
@@ -126,7 +129,7 @@ formed-done : (t : List ℕ) (k : Call) → Claims.NoCheck k → wellFormed t �
 unfolding done writeTable writing sendTable
 formed-done t (founding a) Claims.aFounding w h =
     well-formed-of _ (founded-formed a (founds-of t a h))
-formed-done t (join a) Claims.aJoin w h = let y = join-yes t a h in well-formed-of _ (more-formed t _ (a .name) w (y .room) (joined-alters t w (a .name) (y .room)) (y .named) (y .free))
+formed-done t (join a) Claims.aJoin w h = let y = join-yes t a h in well-formed-of _ (more-formed t _ (a .name) (a .county) w (y .room) (joined-alters t w (a .name) (y .room) (a .county)) (y .named) (y .placed) (y .free))
 formed-done t (read a) Claims.aRead w h = w
 formed-done t (write a) Claims.aWrite w h = well-formed-of _ (write-formed t a (write-yes t a h))
 formed-done t (send a) Claims.aSend w h = well-formed-of _ (send-formed t a (send-yes t a h))
@@ -150,13 +153,13 @@ founds-on-anything t u a e h =
 
 -- met with: one machine, founded on a table of ones and on a table of zeros
 abbrev oneMachine : Founding
-oneMachine = record { capacity = 1; fileLength = 1; names = 10 ∷ 0 ∷ []; choice = 0; files = 1 }
+oneMachine = record { capacity = 1; fileLength = 1; names = 10 ∷ 0 ∷ []; choice = 0; files = 1; counties = 1 ∷ [] }
 
 abbrev ones : List ℕ
 ones = replicate (16 + stride 1 1) 1
 
 pub ones-leave-no-trace : outcome ones (founding oneMachine) ≡ outcome (zeros (16 + stride 1 1)) (founding oneMachine)
-unfolding Claims.FoundsOnAnything questions firstNo Calls.namesIn Calls.namesRising between
+unfolding Claims.FoundsOnAnything questions firstNo Calls.namesIn Calls.namesRising between isCounty countyAt every
 ones-leave-no-trace =
     let long : length ones ≡ 16 + stride 1 1 = length-replicate {A = ℕ} (16 + stride 1 1) 1 in
     founds-on-anything ones (zeros (16 + stride 1 1)) oneMachine (long ∙ sym (length-zeros (16 + stride 1 1)))

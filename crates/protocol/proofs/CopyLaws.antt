@@ -10,13 +10,13 @@ use Rattle.sets.specs.Upto.{Within}
 use Rattle.bytes.specs.Bytes.{part}
 use Rattle.blocks.proofs.BlockLaws.{length-stays, head-stays, block-same, block-other, Altered, blocks-changed}
 use Rattle.fields.specs.declared.Laid.{Laid}
-use Rattle.fields.specs.Layout.{get, name, link, epoch, list, reserved, contents, fileLength, copyLength, stride, copyIn, inCopy, inCopies, copyBytes, usedOf, filesOf, fileLengthOf, rowBytes}
-use Rattle.fields.proofs.FieldLaws.{copy-length, copy-behind, head-get, head-reserved, stride-is, row-newest, contents-long}
+use Rattle.fields.specs.Layout.{get, name, link, epoch, county, list, reserved, fileLength, copyLength, stride, copyIn, inCopy, inCopies, copyBytes, usedOf, filesOf, fileLengthOf, rowBytes}
+use Rattle.fields.proofs.FieldLaws.{copy-length, copy-behind, head-get, head-reserved, stride-is, row-newest}
 use Rattle.table.proofs.FormLaws.{Formed, rows-room}
 use Rattle.table.proofs.TableLaws.{row-long, Changed, like-get}
 use Rattle.protocol.specs.Rows.{markedCopy, enrolledRow, checkedRow}
-use Rattle.protocol.proofs.RowLaws.{headKit, HeadBecomes, fieldsOf, changed, relisted, listIn, becomes-list, becomes-reserved, marked-copy, enrolled-row}
-use Rattle.protocol.proofs.FrameLaws.{Frame, frame-of}
+use Rattle.protocol.proofs.RowLaws.{headKit, HeadBecomes, fieldsOf, changed, relisted, listIn, becomes-list, becomes-reserved, becomes-county, marked-copy, enrolled-row}
+use Rattle.protocol.proofs.FrameLaws.{SameFrame, KeepsFrame, frame-of}
 
 -- every byte of the head stays
 abbrev pub SameHead : List ℕ → List ℕ → Type 0
@@ -32,8 +32,7 @@ pub record OneCopy (file : ℕ) (row : List ℕ) (q : ℕ) (f : List ℕ → Lis
 -- a row after a check
 pub record CheckedRow (files file : ℕ) (row new : List ℕ) (good : ℕ → Bool) (v : ℕ → ℕ) (e : ℕ) (l : Laid) : Type 0 where
   pub long : length new ≡ length row
-  pub name : get name new ≡ get name row
-  pub link : get link new ≡ get link row
+  pub keeps : KeepsFrame row new
   pub epoch : get epoch new ≡ e
   pub list : list new ≡ l
   pub spare : reserved new ≡ reserved row
@@ -57,11 +56,14 @@ module _ (files file : ℕ) (row : List ℕ) (long : length row ≡ stride files
 
   pub checked-row : (good : ℕ → ℕ → Bool) (v : ℕ → ℕ) (e : ℕ) (l : Laid) (i : ℕ) → ((q : ℕ) → Within files q → v q < 256 ^ 4) → e < 256 ^ 4 → l .members < 256 ^ 8 → l .mark < 256 ^ 1
       → CheckedRow files file row (checkedRow files file good v e l i row) (λ q. good q i) v e l
-  unfolding checkedRow inCopies copyIn relisted changed fieldsOf headKit name link listIn
+  unfolding checkedRow inCopies copyIn relisted changed fieldsOf headKit name link county listIn
   checked-row good v e l i small he hl hm = record {
     long = b .long ∙ A .long;
-    name = b .fields 1 (omega arith) ∙ head-get row mid (A .head) name (omega arith);
-    link = b .fields 2 (omega arith) ∙ head-get row mid (A .head) link (omega arith);
+    keeps = record {
+      name = b .fields 1 (omega arith) ∙ head-get row mid (A .head) name (omega arith);
+      link = b .fields 2 (omega arith) ∙ head-get row mid (A .head) link (omega arith);
+      county = becomes-county b ∙ head-get row mid (A .head) county (omega arith);
+    };
     epoch = b .fields 3 (omega arith);
     list = becomes-list b;
     spare = becomes-reserved b ∙ head-reserved row mid (A .head);
@@ -82,11 +84,11 @@ module _ (files file : ℕ) (row : List ℕ) (long : length row ≡ stride files
       turned false y z = refl
 
 -- ---- a table
--- a table after a call: u is t with the rows of s changed; names and links stay
+-- a table after a call: u is t with the rows of s changed; names, links and counties stay
 pub record Leaves (t u : List ℕ) (s : ℕ → Bool) : Type 0 where
   pub how : ℕ → List ℕ → List ℕ
   pub change : Changed t u (usedOf t) s how
-  pub frame : Frame t u
+  pub frame : SameFrame t u
   pub out : (i : ℕ) → Within (usedOf t) i → s i ≡ false → rowBytes u i ≡ rowBytes t i
 
 pub row-length : (t : List ℕ) → Formed t → (i : ℕ) → Within (usedOf t) i → length (rowBytes t i) ≡ stride (filesOf t) (fileLengthOf t)
@@ -96,20 +98,16 @@ pub copy-long : (t : List ℕ) → Formed t → (i q : ℕ) → Within (usedOf t
 unfolding copyBytes
 copy-long t w i q u v = copy-length (filesOf t) (fileLengthOf t) (rowBytes t i) (row-length t w i u) q v
 
--- contents are as long as the file
-pub file-is : (t : List ℕ) → Formed t → (i q : ℕ) → Within (usedOf t) i → Within (filesOf t) q → length (contents (copyBytes t q i)) ≡ fileLengthOf t
-file-is t w i q u v = contents-long (copyBytes t q i) (fileLengthOf t) (copy-long t w i q u v)
-
 pub changed-row : {t u : List ℕ} {s : ℕ → Bool} {n : ℕ} {g : ℕ → List ℕ → List ℕ} → Changed t u n s g → (i : ℕ) → Within n i → s i ≡ true → rowBytes u i ≡ g i (rowBytes t i)
 changed-row {t} {u} {s} {n} {g} c i w m = c .rows i w ∙ ap (λ (x : Bool). cond x (g i (rowBytes t i)) (rowBytes t i)) m
 
 pub leaves-of : (t u : List ℕ) (s : ℕ → Bool) (g : ℕ → List ℕ → List ℕ) → Changed t u (usedOf t) s g
-    → ((i : ℕ) → Within (usedOf t) i → s i ≡ true → (get name (g i (rowBytes t i)) ≡ get name (rowBytes t i)) × (get link (g i (rowBytes t i)) ≡ get link (rowBytes t i)))
+    → ((i : ℕ) → Within (usedOf t) i → s i ≡ true → KeepsFrame (rowBytes t i) (g i (rowBytes t i)))
     → Leaves t u s
 leaves-of t u s g c b = record {
   how = g;
   change = c;
-  frame = frame-of c (λ i w m. b i w m .0) (λ i w m. b i w m .1);
+  frame = frame-of c b;
   out = λ i w m. c .rows i w ∙ ap (λ (x : Bool). cond x (g i (rowBytes t i)) (rowBytes t i)) m;
 }
 
@@ -144,11 +142,14 @@ module _ (t u : List ℕ) (q : ℕ) (s : ℕ → Bool) (g : ℕ → List ℕ →
       go false m = b m
 
   pub only-copies : OnlyCopies t u q s g
-  unfolding copyBytes name link
+  unfolding copyBytes name link county
   only-copies = record {
     heads = λ i x. at (λ (row : List ℕ). SameHead (rowBytes t i) row) i x (λ m. one i x m .head) (λ m b n h. refl);
     named = λ i x m. same-copy c q i ∙ ap (copyIn (fileLengthOf t) q) (changed-row c i x m) ∙ one i x m .named;
     others = λ i p x d. same-copy c p i ∙ at (λ (row : List ℕ). copyIn (fileLengthOf t) p row ≡ copyIn (fileLengthOf t) p (rowBytes t i)) i x (λ m. one i x m .others p d) (λ m. refl);
-    leaves = leaves-of t u s (λ i. inCopy (fileLengthOf t) q (g i)) c (λ i x m.
-        (head-get (rowBytes t i) _ (one i x m .head) name (omega arith), head-get (rowBytes t i) _ (one i x m .head) link (omega arith)));
+    leaves = leaves-of t u s (λ i. inCopy (fileLengthOf t) q (g i)) c (λ i x m. record {
+      name = head-get (rowBytes t i) _ (one i x m .head) name (omega arith);
+      link = head-get (rowBytes t i) _ (one i x m .head) link (omega arith);
+      county = head-get (rowBytes t i) _ (one i x m .head) county (omega arith);
+    });
   }

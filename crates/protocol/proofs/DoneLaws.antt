@@ -12,17 +12,17 @@ use borrow.Author.Tests.{eqb-true, eq-eqb}
 use Rattle.sets.specs.Upto.{Within}
 use Rattle.sets.specs.Sets.{has}
 use Rattle.quorums.specs.declared.Kind.the-variants.{Write}
-use Rattle.grid.proofs.SizeLaws.{new-mark-small}
+use Rattle.counties.proofs.MarkLaws.{mark-small}
 use Rattle.bytes.specs.Bytes.{put}
 use Rattle.fields.specs.declared.Laid.{Laid}
-use Rattle.fields.specs.Layout.{isTall, contents, copyLength, rowLength, rowBytes, inCopy, copyBytes, usedOf, filesOf, fileLengthOf, nameOf, epochOf, versionOf, withRow, withRows}
-use Rattle.table.specs.Chain.{orderOf}
+use Rattle.fields.specs.Layout.{isTall, contents, copyLength, rowLength, rowBytes, inCopy, copyBytes, usedOf, filesOf, fileLengthOf, nameOf, countyOf, epochOf, versionOf, withRow, withRows}
+use Rattle.table.specs.Chain.{frameOf}
 use Rattle.table.specs.WellFormed.{limit}
 use Rattle.window.specs.Windows.{Window, windowOf, added}
 use Rattle.window.specs.Claims.{Fits}
 use Rattle.table.proofs.FormLaws.{Formed, formed, header-facts, rows-room}
 use Rattle.protocol.specs.Polls.{Poll, polled, highestEpoch, inForce, goodVersion, good}
-use Rattle.protocol.specs.Lists.{laidNow}
+use Rattle.counties.specs.Marks.{laidNow}
 use Rattle.protocol.specs.Rows.{markedCopy, sentContents, refreshedCopy, wroteCopy, checkedRow}
 use Rattle.protocol.specs.Calls.{Writing, Sending, Checking, answers, workSet}
 use Rattle.protocol.proofs.RowLaws.{copyKit, Becomes, fieldsOf, changed, marked-copy, patched-copy, refreshed-copy}
@@ -72,7 +72,7 @@ module _ (t : List ℕ) (a : Writing) (y : WriteYes t a) where
 
   pub write-used : (i : ℕ) → workSet Write t (a .file) (a .c) (a .r) i ≡ true → Within (usedOf t) i
   unfolding workSet
-  write-used i m = answered-used t (a .c) (a .r) [] (y .first) i (worked-in Write (orderOf t) (answers t (a .file) (a .r)) (a .c) (nameOf t (a .c)) (has (a .r)) i m)
+  write-used i m = answered-used t (a .c) (a .r) [] (y .first) i (worked-in Write (frameOf t) (answers t (a .file) (a .r)) (a .c) (nameOf t (a .c)) (has (a .r)) i m)
 
   -- the patch is one that a window can take
   pub patch-fits : Fits (fileLengthOf t) (record { offset = a .offset; bytes = a .patch })
@@ -180,7 +180,7 @@ module _ (t : List ℕ) (a : Checking) (y : CheckYes t a) (room : highestEpoch (
 
   -- the list that is laid
   unfoldable pub checkList : Laid
-  checkList = laidNow (isTall (inForce (answers t 1 (a .r)) (has (a .r)))) (a .r)
+  checkList = laidNow (isTall (inForce (answers t 1 (a .r)) (has (a .r)))) (countyOf t) (a .r)
 
   -- what each row becomes
   unfoldable pub checking : ℕ → List ℕ → List ℕ
@@ -198,14 +198,14 @@ module _ (t : List ℕ) (a : Checking) (y : CheckYes t a) (room : highestEpoch (
   enrolled : (i : ℕ) → Within (usedOf t) i
       → CheckedRow (filesOf t) (fileLengthOf t) (rowBytes t i) (checking i (rowBytes t i)) (λ q. good (answers t q (a .r)) (has (a .r)) i) (λ q. goodVersion (answers t q (a .r)) (has (a .r))) (highestEpoch (answers t 1 (a .r)) (has (a .r)) + 1) checkList
   unfolding checking checkList laidNow limit
-  enrolled i u = checked-row (filesOf t) (fileLengthOf t) (rowBytes t i) (row-length t cw i u) _ _ _ _ i (λ q v. omega (arith, check-version q v)) (omega (arith, room)) list-fits (new-mark-small _ _)
+  enrolled i u = checked-row (filesOf t) (fileLengthOf t) (rowBytes t i) (row-length t cw i u) _ _ _ _ i (λ q v. omega (arith, check-version q v)) (omega (arith, room)) list-fits (mark-small _ _ _)
 
   pub check-rows : Changed t checkTable (usedOf t) (has (a .r)) checking
   unfolding checkTable
   check-rows = many-rows t (has (a .r)) checking (usedOf t) (rows-room t cw) (λ i u m. enrolled i u .long ∙ row-size t cw i u)
 
   pub check-leaves : Leaves t checkTable (has (a .r))
-  check-leaves = leaves-of t checkTable (has (a .r)) checking check-rows (λ i u m. (enrolled i u .name, enrolled i u .link))
+  check-leaves = leaves-of t checkTable (has (a .r)) checking check-rows (λ i u m. enrolled i u .keeps)
 
   pub check-row : (i : ℕ) → Within (usedOf t) i → has (a .r) i ≡ true
       → CheckedRow (filesOf t) (fileLengthOf t) (rowBytes t i) (rowBytes checkTable i) (λ q. good (answers t q (a .r)) (has (a .r)) i) (λ q. goodVersion (answers t q (a .r)) (has (a .r))) (highestEpoch (answers t 1 (a .r)) (has (a .r)) + 1) checkList

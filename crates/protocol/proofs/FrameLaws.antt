@@ -1,4 +1,4 @@
--- What no call after a founding alters: header, names and links. And what follows: chain order, the header's and the chain's part of question 1.
+-- What no call after a founding but a joining alters: header, names, links and counties. And what follows: chain order, the header's and the chain's part of question 1.
 use mathlib.Core.Path.{_≡_, refl, _∙_, ap, fun-ext}
 use mathlib.Core.Bool.{Bool, true, false, cond}
 use mathlib.Core.List.{List}
@@ -8,17 +8,20 @@ use native.Mathlib.Omega.{arith}
 use lib.ListN.{drop}
 use Rattle.sets.specs.Upto.{Within}
 use Rattle.bytes.specs.Bytes.{allZero}
-use Rattle.fields.specs.Layout.{get, form, capacity, used, first, fileLength, fileCount, restIn, name, link, formOf, capacityOf, usedOf, firstOf, fileLengthOf, filesOf, nameOf, linkOf, rowsEnd, rowBytes}
+use Rattle.fields.specs.Layout.{get, form, capacity, used, first, fileLength, fileCount, restIn, name, link, county, formOf, capacityOf, usedOf, firstOf, fileLengthOf, filesOf, nameOf, linkOf, countyOf, rowsEnd, rowBytes}
+use Rattle.table.specs.Chain.{orderOf, frameOf}
 use Rattle.table.specs.WellFormed.{headerValues, lengthRight, visitsEach, namesRise, unusedZero}
 use Rattle.blocks.specs.Blocks.{block}
+use Rattle.table.proofs.CountyLaws.{county-same, frame-same}
 use Rattle.table.proofs.TableLaws.{Like, like-get, like-end, Changed, behind}
 
-pub record Frame (t u : List ℕ) : Type 0 where
+pub record SameFrame (t u : List ℕ) : Type 0 where
   pub like : Like t u
   pub names : nameOf u ≡ nameOf t
   pub links : linkOf u ≡ linkOf t
+  pub counties : countyOf u ≡ countyOf t
 
-module _ {t u : List ℕ} (f : Frame t u) where
+module _ {t u : List ℕ} (f : SameFrame t u) where
   pub same-used : usedOf u ≡ usedOf t
   unfolding usedOf used
   same-used = like-get (f .like) used (omega arith)
@@ -63,7 +66,17 @@ module _ {t u : List ℕ} (f : Frame t u) where
   unfolding namesRise
   same-rise = rw (f .links, f .names, same-used, same-first)
 
--- ---- a table some of whose rows are changed, in neither name nor link
+  pub same-frame : frameOf u ≡ frameOf t
+  unfolding orderOf
+  same-frame = frame-same t u (rw (f .links, same-used, same-first)) (f .counties)
+
+-- a row that keeps these
+pub record KeepsFrame (row new : List ℕ) : Type 0 where
+  pub name : get name new ≡ get name row
+  pub link : get link new ≡ get link row
+  pub county : get county new ≡ get county row
+
+-- ---- a table some of whose rows are changed, and all keep name, link and county
 module _ {t u : List ℕ} {n : ℕ} {s : ℕ → Bool} {g : ℕ → List ℕ → List ℕ} (c : Changed t u n s g) where
   row-same : (field : List ℕ → ℕ) → ((i : ℕ) → Within n i → s i ≡ true → field (g i (rowBytes t i)) ≡ field (rowBytes t i))
       → (i : ℕ) → field (rowBytes u i) ≡ field (rowBytes t i)
@@ -79,10 +92,14 @@ module _ {t u : List ℕ} {n : ℕ} {s : ℕ → Bool} {g : ℕ → List ℕ →
           by false e = refl
       go (no l) = ap field (behind c (suc k) (omega arith))
 
-  pub frame-of : ((i : ℕ) → Within n i → s i ≡ true → get name (g i (rowBytes t i)) ≡ get name (rowBytes t i))
-      → ((i : ℕ) → Within n i → s i ≡ true → get link (g i (rowBytes t i)) ≡ get link (rowBytes t i)) → Frame t u
-  unfolding nameOf linkOf
-  frame-of kn kl = record { like = c .like; names = fun-ext (row-same (get name) kn); links = fun-ext (row-same (get link) kl) }
+  pub frame-of : ((i : ℕ) → Within n i → s i ≡ true → KeepsFrame (rowBytes t i) (g i (rowBytes t i))) → SameFrame t u
+  unfolding nameOf linkOf usedOf used
+  frame-of k = record {
+    like = c .like;
+    names = fun-ext (row-same (get name) (λ i w m. k i w m .name));
+    links = fun-ext (row-same (get link) (λ i w m. k i w m .link));
+    counties = county-same t u (like-get (c .like) used (omega arith)) (λ i w. row-same (get county) (λ i w m. k i w m .county) i);
+  }
 
   -- the unused rows stay zero
   pub zero-stays : usedOf t ≡ n → usedOf u ≡ usedOf t → unusedZero u ≡ unusedZero t

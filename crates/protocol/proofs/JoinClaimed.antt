@@ -11,19 +11,16 @@ use lib.ListN.{take, drop}
 use lib.Seq.{take-add, drop-drop}
 use borrow.Author.Tests.{eqb-true, ne-eqb}
 use Rattle.bools.proofs.BoolLaws.{clash, same-test}
-use Rattle.sets.specs.Upto.{Within, some, count, lowest, most}
+use Rattle.sets.specs.Upto.{Within, some, lowest, most}
 use Rattle.sets.specs.Sets.{has, losing, cutTo}
 use Rattle.sets.proofs.UptoLaws.{last, some-none, some-ext}
-use Rattle.sets.proofs.CountLaws.{count-to}
 use Rattle.sets.proofs.SetLaws.{empty-at, has-within}
 use Rattle.quorums.specs.declared.Kind.{Kind}
 use Rattle.quorums.specs.declared.Kind.the-variants.{Write}
 use Rattle.bytes.specs.Bytes.{part}
-use Rattle.grid.specs.Sizes.{gridBy}
-use Rattle.quorums.specs.Quorums.{choice}
 use Rattle.fields.specs.declared.Laid.{Laid}
-use Rattle.fields.specs.Layout.{noList, isEmpty, capacity, capacityOf, usedOf, firstOf, nameOf, linkOf, rowBytes}
-use Rattle.table.specs.Chain.{orderOf}
+use Rattle.fields.specs.Layout.{noList, isEmpty, capacity, capacityOf, usedOf, firstOf, nameOf, linkOf, countyOf, rowBytes}
+use Rattle.table.specs.Chain.{orderOf, frameOf}
 use Rattle.table.proofs.RisingLaws.{order-within}
 use Rattle.linking.specs.Linking.{lastOf, behind, inserted}
 use Rattle.linking.proofs.InsertLaws.{last-same}
@@ -31,8 +28,11 @@ use Rattle.joining.specs.Claims.{OneMore}
 use Rattle.joining.proofs.FrameLaws.{before-used, joined-alters}
 use Rattle.joining.specs.Joining.{rowBefore}
 use Rattle.joining.proofs.OrderLaws.{Joined, joined-order}
-use Rattle.joining.proofs.RowLaws.{link-after, more-chain}
-use Rattle.protocol.specs.Lists.{seats, atSeat, levelChoice, listQuorum, listChoice}
+use Rattle.joining.proofs.RowLaws.{link-after, county-kept, county-new, more-chain}
+use Rattle.counties.specs.Levels.{seats}
+use Rattle.counties.specs.Counties.{Frame, listQuorum, listChoice}
+use Rattle.counties.specs.Claims.{ChosenPass}
+use Rattle.counties.proofs.TwoLevelLaws.{chosen-pass}
 use Rattle.protocol.specs.Polls.{Poll, listed, highestEpoch, inForce, quorumHeld, ownTry, stays, workedOn}
 use Rattle.protocol.specs.Calls.{Joining, join, questions, done, outcome}
 use Rattle.protocol.specs.Claims
@@ -61,30 +61,26 @@ empty-passed-over p s i z =
     same = fun-ext (without p s i z)
 
 -- an empty list has no choice
-no-choice : (kind : Kind) (order : List ℕ) (l : Laid) (a i : ℕ) → isEmpty l ≡ true → listChoice kind order l a i ≡ false
-unfolding listChoice levelChoice isEmpty count
-no-choice kind order l a i z =
-    let none : l .members ≡ 0 = eqb-true _ _ z in
-    let size : count 64 (has 0) ≡ 0 = count-to 0 (has 0) (λ i l. empty-at i) 64 (omega arith) in
-    rw (none, size) (unit kind order a i)
-  where
-    unit : (kind : Kind) (order : List ℕ) (a i : ℕ) → some 0 (λ k. choice kind (gridBy (l .mark) 0) 0 a k && atSeat (seats order (has 0)) (eqb i) k) ≡ false
-    unit kind order a i = some-none 0 _ (λ k w. absurd (omega arith))
+no-choice : (kind : Kind) (f : Frame) (l : Laid) (a i : ℕ) → isEmpty l ≡ true → listChoice kind f l a i ≡ false
+unfolding listChoice isEmpty ChosenPass
+no-choice kind f l a i z =
+    let none : has (l .members) i ≡ false = ap (λ (m : ℕ). has m i) (eqb-true _ _ z) ∙ empty-at i in
+    same-test _ false (λ h. absurd (clash (sym none ∙ chosen-pass kind (l .mark) f (has (l .members)) a i h))) (λ e. absurd (clash e))
 
 -- a set that only has rows with an empty list holds no quorum
 pub only-empty-refused : Claims.OnlyEmptyRefused
 unfolding Claims.OnlyEmptyRefused quorumHeld
-only-empty-refused kind order p s f = ap (λ (b : Bool). b && listQuorum kind order (inForce p s) s) (some-none 64 (listed p s) (λ i w. out i (listed p s i) refl))
+only-empty-refused kind f p s none = ap (λ (b : Bool). b && listQuorum kind f (inForce p s) s) (some-none 64 (listed p s) (λ i w. out i (listed p s i) refl))
   where
     out : (i : ℕ) (b : Bool) → listed p s i ≡ b → b ≡ false
-    out i true m = let l = listed-at p s i m in absurd (clash (sym (l .1) ∙ f i (l .0)))
+    out i true m = let l = listed-at p s i m in absurd (clash (sym (l .1) ∙ none i (l .0)))
     out i false m = refl
 
 pub empty-works-on-r : Claims.EmptyWorksOnR
 unfolding Claims.EmptyWorksOnR Claims.OnlyEmptyRefused workedOn stays ownTry cutTo
-empty-works-on-r kind order p c a r z =
-    let none : (i : ℕ) → (listChoice kind order (p .list c) a i && r i) ≡ false = λ i. ap (λ (b : Bool). b && r i) (no-choice kind order (p .list c) a i z) in
-    let six = only-empty-refused kind order p (λ i. listChoice kind order (p .list c) a i && r i) (λ i m. absurd (clash (sym (none i) ∙ m))) in
+empty-works-on-r kind f p c a r z =
+    let none : (i : ℕ) → (listChoice kind f (p .list c) a i && r i) ≡ false = λ i. ap (λ (b : Bool). b && r i) (no-choice kind f (p .list c) a i z) in
+    let six = only-empty-refused kind f p (λ i. listChoice kind f (p .list c) a i && r i) (λ i m. absurd (clash (sym (none i) ∙ m))) in
     rw six
 
 -- met with: row 1 has no list, row 2 has one, and both answer
@@ -97,32 +93,42 @@ oneUnlisted = record {
   list = λ i. cond (eqb i 1) noList (record { members = 2; mark = 0 });
 }
 
-pub unlisted-works-on-r : (i : ℕ) → workedOn Write (1 ∷ 2 ∷ []) oneUnlisted 1 10 (has 3) i ≡ has 3 i
+abbrev bothRows : Frame
+bothRows = record { order = 1 ∷ 2 ∷ []; county = λ i. 1 }
+
+pub unlisted-works-on-r : (i : ℕ) → workedOn Write bothRows oneUnlisted 1 10 (has 3) i ≡ has 3 i
 unfolding Claims.EmptyWorksOnR isEmpty noList
-unlisted-works-on-r i = ap (λ (s : ℕ → Bool). s i) (empty-works-on-r Write (1 ∷ 2 ∷ []) oneUnlisted 1 10 (has 3) refl)
+unlisted-works-on-r i = ap (λ (s : ℕ → Bool). s i) (empty-works-on-r Write bothRows oneUnlisted 1 10 (has 3) refl)
 
 -- ---- joining
 module _ (t : List ℕ) (a : Joining) (h : outcome t (join a) .refusal ≡ 0) where
   y : JoinYes t a
   y = join-yes t a (sym (refusal-is t (join a)) ∙ h)
 
-  alters : OneMore t (done t (join a) .table) (a .name)
+  alters : OneMore t (done t (join a) .table) (a .name) (a .county)
   unfolding done
-  alters = joined-alters t (y .formed) (a .name) (y .room)
+  alters = joined-alters t (y .formed) (a .name) (y .room) (a .county)
 
   order : orderOf (done t (join a) .table) ≡ inserted (nameOf t) (a .name) (suc (usedOf t)) (orderOf t)
-  order = joined-order t (y .formed) _ (a .name) (more-chain t _ (a .name) (y .formed) (y .room) alters (y .named) (y .free))
+  order = joined-order t (y .formed) _ (a .name) (more-chain t _ (a .name) (a .county) (y .formed) (y .room) alters (y .named) (y .placed) (y .free))
 
   -- the new row is in no list of rows that were used before
   outside : (l : Laid) → l .members < 2 ^ usedOf t → has (l .members) (suc (usedOf t)) ≡ false
   outside l s = same-test _ false (λ m. absurd (omega (arith, has-within (usedOf t) (l .members) (suc (usedOf t)) s m))) (λ z. absurd (clash z))
 
+  -- and its members keep their counties
+  counties-stay : (l : Laid) → l .members < 2 ^ usedOf t → (i : ℕ) → has (l .members) i ≡ true → countyOf (done t (join a) .table) i ≡ countyOf t i
+  counties-stay l s i m = county-kept t _ (a .name) (a .county) (y .formed) (y .room) alters i (has-within (usedOf t) (l .members) i s m)
+
   lists : Claims.KeepsLists t (done t (join a) .table) (a .name)
+  unfolding frameOf
   lists = record {
     order = order;
     positions = λ l s. ap (λ (o : List ℕ). seats o (has (l .members))) order ∙ seats-more (nameOf t) (a .name) (suc (usedOf t)) (orderOf t) l (outside l s);
-    quorums = λ l s kind r. ap (λ (o : List ℕ). listQuorum kind o l r) order ∙ quorum-more (nameOf t) (a .name) (suc (usedOf t)) (orderOf t) l (outside l s) kind r;
-    choices = λ l s kind x i. ap (λ (o : List ℕ). listChoice kind o l x i) order ∙ choice-more (nameOf t) (a .name) (suc (usedOf t)) (orderOf t) l (outside l s) kind x i;
+    quorums = λ l s kind r. ap (λ (o : List ℕ). listQuorum kind (record { order = o; county = countyOf (done t (join a) .table) }) l r) order
+        ∙ quorum-more (nameOf t) (a .name) (suc (usedOf t)) (orderOf t) l (outside l s) (countyOf t) (countyOf (done t (join a) .table)) (counties-stay l s) kind r;
+    choices = λ l s kind x i. ap (λ (o : List ℕ). listChoice kind (record { order = o; county = countyOf (done t (join a) .table) }) l x i) order
+        ∙ choice-more (nameOf t) (a .name) (suc (usedOf t)) (orderOf t) l (outside l s) (countyOf t) (countyOf (done t (join a) .table)) (counties-stay l s) kind x i;
   }
 
 pub join-alters : Claims.JoinAlters
@@ -133,7 +139,7 @@ pub join-keeps-lists : Claims.JoinKeepsLists
 unfolding Claims.JoinKeepsLists
 join-keeps-lists t a h = rw (when-done t (join a) h) (lists t a h)
 
--- ---- a joining sees header, names and links alone
+-- ---- a joining sees header, names, links and counties alone
 head-by-parts : (xs : List ℕ) → take 16 xs ≡ (part 0 2 xs ++ (part 2 1 xs ++ part 3 1 xs)) ++ part 4 12 xs
 unfolding part
 head-by-parts xs =
@@ -161,6 +167,9 @@ module _ {t u : List ℕ} (E : Claims.EqualIn 0 t u) (a : Joining) where
     yt : JoinYes t a
     yt = y t a h
 
+    yu : JoinYes u a
+    yu = y u a g
+
     behind-same : behind (firstOf u) (linkOf u) (rowBefore u (a .name)) ≡ behind (firstOf t) (linkOf t) (rowBefore t (a .name))
     unfolding behind
     behind-same = rw (before-same, first-same E) (go (rowBefore t (a .name)) (before-used t (E .formed) (a .name) (yt .room)))
@@ -169,17 +178,17 @@ module _ {t u : List ℕ} (E : Claims.EqualIn 0 t u) (a : Joining) where
         go zero l = refl
         go (suc k) l = ap (λ (n : ℕ). cond (eqb (suc k) 0) (firstOf t) n) (sym (E .links (suc k) (omega arith)))
 
-    ot : OneMore t (done t (join a) .table) (a .name)
+    ot : OneMore t (done t (join a) .table) (a .name) (a .county)
     ot = alters t a h
 
-    ou : OneMore u (done u (join a) .table) (a .name)
+    ou : OneMore u (done u (join a) .table) (a .name) (a .county)
     ou = alters u a g
 
     ct : Joined t (done t (join a) .table) (a .name)
-    ct = more-chain t _ (a .name) (E .formed) (yt .room) ot (yt .named) (yt .free)
+    ct = more-chain t _ (a .name) (a .county) (E .formed) (yt .room) ot (yt .named) (yt .placed) (yt .free)
 
     cu : Joined u (done u (join a) .table) (a .name)
-    cu = let z = y u a g in more-chain u _ (a .name) (E .formed-too) (z .room) ou (z .named) (z .free)
+    cu = more-chain u _ (a .name) (a .county) (E .formed-too) (yu .room) ou (yu .named) (yu .placed) (yu .free)
 
     header-same : take 16 (done t (join a) .table) ≡ take 16 (done u (join a) .table)
     header-same = by-parts (done t (join a) .table) ∙ ap₂ (λ (x y : List ℕ). x ++ y) low high ∙ sym (by-parts (done u (join a) .table))
@@ -206,7 +215,11 @@ module _ {t u : List ℕ} (E : Claims.EqualIn 0 t u) (a : Joining) where
           (last (usedOf t) i v));
       links = rw (ct .used) (λ i v. ⊎-elim
           (λ q. rw q (ct .links .onto ∙ sym behind-same ∙ sym (cu .links .onto) ∙ ap (linkOf (done u (join a) .table)) (ap suc (used-same E))))
-          (λ w. link-after t _ (a .name) (E .formed) (yt .room) ot i w ∙ linked i w ∙ sym (link-after u _ (a .name) (E .formed-too) (y u a g .room) ou i (rw (used-same E) w)))
+          (λ w. link-after t _ (a .name) (a .county) (E .formed) (yt .room) ot i w ∙ linked i w ∙ sym (link-after u _ (a .name) (a .county) (E .formed-too) (yu .room) ou i (rw (used-same E) w)))
+          (last (usedOf t) i v));
+      counties = rw (ct .used) (λ i v. ⊎-elim
+          (λ q. rw q (county-new t _ (a .name) (a .county) (E .formed) (yt .room) ot (yt .named) (yt .placed) (yt .free) ∙ sym (county-new u _ (a .name) (a .county) (E .formed-too) (yu .room) ou (yu .named) (yu .placed) (yu .free)) ∙ ap (countyOf (done u (join a) .table)) (ap suc (used-same E))))
+          (λ w. county-kept t _ (a .name) (a .county) (E .formed) (yt .room) ot i w ∙ E .counties i w ∙ sym (county-kept u _ (a .name) (a .county) (E .formed-too) (yu .room) ou i (rw (used-same E) w)))
           (last (usedOf t) i v));
       new = λ z. ot .new ∙ rw (← behind-same, ← file-same E, ← files-same E) (sym (ou .new)) ∙ ap (rowBytes (done u (join a) .table)) (ap suc (used-same E));
     }
@@ -232,5 +245,6 @@ join-sees t u a E = go (outcome t (join a) .refusal) refl
           header = rw (x .1, z .1) (E .header);
           names = rw (x .1, z .1) (E .names);
           links = rw (x .1, z .1) (E .links);
+          counties = rw (x .1, z .1) (E .counties);
           new = λ d. absurd (omega arith);
         }

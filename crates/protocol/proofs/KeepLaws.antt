@@ -8,21 +8,22 @@ use native.Mathlib.Omega.{arith}
 use lib.Dec.{eqb}
 use borrow.Author.Tests.{eqb-true}
 use Rattle.sets.specs.Upto.{Within, count}
-use Rattle.grid.proofs.SizeLaws.{new-mark-fits}
 use Rattle.sets.specs.Sets.{has}
 use Rattle.bools.proofs.BoolLaws.{and-l, clash}
 use Rattle.sets.proofs.CountLaws.{count-one}
 use Rattle.quorums.specs.declared.Kind.the-variants.{Write}
 use Rattle.fields.specs.declared.Laid.{Laid}
-use Rattle.fields.specs.Layout.{get, name, link, desired, epoch, members, gridMark, list, isEmpty, isTall, rowBytes, copyBytes, usedOf, filesOf, fileLengthOf, epochOf, listOf, staleOf, versionOf, desiredOf}
-use Rattle.fields.proofs.FieldLaws.{copy-is, head-get, head-reserved, head-list}
+use Rattle.fields.specs.Layout.{get, desired, epoch, members, list, isEmpty, isTall, rowBytes, copyBytes, usedOf, filesOf, fileLengthOf, epochOf, listOf, countyOf, staleOf, versionOf, desiredOf}
+use Rattle.fields.proofs.FieldLaws.{copy-is, head-get, head-list}
 use Rattle.window.specs.Windows.{Window, windowRight, windowOf, added}
 use Rattle.window.specs.Claims.{StaysRight}
 use Rattle.window.proofs.AddLaws.{added-right}
 use Rattle.window.proofs.CopyLaws.{window-whole}
-use Rattle.protocol.specs.Lists.{laidNow}
+use Rattle.counties.specs.Claims.{LaidMarks}
+use Rattle.counties.specs.Marks.{laidNow, markRight}
+use Rattle.counties.proofs.MarkLaws.{laid-marks}
 use Rattle.table.specs.WellFormed.{limit}
-use Rattle.table.proofs.FormLaws.{HeadFacts, CopyFacts, OneShape, Formed, formed, header-facts}
+use Rattle.table.proofs.FormLaws.{HeadFacts, CopyFacts, OneShape, Formed, formed, header-facts, head-stays-right}
 use Rattle.protocol.specs.Polls.{polled, highestEpoch, inForce, goodVersion, good, current, quorumHeld}
 use Rattle.protocol.specs.Calls.{Writing, Sending, Checking, answers, workSet}
 use Rattle.protocol.proofs.RowLaws.{copyKit, Becomes, fieldsOf, changed}
@@ -31,7 +32,7 @@ use Rattle.protocol.proofs.PollLaws.{leads, good-at, good-of, version-l
 use Rattle.protocol.proofs.FrameLaws.{same-form, same-used, same-file, same-files, same-header, same-long, same-visits, same-rise, zero-stays}
 use Rattle.protocol.proofs.QuestionLaws.{answered-used, WriteYes, SendYes, CheckYes}
 use Rattle.protocol.proofs.DoneLaws.{file-low, write-used, patch-fits, writeTable, write-only, write-taken, write-marked, sendTable, send-only, send-target, checkTable, checkList, check-version, check-leaves, check-row, check-taken, check-marked}
-use Rattle.protocol.proofs.CopyLaws.{SameHead, Leaves, OnlyCopies, copy-long, out-copy}
+use Rattle.protocol.proofs.CopyLaws.{Leaves, OnlyCopies, copy-long, out-copy}
 
 -- what is asked of a copy, in terms of its three fields
 record Fields (f : ℕ → ℕ) : Type 0 where
@@ -52,21 +53,6 @@ facts-after r b g k = record {
   level = rw (b .fields 1 (omega arith), b .fields 3 (omega arith)) (g .level);
   kept = rw (b .fields 2 (omega arith), b .window) k;
 }
-
--- a head that says the same is as right
-head-stays-right : {n i : ℕ} {row new : List ℕ} → SameHead row new → HeadFacts n i row → HeadFacts n i new
-unfolding isEmpty list name link epoch members gridMark
-head-stays-right {n} {i} {row} {new} same f =
-    let m : get members new ≡ get members row = head-get row new same members (omega arith) in
-    record {
-      named = rw (head-get row new same name (omega arith)) (f .named);
-      linked = rw (head-get row new same link (omega arith)) (f .linked);
-      spare = rw (head-reserved row new same) (f .spare);
-      small-epoch = rw (head-get row new same epoch (omega arith)) (f .small-epoch);
-      only = rw m (f .only);
-      own = rw m (f .own);
-      grid = rw (m, head-get row new same gridMark (omega arith)) (f .grid);
-    }
 
 -- those of rows 1 to n that have a list, and one epoch, have one list
 abbrev Agreed : List ℕ → ℕ → Type 0
@@ -89,15 +75,19 @@ same-shape n w stay i j u v a b =
     let y = stay j v .1 in
     ap isTall x ∙ w .shape i j u v (rw x at a) (rw y at b) ∙ sym (ap isTall y)
 
+same-marks : {t : List ℕ} (u : List ℕ) → Formed t → ((i : ℕ) → Within (usedOf t) i → (epochOf u i ≡ epochOf t i) × (listOf u i ≡ listOf t i)) → (i : ℕ) → Within (usedOf t) i → markRight (countyOf t) (listOf u i) ≡ true
+same-marks n w stay i u = rw (stay i u .1) (w .marks i u)
+
 -- a table whose rows are right, and agree on lists, is well formed
 keep-formed : {t u : List ℕ} {s : ℕ → Bool} → Formed t → Leaves t u s
     → ((i : ℕ) → Within (usedOf t) i → HeadFacts (usedOf t) i (rowBytes u i))
     → ((i q : ℕ) → Within (usedOf t) i → Within (filesOf t) q → CopyFacts (fileLengthOf t) (copyBytes u q i))
     → Agreed u (usedOf t)
+    → ((i : ℕ) → Within (usedOf t) i → markRight (countyOf t) (listOf u i) ≡ true)
     → OneShape u (usedOf t)
     → Formed u
 unfolding epochOf listOf
-keep-formed {t} {u} {s} w l heads copies agree shape = record {
+keep-formed {t} {u} {s} w l heads copies agree marks shape = record {
   newest = same-form (l .frame) ∙ w .newest;
   header = same-header (l .frame) ∙ w .header;
   long = same-long (l .frame) ∙ w .long;
@@ -107,6 +97,7 @@ keep-formed {t} {u} {s} w l heads copies agree shape = record {
   rise = same-rise (l .frame) ∙ w .rise;
   zero = zero-stays (l .change) refl (same-used (l .frame)) ∙ w .zero;
   agree = rw (same-used (l .frame)) agree;
+  marks = rw (same-used (l .frame), l .frame .counties) marks;
   shape = rw (same-used (l .frame)) shape;
 }
 
@@ -117,7 +108,7 @@ module _ {t u : List ℕ} {q : ℕ} {s : ℕ → Bool} {g : ℕ → List ℕ →
   same-membership i v = (head-get (rowBytes t i) (rowBytes u i) (o .heads i v) epoch (omega arith), head-list (rowBytes t i) (rowBytes u i) (o .heads i v))
 
   only-formed : ((i : ℕ) → Within (usedOf t) i → Within (filesOf t) q → s i ≡ true → CopyFacts (fileLengthOf t) (copyBytes u q i)) → Formed u
-  only-formed facts = keep-formed w (o .leaves) (λ i v. head-stays-right (o .heads i v) (w .heads i v)) (λ i p v m. go i p v m (ℕ-discrete p q)) (still-agreed _ w same-membership) (same-shape _ w same-membership)
+  only-formed facts = keep-formed w (o .leaves) (λ i v. head-stays-right (o .heads i v) (w .heads i v)) (λ i p v m. go i p v m (ℕ-discrete p q)) (still-agreed _ w same-membership) (same-marks _ w same-membership) (same-shape _ w same-membership)
     where
       go : (i p : ℕ) → Within (usedOf t) i → Within (filesOf t) p → Dec (p ≡ q) → CopyFacts (fileLengthOf t) (copyBytes u p i)
       go i p v m (no d) = rw (o .others i p v d) (w .copies i p v m)
@@ -283,13 +274,13 @@ module _ (t : List ℕ) (a : Checking) (y : CheckYes t a) (room : highestEpoch (
           let c = check-row t a y room i u m in
           let r : get members (rowBytes (checkTable t a y room) i) ≡ a .r = ap (λ (l : Laid). l .members) (c .list) in
           record {
-            named = rw (c .name) (f .named);
-            linked = rw (c .link) (f .linked);
+            named = rw (c .keeps .name) (f .named);
+            linked = rw (c .keeps .link) (f .linked);
             small-epoch = rw (c .epoch) (omega arith);
             spare = rw (c .spare) (f .spare);
             only = rw r (y .first .rows);
             own = rw r (λ e. m);
-            grid = rw (r, ap (λ (l : Laid). l .mark) (c .list)) (new-mark-fits _ _ some);
+            county = rw (c .keeps .county) (f .county);
           }
 
   check-copies : (i q : ℕ) → Within (usedOf t) i → Within (filesOf t) q → CopyFacts (fileLengthOf t) (copyBytes (checkTable t a y room) q i)
@@ -314,7 +305,7 @@ module _ (t : List ℕ) (a : Checking) (y : CheckYes t a) (room : highestEpoch (
 
   -- rows that answered have the new epoch and list, the others keep theirs
   pub check-membership : (i : ℕ) → Within (usedOf t) i
-      → (epochOf (checkTable t a y room) i ≡ cond (has (a .r) i) (highestEpoch (answers t 1 (a .r)) (has (a .r)) + 1) (epochOf t i)) × (listOf (checkTable t a y room) i ≡ cond (has (a .r) i) (laidNow (isTall (inForce (answers t 1 (a .r)) (has (a .r)))) (a .r)) (listOf t i))
+      → (epochOf (checkTable t a y room) i ≡ cond (has (a .r) i) (highestEpoch (answers t 1 (a .r)) (has (a .r)) + 1) (epochOf t i)) × (listOf (checkTable t a y room) i ≡ cond (has (a .r) i) (laidNow (isTall (inForce (answers t 1 (a .r)) (has (a .r)))) (countyOf t) (a .r)) (listOf t i))
   unfolding epochOf listOf checkList
   check-membership i u = go (has (a .r) i) refl
     where
@@ -322,19 +313,28 @@ module _ (t : List ℕ) (a : Checking) (y : CheckYes t a) (room : highestEpoch (
       new = rowBytes (checkTable t a y room) i
 
       go : (x : Bool) → has (a .r) i ≡ x
-          → (get epoch new ≡ cond x (highestEpoch (answers t 1 (a .r)) (has (a .r)) + 1) (get epoch (rowBytes t i))) × (list new ≡ cond x (laidNow (isTall (inForce (answers t 1 (a .r)) (has (a .r)))) (a .r)) (list (rowBytes t i)))
+          → (get epoch new ≡ cond x (highestEpoch (answers t 1 (a .r)) (has (a .r)) + 1) (get epoch (rowBytes t i))) × (list new ≡ cond x (laidNow (isTall (inForce (answers t 1 (a .r)) (has (a .r)))) (countyOf t) (a .r)) (list (rowBytes t i)))
       go false m = let e = check-leaves t a y room .out i u m in (ap (get epoch) e, ap list e)
       go true m = let c = check-row t a y room i u m in (c .epoch, c .list)
 
-  -- the new list has V's shape
+  -- the new list has the mark of a list laid now
+  check-marks : (i : ℕ) → Within (usedOf t) i → markRight (countyOf t) (listOf (checkTable t a y room) i) ≡ true
+  unfolding LaidMarks
+  check-marks i u = rw (check-membership i u .1) (go (has (a .r) i))
+    where
+      go : (x : Bool) → markRight (countyOf t) (cond x (laidNow (isTall (inForce (answers t 1 (a .r)) (has (a .r)))) (countyOf t) (a .r)) (listOf t i)) ≡ true
+      go true = laid-marks (isTall (inForce (answers t 1 (a .r)) (has (a .r)))) (countyOf t) (a .r) .right some
+      go false = chw .marks i u
+
+  -- and V's shape
   check-shape : OneShape (checkTable t a y room) (usedOf t)
   check-shape i j u v e g = shape i u e ∙ sym (shape j v g)
     where
       laid : Laid
-      laid = laidNow (isTall (inForce (answers t 1 (a .r)) (has (a .r)))) (a .r)
+      laid = laidNow (isTall (inForce (answers t 1 (a .r)) (has (a .r)))) (countyOf t) (a .r)
 
       go : (i : ℕ) → Within (usedOf t) i → (x : Bool) → isEmpty (cond x laid (listOf t i)) ≡ false → isTall (cond x laid (listOf t i)) ≡ isTall (inForce (answers t 1 (a .r)) (has (a .r)))
-      go i u true e = laid-shape (isTall (inForce (answers t 1 (a .r)) (has (a .r)))) (a .r)
+      go i u true e = laid-shape (isTall (inForce (answers t 1 (a .r)) (has (a .r)))) (countyOf t) (a .r)
       go i u false e = force-shape i u e
 
       shape : (i : ℕ) → Within (usedOf t) i → isEmpty (listOf (checkTable t a y room) i) ≡ false → isTall (listOf (checkTable t a y room) i) ≡ isTall (inForce (answers t 1 (a .r)) (has (a .r)))
@@ -345,12 +345,12 @@ module _ (t : List ℕ) (a : Checking) (y : CheckYes t a) (room : highestEpoch (
   check-formed new = keep-formed chw (check-leaves t a y room) check-heads check-copies (λ i j u v f g e.
       let x = check-membership i u in
       let b = check-membership j v in
-      x .1 ∙ go i j u v (has (a .r) i) refl (has (a .r) j) refl (rw (x .1) at f) (rw (b .1) at g) (sym (x .0) ∙ e ∙ b .0) ∙ sym (b .1)) check-shape
+      x .1 ∙ go i j u v (has (a .r) i) refl (has (a .r) j) refl (rw (x .1) at f) (rw (b .1) at g) (sym (x .0) ∙ e ∙ b .0) ∙ sym (b .1)) check-marks check-shape
     where
       go : (i j : ℕ) → Within (usedOf t) i → Within (usedOf t) j → (x : Bool) → has (a .r) i ≡ x → (y : Bool) → has (a .r) j ≡ y
-          → isEmpty (cond x (laidNow (isTall (inForce (answers t 1 (a .r)) (has (a .r)))) (a .r)) (listOf t i)) ≡ false → isEmpty (cond y (laidNow (isTall (inForce (answers t 1 (a .r)) (has (a .r)))) (a .r)) (listOf t j)) ≡ false
+          → isEmpty (cond x (laidNow (isTall (inForce (answers t 1 (a .r)) (has (a .r)))) (countyOf t) (a .r)) (listOf t i)) ≡ false → isEmpty (cond y (laidNow (isTall (inForce (answers t 1 (a .r)) (has (a .r)))) (countyOf t) (a .r)) (listOf t j)) ≡ false
           → cond x (highestEpoch (answers t 1 (a .r)) (has (a .r)) + 1) (epochOf t i) ≡ cond y (highestEpoch (answers t 1 (a .r)) (has (a .r)) + 1) (epochOf t j)
-          → cond x (laidNow (isTall (inForce (answers t 1 (a .r)) (has (a .r)))) (a .r)) (listOf t i) ≡ cond y (laidNow (isTall (inForce (answers t 1 (a .r)) (has (a .r)))) (a .r)) (listOf t j)
+          → cond x (laidNow (isTall (inForce (answers t 1 (a .r)) (has (a .r)))) (countyOf t) (a .r)) (listOf t i) ≡ cond y (laidNow (isTall (inForce (answers t 1 (a .r)) (has (a .r)))) (countyOf t) (a .r)) (listOf t j)
       go i j u v true ex true ey f g e = refl
       go i j u v true ex false ey f g e = absurd (new j v ey (sym e))
       go i j u v false ex true ey f g e = absurd (new i u ex e)

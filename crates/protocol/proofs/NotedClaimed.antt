@@ -14,14 +14,15 @@ use Rattle.sets.specs.Sets.{has}
 use Rattle.quorums.specs.declared.Kind.{Kind}
 use Rattle.quorums.specs.declared.Kind.the-variants.{Read, Write}
 use Rattle.fields.specs.Layout.{usedOf, nameOf}
-use Rattle.table.specs.Chain.{orderOf}
+use Rattle.table.specs.Chain.{frameOf}
 use Rattle.table.specs.WellFormed.{limit}
 use Rattle.asking.specs.Asking.{Question, firstNo, before}
-use Rattle.asking.proofs.AskingLaws.{yes-first}
+use Rattle.asking.proofs.AskingLaws.{yes-first, no-first}
+use Rattle.sheet.specs.Sheet.{assuredOf, ceilingOf, countOf, remainder, allBeyond, sheetRight, isClub, byClub}
 use Rattle.protocol.specs.Polls.{goodVersion, current, quorumHeld, ownTry, stays, workedOn}
-use Rattle.protocol.specs.Calls.{Reading, Writing, Call, founding, join, read, write, send, check, carry, inFile, inGroup, questions, answers, workSet, calledBy, noted, fromSix, calledAfter, outcome}
+use Rattle.protocol.specs.Calls.{Reading, Writing, Call, founding, join, read, write, send, check, carry, inFile, inGroup, byCoordinator, questions, answers, workSet, calledBy, noted, fromSix, calledAfter, outcome}
 use Rattle.protocol.specs.Claims.{numbersPut, PutInOrder, Counting, ofRead, ofWrite, RefusedNote, OtherLengthsStay, OthersNoteNone}
-use Rattle.protocol.proofs.QuestionLaws.{refusal-is, called-is, early-passed}
+use Rattle.protocol.proofs.QuestionLaws.{refusal-is, called-is, early-passed, afterThree}
 use Rattle.protocol.proofs.Claimed.{put-in-order}
 
 -- ---- questions by their numbers
@@ -75,12 +76,25 @@ unfolding pass among
 pass-at p [] x h m = absurd (clash m)
 pass-at p (n ∷ ms) x h m = ⊎-elim (λ k. pass-at p ms x (and-r (p n) _ h) k) (λ k. ap p (sym (eqb-true n x k)) ∙ and-l _ _ h) (or-e (among ms x) (eqb n x) m)
 
--- of a read and of a write, 1 to 5 and 16 are asked before 6, and from 6 on no more than 8
+-- of a read and of a write, 1 to 5 and 16 are asked before 6, and from 6 on no more than 8, 18 and 19
 early : ℕ → Bool
 early x = ltb x 6 || eqb x 16
 
 late : ℕ → Bool
-late x = ltb 5 x && ltb x 9
+late x = (ltb 5 x && ltb x 9) || (eqb x 18 || eqb x 19)
+
+-- none is both
+late-is : (x : ℕ) → late x ≡ true → (6 ≤ x) × (x ≡ 16 → ⊥)
+unfolding late
+late-is x e = go (or-e (ltb 5 x && ltb x 9) _ e)
+  where
+    own : (eqb x 18 ≡ true) ⊎ (eqb x 19 ≡ true) → (6 ≤ x) × (x ≡ 16 → ⊥)
+    own (inl h) = (omega (arith, eqb-true x 18 h), λ z. omega (arith, eqb-true x 18 h))
+    own (inr h) = (omega (arith, eqb-true x 19 h), λ z. omega (arith, eqb-true x 19 h))
+
+    go : ((ltb 5 x && ltb x 9) ≡ true) ⊎ ((eqb x 18 || eqb x 19) ≡ true) → (6 ≤ x) × (x ≡ 16 → ⊥)
+    go (inl h) = (omega (arith, ltb-true 5 x (and-l _ _ h)), λ z. omega (arith, ltb-true x 9 (and-r (ltb 5 x) _ h)))
+    go (inr h) = own (or-e (eqb x 18) _ h)
 
 in-order : (k : Call) (kind : Kind) (q c r : ℕ) (bytes : List ℕ) → Counting k kind q c r bytes → (pass early (until 6 (numbersPut k)) ≡ true) × (pass late (onward 6 (numbersPut k)) ≡ true)
 unfolding numbersPut pass early late until onward
@@ -111,13 +125,16 @@ module _ (t : List ℕ) (k : Call) (kind : Kind) (q c r : ℕ) (bytes : List ℕ
       go (inl s) = inl (s .0, ⊎-elim inl (λ m. inr (pass-at late (onward 6 (numbersPut k)) n (in-order k kind q c r bytes x .1) (rw (put-in-order t k) at m))) (s .1))
       go (inr s) = inr (s .0, pass-at early (until 6 (numbersPut k)) n (in-order k kind q c r bytes x .0) (rw (put-in-order t k) at (s .1)))
 
-  from-six : Within 8 (outcome t k .refusal) → 6 ≤ outcome t k .refusal → firstNo (before 6 (questions t k)) ≡ 0
+  from-six : late (outcome t k .refusal) ≡ true → firstNo (before 6 (questions t k)) ≡ 0
   unfolding early
-  from-six h l = ⊎-elim (λ s. s .0) (λ s. absurd (not-early (or-e (ltb (outcome t k .refusal) 6) _ (s .1)))) by-number
+  from-six l = ⊎-elim (λ s. s .0) (λ s. absurd (not-early (or-e (ltb (outcome t k .refusal) 6) _ (s .1)))) by-number
     where
+      is : (6 ≤ outcome t k .refusal) × (outcome t k .refusal ≡ 16 → ⊥)
+      is = late-is (outcome t k .refusal) l
+
       not-early : (ltb (outcome t k .refusal) 6 ≡ true) ⊎ (eqb (outcome t k .refusal) 16 ≡ true) → ⊥
-      not-early (inl e) = omega (arith, ltb-true (outcome t k .refusal) 6 e)
-      not-early (inr e) = omega (arith, eqb-true (outcome t k .refusal) 16 e)
+      not-early (inl e) = omega (arith, is .0, ltb-true (outcome t k .refusal) 6 e)
+      not-early (inr e) = is .1 (eqb-true (outcome t k .refusal) 16 e)
 
   module _ (one : length bytes ≡ 1) where
     -- refused before 6
@@ -127,16 +144,16 @@ module _ (t : List ℕ) (k : Call) (kind : Kind) (q c r : ℕ) (bytes : List ℕ
         let e : firstNo (before 6 (questions t k)) ≡ outcome t k .refusal = ⊎-elim (λ s. absurd (⊎-elim (λ z. omega arith) d (s .1))) (λ s. s .0) by-number in
         notes t k kind q c r bytes x ∙ one-noted bytes _ one ∙ rw (ne-eqb (firstNo (before 6 (questions t k))) 0 (λ z. omega arith))
 
-    note-late : Within 8 (outcome t k .refusal) → 6 ≤ outcome t k .refusal → outcome t k .called ≡ calledBy kind t q c r ∷ []
+    note-late : late (outcome t k .refusal) ≡ true → outcome t k .called ≡ calledBy kind t q c r ∷ []
     unfolding fromSix
-    note-late h l = notes t k kind q c r bytes x ∙ one-noted bytes _ one ∙ rw (eq-eqb (firstNo (before 6 (questions t k))) 0 (from-six h l))
+    note-late l = notes t k kind q c r bytes x ∙ one-noted bytes _ one ∙ rw (eq-eqb (firstNo (before 6 (questions t k))) 0 (from-six l))
 
 -- ---- a call refused by 6 or 7 went on to R
 -- where it stays with P, both are yes
-stays-yes : (kind : Kind) (t : List ℕ) (q c r : ℕ) → stays kind (orderOf t) (answers t q r) c (nameOf t c) (has r) ≡ true
-    → (quorumHeld kind (orderOf t) (answers t q r) (workSet kind t q c r) ≡ true) × (current (answers t q r) (workSet kind t q c r) ≡ true)
+stays-yes : (kind : Kind) (t : List ℕ) (q c r : ℕ) → stays kind (frameOf t) (answers t q r) c (nameOf t c) (has r) ≡ true
+    → (quorumHeld kind (frameOf t) (answers t q r) (workSet kind t q c r) ≡ true) × (current (answers t q r) (workSet kind t q c r) ≡ true)
 unfolding workSet workedOn stays
-stays-yes kind t q c r e = rw e (and-l _ _ e, and-r (quorumHeld kind (orderOf t) (answers t q r) (ownTry kind (orderOf t) (answers t q r) c (nameOf t c) (has r))) _ e)
+stays-yes kind t q c r e = rw e (and-l _ _ e, and-r (quorumHeld kind (frameOf t) (answers t q r) (ownTry kind (frameOf t) (answers t q r) c (nameOf t c) (has r))) _ e)
 
 -- questions 4 and 5 of a read, and of a write
 abbrev readRange : List ℕ → Reading → Question
@@ -153,8 +170,8 @@ writeLent a = record { ask = 5; yes = eqb (length (a .called)) 1 }
 
 -- and then it is refused by neither
 stays-passes : (t : List ℕ) (k : Call) (kind : Kind) (q c r : ℕ) (bytes : List ℕ) → Counting k kind q c r bytes → firstNo (before 6 (questions t k)) ≡ 0
-    → stays kind (orderOf t) (answers t q r) c (nameOf t c) (has r) ≡ true → (outcome t k .refusal ≡ 0) ⊎ (outcome t k .refusal ≡ 8)
-unfolding questions before firstNo
+    → stays kind (frameOf t) (answers t q r) c (nameOf t c) (has r) ≡ true → (outcome t k .refusal ≡ 0) ⊎ (8 ≤ outcome t k .refusal)
+unfolding questions before firstNo byClub
 stays-passes t k kind q c r bytes (ofRead {a}) h e =
     let y = stays-yes Read t (a .file) (a .c) (a .r) e in
     let x = early-passed t (a .c) (a .r) _ 6 (omega arith) h in
@@ -164,23 +181,28 @@ stays-passes t k kind q c r bytes (ofRead {a}) h e =
     inl (refusal-is t (read a) ∙ x .2 ∙ rw (g .0, d .0, f .0, y .0, y .1))
 stays-passes t k kind q c r bytes (ofWrite {a}) h e =
     let y = stays-yes Write t (a .file) (a .c) (a .r) e in
-    let x = early-passed t (a .c) (a .r) _ 6 (omega arith) h in
+    let z = yes-first 0 (sheetRight (a .sheet)) (before 6 (byCoordinator t (a .c) (a .r) (afterThree t a))) h in
+    let x = early-passed t (a .c) (a .r) (afterThree t a) 6 (omega arith) (z .1) in
     let g = yes-first 15 (inGroup t (a .file)) (writeRange t a ∷ writeLent a ∷ []) (x .1) in
     let d = yes-first 3 (writeRange t a .yes) (writeLent a ∷ []) (g .1) in
     let f = yes-first 4 (writeLent a .yes) [] (d .1) in
-    go (ltb (goodVersion (answers t (a .file) (a .r)) (workSet Write t (a .file) (a .c) (a .r))) limit) (refusal-is t (write a) ∙ x .2 ∙ rw (g .0, d .0, f .0, y .0, y .1))
+    go (isClub (a .club) && ltb (countOf (a .sheet) (a .club)) (ceilingOf (a .sheet) (a .club))) (ltb (countOf (a .sheet) (a .club)) (assuredOf (a .sheet) (a .club)) || ltb (allBeyond (a .sheet)) (remainder (a .sheet)))
+    (ltb (goodVersion (answers t (a .file) (a .r)) (workSet Write t (a .file) (a .c) (a .r))) limit)
+    (refusal-is t (write a) ∙ no-first 1 (sheetRight (a .sheet)) (byCoordinator t (a .c) (a .r) (afterThree t a)) (z .0) ∙ x .2 ∙ rw (g .0, d .0, f .0, y .0, y .1))
   where
-    go : (b : Bool) → outcome t (write a) .refusal ≡ cond b 0 8 → (outcome t (write a) .refusal ≡ 0) ⊎ (outcome t (write a) .refusal ≡ 8)
-    go true q = inl q
-    go false q = inr q
+    go : (m n b : Bool) → outcome t (write a) .refusal ≡ cond m (cond n (cond b 0 8) 19) 18 → (outcome t (write a) .refusal ≡ 0) ⊎ (8 ≤ outcome t (write a) .refusal)
+    go true true true e = inl e
+    go true true false e = inr (omega arith)
+    go true false b e = inr (omega arith)
+    go false n b e = inr (omega arith)
 
 module _ (t : List ℕ) (k : Call) (kind : Kind) (q c r : ℕ) (bytes : List ℕ) (x : Counting k kind q c r bytes) where
-  calls-all : 6 ≤ outcome t k .refusal → outcome t k .refusal ≤ 7 → calledBy kind t q c r ≡ usedOf t
+  calls-all : late (outcome t k .refusal) ≡ true → 6 ≤ outcome t k .refusal → outcome t k .refusal ≤ 7 → calledBy kind t q c r ≡ usedOf t
   unfolding calledBy
-  calls-all h g = rw (went-on (stays kind (orderOf t) (answers t q r) c (nameOf t c) (has r)) refl)
+  calls-all l h g = rw (went-on (stays kind (frameOf t) (answers t q r) c (nameOf t c) (has r)) refl)
     where
-      went-on : (b : Bool) → stays kind (orderOf t) (answers t q r) c (nameOf t c) (has r) ≡ b → stays kind (orderOf t) (answers t q r) c (nameOf t c) (has r) ≡ false
-      went-on true e = ⊎-elim (λ z. absurd (omega arith)) (λ z. absurd (omega arith)) (stays-passes t k kind q c r bytes x (from-six t k kind q c r bytes x (omega arith) h) e)
+      went-on : (b : Bool) → stays kind (frameOf t) (answers t q r) c (nameOf t c) (has r) ≡ b → stays kind (frameOf t) (answers t q r) c (nameOf t c) (has r) ≡ false
+      went-on true e = ⊎-elim (λ z. absurd (omega arith)) (λ z. absurd (omega arith)) (stays-passes t k kind q c r bytes x (from-six t k kind q c r bytes x l) e)
       went-on false e = e
 
 pub refused-note : RefusedNote
@@ -188,11 +210,13 @@ unfolding RefusedNote late
 refused-note t k kind q c r bytes x one =
     let noted = note-late t k kind q c r bytes x one in
     record {
-      early = λ h. note-early t k kind q c r bytes x one (h .0) (λ e. omega (arith, ltb-true 5 (outcome t k .refusal) (and-l _ _ e)));
-      no-file = λ h. note-early t k kind q c r bytes x one (omega arith) (λ e. omega (arith, ltb-true (outcome t k .refusal) 9 (and-r (ltb 5 (outcome t k .refusal)) _ e)));
-      six = λ e. noted (omega arith) (omega arith) ∙ ap (λ (n : ℕ). n ∷ []) (calls-all t k kind q c r bytes x (omega arith) (omega arith));
-      seven = λ e. noted (omega arith) (omega arith) ∙ ap (λ (n : ℕ). n ∷ []) (calls-all t k kind q c r bytes x (omega arith) (omega arith));
-      eight = λ e. noted (omega arith) (omega arith);
+      early = λ h. note-early t k kind q c r bytes x one (h .0) (λ e. omega (arith, h, late-is (outcome t k .refusal) e .0));
+      no-file = λ h. note-early t k kind q c r bytes x one (omega arith) (λ e. late-is (outcome t k .refusal) e .1 h);
+      six = λ e. noted (ap late e) ∙ ap (λ (n : ℕ). n ∷ []) (calls-all t k kind q c r bytes x (ap late e) (omega arith) (omega arith));
+      seven = λ e. noted (ap late e) ∙ ap (λ (n : ℕ). n ∷ []) (calls-all t k kind q c r bytes x (ap late e) (omega arith) (omega arith));
+      eighteen = λ e. noted (ap late e);
+      nineteen = λ e. noted (ap late e);
+      eight = λ e. noted (ap late e);
     }
 
 -- ---- a list of another length
@@ -204,10 +228,11 @@ five-no t k kind q c r bytes (ofRead {a}) other h =
     let d = yes-first 3 (readRange t a .yes) [] (g .1) in
     refusal-is t (read a) ∙ x .2 ∙ rw (g .0, d .0, ne-eqb (length (a .called)) 1 other, and-false (eqb (length (a .buffer)) (a .count)))
 five-no t k kind q c r bytes (ofWrite {a}) other h =
-    let x = early-passed t (a .c) (a .r) _ 5 (omega arith) h in
+    let z = yes-first 0 (sheetRight (a .sheet)) (before 5 (byCoordinator t (a .c) (a .r) (afterThree t a))) h in
+    let x = early-passed t (a .c) (a .r) (afterThree t a) 5 (omega arith) (z .1) in
     let g = yes-first 15 (inGroup t (a .file)) (writeRange t a ∷ []) (x .1) in
     let d = yes-first 3 (writeRange t a .yes) [] (g .1) in
-    refusal-is t (write a) ∙ x .2 ∙ rw (g .0, d .0, ne-eqb (length (a .called)) 1 other)
+    refusal-is t (write a) ∙ no-first 1 (sheetRight (a .sheet)) (byCoordinator t (a .c) (a .r) (afterThree t a)) (z .0) ∙ x .2 ∙ rw (g .0, d .0, ne-eqb (length (a .called)) 1 other)
 
 pub other-lengths-stay : OtherLengthsStay
 unfolding OtherLengthsStay noted

@@ -15,9 +15,10 @@ use Rattle.sets.proofs.SetLaws.{empty-at}
 use Rattle.quorums.specs.declared.Kind.{Kind}
 use Rattle.quorums.specs.declared.Kind.the-variants.{Read, Write}
 use Rattle.bytes.specs.Bytes.{part}
-use Rattle.fields.specs.Layout.{get, name, link, epoch, mark, version, desired, noList, contents, usedOf, nameOf, linkOf, epochOf, listOf, staleOf, versionOf, desiredOf, contentsOf, rowBytes, rowLength, rowsEnd, copyIn, copyBytes}
+use Rattle.fields.specs.Layout.{get, name, link, county, epoch, mark, version, desired, noList, contents, usedOf, nameOf, linkOf, epochOf, listOf, staleOf, versionOf, desiredOf, contentsOf, rowBytes, rowLength, rowsEnd, copyIn, copyBytes}
 use Rattle.blocks.specs.Blocks.{block}
 use Rattle.table.proofs.FormLaws.{Formed, well-formed-of}
+use Rattle.table.proofs.CountyLaws.{county-at}
 use Rattle.fields.proofs.FieldLaws.{head-get, head-list}
 use Rattle.asking.specs.Asking.{firstNo}
 use Rattle.protocol.specs.Polls.{polled}
@@ -27,7 +28,7 @@ use Rattle.protocol.specs.Claims.{OfFile, readsFile, writesFile, sendsFi
 use Rattle.protocol.proofs.QuestionLaws.{refusal-is, called-is, when-done, when-refused, write-yes, send-yes}
 use Rattle.protocol.proofs.CopyLaws.{SameHead, OnlyCopies, out-copy}
 use Rattle.protocol.proofs.DoneLaws.{writing, writeTable, write-only, sending, sendTable, send-only}
-use Rattle.protocol.proofs.Unanswered.{first-part, used-same, file-same, files-same, order-same, widths, rest, drop-more}
+use Rattle.protocol.proofs.Unanswered.{first-part, used-same, file-same, files-same, used-by, framed-same, widths, rest, drop-more}
 
 -- ---- other files stay
 none : (q : ℕ) (t : List ℕ) → OtherFiles q t t
@@ -68,15 +69,16 @@ module _ {q : ℕ} {t u : List ℕ} (E : EqualInFile q t u) where
   heads : (i : ℕ) → Within (usedOf t) i → SameHead (rowBytes u i) (rowBytes t i)
   heads i w b m h = sym (first-part 32 b m (rowBytes t i) h) ∙ ap (part b m) (E .heads i w) ∙ first-part 32 b m (rowBytes u i) h
 
-  -- names, links and header alone
+  -- names, links, counties and header alone
   frame : EqualIn 0 t u
-  unfolding nameOf linkOf name link
+  unfolding nameOf linkOf name link county
   frame = record {
     formed = E .formed;
     formed-too = E .formed-too;
     header = E .header;
     names = λ i w. head-get (rowBytes u i) (rowBytes t i) (heads i w) name (omega arith);
     links = λ i w. head-get (rowBytes u i) (rowBytes t i) (heads i w) link (omega arith);
+    counties = λ i w. county-at t i w ∙ head-get (rowBytes u i) (rowBytes t i) (heads i w) county (omega arith) ∙ sym (county-at u i (rw (used-by t u (E .header)) w));
     rows = λ i m. absurd (clash (sym (empty-at i) ∙ m));
   }
 
@@ -150,18 +152,18 @@ module _ {q : ℕ} {t u : List ℕ} (E : EqualInFile q t u) where
 
   work-same : (kind : Kind) (c r : ℕ) → workSet kind u q c r ≡ workSet kind t q c r
   unfolding workSet
-  work-same kind c r = rw (order-same frame, poll-same r, name-same)
+  work-same kind c r = rw (framed-same frame, poll-same r, name-same)
 
   called-by-same : (kind : Kind) (c r : ℕ) → calledBy kind u q c r ≡ calledBy kind t q c r
   unfolding calledBy
-  called-by-same kind c r = rw (order-same frame, poll-same r, name-same, used-same frame)
+  called-by-same kind c r = rw (framed-same frame, poll-same r, name-same, used-same frame)
 
 asks-same : (t u : List ℕ) (k : Call) (q : ℕ) → OfFile k q → EqualInFile q t u → questions u k ≡ questions t k
 unfolding questions byCoordinator isUsed inFile inGroup
 asks-same t u (read a) q readsFile E =
-    rw (E .formed, E .formed-too, used-same (frame E), files-same (frame E), file-same (frame E), work-same E Read (a .c) (a .r), poll-same E (a .r), order-same (frame E))
+    rw (E .formed, E .formed-too, used-same (frame E), files-same (frame E), file-same (frame E), work-same E Read (a .c) (a .r), poll-same E (a .r), framed-same (frame E))
 asks-same t u (write a) q writesFile E =
-    rw (E .formed, E .formed-too, used-same (frame E), files-same (frame E), file-same (frame E), work-same E Write (a .c) (a .r), poll-same E (a .r), order-same (frame E))
+    rw (E .formed, E .formed-too, used-same (frame E), files-same (frame E), file-same (frame E), work-same E Write (a .c) (a .r), poll-same E (a .r), framed-same (frame E))
 asks-same t u (send a) q sendsFile E =
     rw (E .formed, E .formed-too, used-same (frame E), files-same (frame E), says E .0, says E .1, says E .2)
 
@@ -190,6 +192,7 @@ done-same t u (read a) q readsFile E ht hu = record {
   value = rw (work-same E Read (a .c) (a .r), poll-same E (a .r));
   buffer = rw (work-same E Read (a .c) (a .r), poll-same E (a .r), says E .3);
   called = called-same t u (read a) q readsFile E;
+  sheet = refl;
   copies = λ i w. E .copies i w;
 }
 done-same t u (write a) q writesFile E ht hu = record {
@@ -197,6 +200,7 @@ done-same t u (write a) q writesFile E ht hu = record {
   value = rw (work-same E Write (a .c) (a .r), poll-same E (a .r));
   buffer = refl;
   called = called-same t u (write a) q writesFile E;
+  sheet = refl;
   copies = changed-same E (write-only t a (write-yes t a ht)) alike;
 }
   where
@@ -207,6 +211,7 @@ done-same t u (send a) q sendsFile E ht hu = record {
   value = rw (says E .1);
   buffer = refl;
   called = called-same t u (send a) q sendsFile E;
+  sheet = refl;
   copies = changed-same E (send-only t a (send-yes t a ht)) alike;
 }
   where
@@ -230,5 +235,6 @@ other-files-have-no-part t u k q n E = go (outcome t k .refusal) refl
           value = a .0 ∙ sym (b .0);
           buffer = a .2 ∙ sym (b .2);
           called = called-is t k ∙ called-same t u k q n E ∙ sym (called-is u k);
+          sheet = a .3 ∙ sym (b .3);
           copies = λ i w. ap (λ (x : List ℕ). copyBytes x q i) (a .1) ∙ E .copies i w ∙ sym (ap (λ (x : List ℕ). copyBytes x q i) (b .1));
         }

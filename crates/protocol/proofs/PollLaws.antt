@@ -1,7 +1,6 @@
 -- What a poll says of a set of rows, row by row; and that it says nothing of rows outside the set.
 use mathlib.Core.Path.{_≡_, refl, sym, _∙_, ap, ap₂, fun-ext}
 use mathlib.Core.Bool.{Bool, true, false, not, cond, _&&_}
-use mathlib.Core.List.{List}
 use Prim.Native.Nat.{ℕ, _≤_}
 use native.Mathlib.Omega.{arith}
 use lib.Dec.{ltb, eqb}
@@ -13,7 +12,7 @@ use Rattle.sets.proofs.UptoLaws.{some-at, some-of, some-none, some-ext, most-le
 use Rattle.quorums.specs.declared.Kind.{Kind}
 use Rattle.fields.specs.declared.Laid.{Laid}
 use Rattle.fields.specs.Layout.{isEmpty}
-use Rattle.protocol.specs.Lists.{listQuorum, listChoice}
+use Rattle.counties.specs.Counties.{Frame, listQuorum, listChoice}
 use Rattle.protocol.specs.Polls.{Poll, listed, highestEpoch, inForce, unmarked, marked, goodVersion, good, current, quorumHeld, ownTry, stays, workedOn}
 
 -- the row whose list is in force
@@ -188,11 +187,11 @@ module _ (p q : Poll) (s : ℕ → Bool) (g : Agree p q s) where
       go i true e = rw (e, g .stale i e, g .desired i e, version-same)
       go i false e = rw e
 
-  pub quorum-same : (kind : Kind) (order : List ℕ) → quorumHeld kind order p s ≡ quorumHeld kind order q s
+  pub quorum-same : (kind : Kind) (f : Frame) → quorumHeld kind f p s ≡ quorumHeld kind f q s
   unfolding quorumHeld
-  quorum-same kind order = rw (← listed-same) (go (some 64 (listed p s)) refl)
+  quorum-same kind f = rw (← listed-same) (go (some 64 (listed p s)) refl)
     where
-      go : (x : Bool) → some 64 (listed p s) ≡ x → (x && listQuorum kind order (inForce p s) s) ≡ (x && listQuorum kind order (inForce q s) s)
+      go : (x : Bool) → some 64 (listed p s) ≡ x → (x && listQuorum kind f (inForce p s) s) ≡ (x && listQuorum kind f (inForce q s) s)
       go true e = rw (list-same e)
       go false e = refl
 
@@ -211,35 +210,35 @@ agree-less p q s r sub g = record {
   list = λ i m. g .list i (sub i m);
 }
 
-module _ (kind : Kind) (order : List ℕ) (p q : Poll) (c a : ℕ) (r : ℕ → Bool) (answers : r c ≡ true) (g : Agree p q r) where
-  pub try-same : ownTry kind order p c a r ≡ ownTry kind order q c a r
+module _ (kind : Kind) (f : Frame) (p q : Poll) (c a : ℕ) (r : ℕ → Bool) (answers : r c ≡ true) (g : Agree p q r) where
+  pub try-same : ownTry kind f p c a r ≡ ownTry kind f q c a r
   unfolding ownTry
-  try-same = ap (λ (v : Laid). cutTo (listChoice kind order v a) r) (g .list c answers)
+  try-same = ap (λ (v : Laid). cutTo (listChoice kind f v a) r) (g .list c answers)
 
-  pub try-in : (i : ℕ) → ownTry kind order q c a r i ≡ true → r i ≡ true
+  pub try-in : (i : ℕ) → ownTry kind f q c a r i ≡ true → r i ≡ true
   unfolding ownTry
-  try-in i h = cut-in (listChoice kind order (q .list c) a) r i h
+  try-in i h = cut-in (listChoice kind f (q .list c) a) r i h
 
-  pub stays-same : stays kind order p c a r ≡ stays kind order q c a r
+  pub stays-same : stays kind f p c a r ≡ stays kind f q c a r
   unfolding stays
   stays-same =
-      let less = agree-less p q (ownTry kind order q c a r) r try-in g in
-      rw (try-same, quorum-same p q (ownTry kind order q c a r) less kind order, current-same p q (ownTry kind order q c a r) less)
+      let less = agree-less p q (ownTry kind f q c a r) r try-in g in
+      rw (try-same, quorum-same p q (ownTry kind f q c a r) less kind f, current-same p q (ownTry kind f q c a r) less)
 
-  pub worked-same : workedOn kind order p c a r ≡ workedOn kind order q c a r
+  pub worked-same : workedOn kind f p c a r ≡ workedOn kind f q c a r
   unfolding workedOn
   worked-same = ap₂ (λ (x : Bool) (y : ℕ → Bool). cond x y r) stays-same try-same
 
 -- the set worked on is within R
-pub worked-in : (kind : Kind) (order : List ℕ) (p : Poll) (c a : ℕ) (r : ℕ → Bool) (i : ℕ) → workedOn kind order p c a r i ≡ true → r i ≡ true
+pub worked-in : (kind : Kind) (f : Frame) (p : Poll) (c a : ℕ) (r : ℕ → Bool) (i : ℕ) → workedOn kind f p c a r i ≡ true → r i ≡ true
 unfolding workedOn ownTry
-worked-in kind order p c a r i = go (stays kind order p c a r)
+worked-in kind f p c a r i = go (stays kind f p c a r)
   where
     tried : ℕ → Bool
-    tried = cutTo (listChoice kind order (p .list c) a) r
+    tried = cutTo (listChoice kind f (p .list c) a) r
 
     go : (b : Bool) → cond b tried r i ≡ true → r i ≡ true
-    go true h = cut-in (listChoice kind order (p .list c) a) r i h
+    go true h = cut-in (listChoice kind f (p .list c) a) r i h
     go false h = h
 
 -- ---- good rows of any poll: the unmarked rows of S that no unmarked row of S is ahead of

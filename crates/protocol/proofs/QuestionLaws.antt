@@ -1,7 +1,7 @@
 -- The first no is the refusal: what a done call has passed, and what a refused one leaves.
 use mathlib.Core.Path.{_≡_, refl, sym, _∙_}
 use mathlib.Core.Bool.{Bool, true, false, not, cond, _&&_, _||_}
-use mathlib.Core.List.{List}
+use mathlib.Core.List.{List, [], _∷_}
 use Prim.Native.Nat.{ℕ, zero, suc, _+_, _^_, _≤_, _<_}
 use native.Mathlib.Omega.{arith}
 use lib.Dec.{eqb, leb, ltb, eqb·suc-zero}
@@ -14,11 +14,13 @@ use Rattle.sets.proofs.UptoLaws.{some-of}
 use Rattle.sets.proofs.SetLaws.{has-within}
 use Rattle.quorums.specs.declared.Kind.the-variants.{Read, Write}
 use Rattle.fields.specs.Layout.{formOf, capacityOf, usedOf, nameOf, fileLengthOf, filesOf, staleOf, versionOf, desiredOf}
-use Rattle.table.specs.Chain.{orderOf}
-use Rattle.table.specs.WellFormed.{between, limit, onlyRows, ownForm, wellFormed}
+use Rattle.table.specs.Chain.{frameOf}
+use Rattle.table.specs.WellFormed.{between, isCounty, limit, onlyRows, ownForm, wellFormed}
 use Rattle.table.proofs.FormLaws.{between-is}
 use Rattle.protocol.specs.Polls.{highestEpoch, inForce, goodVersion, current, quorumHeld}
 use Rattle.asking.specs.Asking.{Question, firstNo, before}
+use Rattle.sheet.specs.Sheet.{sheetRight, byClub}
+use Rattle.sheet.proofs.SheetLaws.{by-club}
 use Rattle.asking.proofs.AskingLaws.{yes-first, no-first, before-other}
 use Rattle.carrying.specs.Moves.{goesOver, allPlain, carriedLength}
 use Rattle.protocol.specs.Calls
@@ -67,15 +69,15 @@ module _ (t : List ℕ) (k : Calls.Call) where
       go true = done-called t k
       go false = refl
 
-  -- a refusal has value 0 and alters no byte of table or buffer
-  pub when-refused : (Calls.outcome t k .refusal ≡ 0 → ⊥) → (Calls.outcome t k .value ≡ 0) × (Calls.outcome t k .table ≡ t) × (Calls.outcome t k .buffer ≡ Calls.lent k)
+  -- a refusal has value 0 and alters no byte of table, buffer or sheet
+  pub when-refused : (Calls.outcome t k .refusal ≡ 0 → ⊥) → (Calls.outcome t k .value ≡ 0) × (Calls.outcome t k .table ≡ t) × (Calls.outcome t k .buffer ≡ Calls.lent k) × (Calls.outcome t k .sheet ≡ Calls.lentSheet k)
   unfolding Calls.outcome Calls.refused
   when-refused d = go (firstNo (Calls.questions t k)) refl
     where
       go : (n : ℕ) → firstNo (Calls.questions t k) ≡ n
-          → let o = cond (eqb n 0) (Calls.done t k) (Calls.refused t k n) in (o .value ≡ 0) × (o .table ≡ t) × (o .buffer ≡ Calls.lent k)
+          → let o = cond (eqb n 0) (Calls.done t k) (Calls.refused t k n) in (o .value ≡ 0) × (o .table ≡ t) × (o .buffer ≡ Calls.lent k) × (o .sheet ≡ Calls.lentSheet k)
       go zero e = absurd (d (refusal-is ∙ e))
-      go (suc n) e = rw (eqb·suc-zero n) (refl, refl, refl)
+      go (suc n) e = rw (eqb·suc-zero n) (refl, refl, refl, refl)
 
 -- ---- what a done call has passed
 pub record ByCoordinator (t : List ℕ) (c r : ℕ) : Type 0 where
@@ -130,6 +132,11 @@ pub record JoinYes (t : List ℕ) (a : Calls.Joining) : Type 0 where
   pub named : Within 65_535 (a .name)
   pub free : (i : ℕ) → Within (usedOf t) i → nameOf t i ≡ a .name → ⊥
   pub room : usedOf t < capacityOf t
+  pub placed : Within 8 (a .county)
+
+pub county-is : (y : ℕ) → isCounty y ≡ true → Within 8 y
+unfolding isCounty
+county-is y h = between-is 1 y 8 h
 
 pub join-yes : (t : List ℕ) (a : Calls.Joining) → firstNo (Calls.questions t (Calls.join a)) ≡ 0 → JoinYes t a
 unfolding Calls.questions
@@ -137,12 +144,14 @@ join-yes t a h =
     let x = yes-first 0 (wellFormed t) _ h in
     let b = yes-first 12 (between 1 (a .name) 65_535 && not (some (usedOf t) (λ i. eqb (nameOf t i) (a .name)))) _ (x .1) in
     let d = yes-first 13 (ltb (usedOf t) (capacityOf t)) _ (b .1) in
+    let p = yes-first 19 (isCounty (a .county)) _ (d .1) in
     let none : some (usedOf t) (λ i. eqb (nameOf t i) (a .name)) ≡ false = not-true _ (and-r (between 1 (a .name) 65_535) _ (b .0)) in
     record {
       formed = x .0;
       named = between-is 1 (a .name) 65_535 (and-l _ _ (b .0));
       free = λ i w q. clash (sym none ∙ some-of (usedOf t) _ i w (eq-eqb _ _ q));
       room = ltb-true _ _ (d .0);
+      placed = county-is (a .county) (p .0);
     }
 
 pub record ReadYes (t : List ℕ) (a : Calls.Reading) : Type 0 where
@@ -150,7 +159,7 @@ pub record ReadYes (t : List ℕ) (a : Calls.Reading) : Type 0 where
   pub group : Within (filesOf t) (a .file)
   pub range : (1 ≤ a .count) × (a .offset + a .count ≤ fileLengthOf t)
   pub byte : eqb (length (a .called)) 1 ≡ true
-  pub quorum : quorumHeld Read (orderOf t) (Calls.answers t (a .file) (a .r)) (Calls.workSet Read t (a .file) (a .c) (a .r)) ≡ true
+  pub quorum : quorumHeld Read (frameOf t) (Calls.answers t (a .file) (a .r)) (Calls.workSet Read t (a .file) (a .c) (a .r)) ≡ true
   pub current : current (Calls.answers t (a .file) (a .r)) (Calls.workSet Read t (a .file) (a .c) (a .r)) ≡ true
 
 pub group-is : (t : List ℕ) (q : ℕ) → Calls.inGroup t q ≡ true → Within (filesOf t) q
@@ -168,7 +177,7 @@ read-yes t a h =
     let k = yes-first 15 (Calls.inGroup t (a .file)) _ (x .1) in
     let d = yes-first 3 (Calls.inFile t (a .offset) (a .count)) _ (k .1) in
     let e = yes-first 4 (eqb (length (a .buffer)) (a .count) && eqb (length (a .called)) 1) _ (d .1) in
-    let q = yes-first 5 (quorumHeld Read (orderOf t) (Calls.answers t (a .file) (a .r)) (Calls.workSet Read t (a .file) (a .c) (a .r))) _ (e .1) in
+    let q = yes-first 5 (quorumHeld Read (frameOf t) (Calls.answers t (a .file) (a .r)) (Calls.workSet Read t (a .file) (a .c) (a .r))) _ (e .1) in
     let m = yes-first 6 (current (Calls.answers t (a .file) (a .r)) (Calls.workSet Read t (a .file) (a .c) (a .r))) _ (q .1) in
     record {
       first = x .0;
@@ -179,32 +188,50 @@ read-yes t a h =
       current = m .0;
     }
 
+-- the questions put to a write after 3
+abbrev pub afterThree : List ℕ → Calls.Writing → List Question
+afterThree t a =
+    let p = Calls.answers t (a .file) (a .r) in
+    let s = Calls.workSet Write t (a .file) (a .c) (a .r) in
+    record { ask = 16; yes = Calls.inGroup t (a .file) }
+    ∷ record { ask = 4; yes = Calls.inFile t (a .offset) (length (a .patch)) }
+    ∷ record { ask = 5; yes = eqb (length (a .called)) 1 }
+    ∷ record { ask = 6; yes = quorumHeld Write (frameOf t) p s }
+    ∷ record { ask = 7; yes = current p s }
+    ∷ byClub (a .sheet) (a .club) (record { ask = 8; yes = ltb (goodVersion p s) limit } ∷ [])
+
 pub record WriteYes (t : List ℕ) (a : Calls.Writing) : Type 0 where
+  pub sheet : sheetRight (a .sheet) ≡ true
   pub first : ByCoordinator t (a .c) (a .r)
   pub group : Within (filesOf t) (a .file)
   pub range : (1 ≤ length (a .patch)) × (a .offset + length (a .patch) ≤ fileLengthOf t)
   pub byte : eqb (length (a .called)) 1 ≡ true
-  pub quorum : quorumHeld Write (orderOf t) (Calls.answers t (a .file) (a .r)) (Calls.workSet Write t (a .file) (a .c) (a .r)) ≡ true
+  pub quorum : quorumHeld Write (frameOf t) (Calls.answers t (a .file) (a .r)) (Calls.workSet Write t (a .file) (a .c) (a .r)) ≡ true
   pub current : current (Calls.answers t (a .file) (a .r)) (Calls.workSet Write t (a .file) (a .c) (a .r)) ≡ true
+  pub club : firstNo (byClub (a .sheet) (a .club) []) ≡ 0
   pub room : goodVersion (Calls.answers t (a .file) (a .r)) (Calls.workSet Write t (a .file) (a .c) (a .r)) < limit
 
 pub write-yes : (t : List ℕ) (a : Calls.Writing) → firstNo (Calls.questions t (Calls.write a)) ≡ 0 → WriteYes t a
 unfolding Calls.questions
 write-yes t a h =
-    let x = passed-first t (a .c) (a .r) _ h in
+    let z = yes-first 0 (sheetRight (a .sheet)) _ h in
+    let x = passed-first t (a .c) (a .r) _ (z .1) in
     let k = yes-first 15 (Calls.inGroup t (a .file)) _ (x .1) in
     let d = yes-first 3 (Calls.inFile t (a .offset) (length (a .patch))) _ (k .1) in
     let e = yes-first 4 (eqb (length (a .called)) 1) _ (d .1) in
-    let q = yes-first 5 (quorumHeld Write (orderOf t) (Calls.answers t (a .file) (a .r)) (Calls.workSet Write t (a .file) (a .c) (a .r))) _ (e .1) in
+    let q = yes-first 5 (quorumHeld Write (frameOf t) (Calls.answers t (a .file) (a .r)) (Calls.workSet Write t (a .file) (a .c) (a .r))) _ (e .1) in
     let m = yes-first 6 (current (Calls.answers t (a .file) (a .r)) (Calls.workSet Write t (a .file) (a .c) (a .r))) _ (q .1) in
-    let l = yes-first 7 (ltb (goodVersion (Calls.answers t (a .file) (a .r)) (Calls.workSet Write t (a .file) (a .c) (a .r))) limit) _ (m .1) in
+    let n = by-club (a .sheet) (a .club) _ (m .1) in
+    let l = yes-first 7 (ltb (goodVersion (Calls.answers t (a .file) (a .r)) (Calls.workSet Write t (a .file) (a .c) (a .r))) limit) _ (n .1) in
     record {
+      sheet = z .0;
       first = x .0;
       group = group-is t (a .file) (k .0);
       range = range-is t (a .offset) (length (a .patch)) (d .0);
       byte = e .0;
       quorum = q .0;
       current = m .0;
+      club = n .0;
       room = ltb-true _ _ (l .0);
     }
 
@@ -247,19 +274,21 @@ send-yes t a h =
     }
 
 pub record CheckYes (t : List ℕ) (a : Calls.Checking) : Type 0 where
+  pub sheet : sheetRight (a .sheet) ≡ true
   pub first : ByCoordinator t (a .c) (a .r)
-  pub quorum : quorumHeld Write (orderOf t) (Calls.answers t 1 (a .r)) (has (a .r)) ≡ true
+  pub quorum : quorumHeld Write (frameOf t) (Calls.answers t 1 (a .r)) (has (a .r)) ≡ true
   pub current : (eqb (a .r) (inForce (Calls.answers t 1 (a .r)) (has (a .r)) .members) || every (filesOf t) (λ q. current (Calls.answers t q (a .r)) (has (a .r)))) ≡ true
   pub room : (eqb (a .r) (inForce (Calls.answers t 1 (a .r)) (has (a .r)) .members) || ltb (highestEpoch (Calls.answers t 1 (a .r)) (has (a .r))) limit) ≡ true
 
 pub check-yes : (t : List ℕ) (a : Calls.Checking) → firstNo (Calls.questions t (Calls.check a)) ≡ 0 → CheckYes t a
 unfolding Calls.questions
 check-yes t a h =
-    let x = passed-first t (a .c) (a .r) _ h in
-    let q = yes-first 5 (quorumHeld Write (orderOf t) (Calls.answers t 1 (a .r)) (has (a .r))) _ (x .1) in
+    let z = yes-first 0 (sheetRight (a .sheet)) _ h in
+    let x = passed-first t (a .c) (a .r) _ (z .1) in
+    let q = yes-first 5 (quorumHeld Write (frameOf t) (Calls.answers t 1 (a .r)) (has (a .r))) _ (x .1) in
     let m = yes-first 6 (eqb (a .r) (inForce (Calls.answers t 1 (a .r)) (has (a .r)) .members) || every (filesOf t) (λ q. current (Calls.answers t q (a .r)) (has (a .r)))) _ (q .1) in
     let l = yes-first 7 (eqb (a .r) (inForce (Calls.answers t 1 (a .r)) (has (a .r)) .members) || ltb (highestEpoch (Calls.answers t 1 (a .r)) (has (a .r))) limit) _ (m .1) in
-    record { first = x .0; quorum = q .0; current = m .0; room = l .0 }
+    record { sheet = z .0; first = x .0; quorum = q .0; current = m .0; room = l .0 }
 
 pub record CarryYes (t : List ℕ) (a : Calls.Carrying) : Type 0 where
   pub own : ownForm t ≡ true

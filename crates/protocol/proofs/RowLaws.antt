@@ -1,18 +1,19 @@
 -- What a head's and a copy's bytes say after each change.
-use mathlib.Core.Path.{_≡_, refl, sym, _∙_, ap, ap₂}
+use mathlib.Core.Path.{_≡_, refl, sym, _∙_, ap}
 use mathlib.Core.Bool.{Bool, true, false, cond, _&&_, _||_}
 use mathlib.Core.Logic.{_⊎_, ⊎-elim, inl, inr}
-use mathlib.Core.List.{List, [], _∷_, _++_}
+use mathlib.Core.List.{List, [], _∷_}
 use Prim.Native.Nat.{ℕ, suc, _+_, _-_, _^_, _≤_, _<_}
 use native.Mathlib.Omega.{arith}
 use lib.Dec.{leb, eqb}
 use lib.ListN.{length, getD, take, drop}
+use lib.Seq.{drop-drop}
 use borrow.Author.Tests.{leb-true, eqb-true}
 use Rattle.sets.specs.Upto.{Within, every}
 use Rattle.bools.proofs.BoolLaws.{and-l, and-r, or-e}
 use Rattle.sets.proofs.UptoLaws.{every-at}
-use Rattle.bytes.specs.Bytes.{part, put}
-use Rattle.fields.specs.Layout.{Field, get, store, name, link, mark, version, desired, epoch, members, gridMark, list, storeList, reserved, spare, contents, storeContents, copyLength}
+use Rattle.bytes.specs.Bytes.{number, part, put}
+use Rattle.fields.specs.Layout.{Field, get, store, name, link, mark, version, desired, epoch, members, gridMark, county, list, storeList, reserved, spare, contents, storeContents, copyLength}
 use Rattle.bytes.proofs.ByteLaws.{put-all}
 use Rattle.fields.proofs.FieldLaws.{Apart, length-store, get-store, get-other, part-store, drop-store, contents-store, length-contents, part-contents, get-contents, contents-contents, contents-long, copy-is, list-is}
 use Rattle.fields.specs.declared.Laid.{Laid}
@@ -139,9 +140,18 @@ pub becomes-list : {row new : List ℕ} {f : ℕ → ℕ} → HeadBecomes row ne
 unfolding listIn headKit
 becomes-list b = list-is _ _ (b .fields 4 (omega arith)) (b .fields 5 (omega arith))
 
+-- behind the fields every byte stays: the county too
+becomes-part : {row new : List ℕ} {f : ℕ → ℕ} → HeadBecomes row new f → (a m : ℕ) → part (25 + a) m new ≡ part (25 + a) m row
+unfolding part
+becomes-part {row} {new} b a m = ap (take m) (sym (drop-drop a 25 new) ∙ ap (drop a) (b .behind) ∙ drop-drop a 25 row)
+
 pub becomes-reserved : {row new : List ℕ} {f : ℕ → ℕ} → HeadBecomes row new f → reserved new ≡ reserved row
-unfolding reserved part
-becomes-reserved b = ap₂ (λ (x y : List ℕ). x ++ y) (b .gap) (ap (take 7) (b .behind))
+unfolding reserved
+becomes-reserved b = rw (b .gap, becomes-part b 0 1, becomes-part b 2 5)
+
+pub becomes-county : {row new : List ℕ} {f : ℕ → ℕ} → HeadBecomes row new f → get county new ≡ get county row
+unfolding get county
+becomes-county b = ap number (becomes-part b 1 1)
 
 -- one field more stored
 head-store : {row new : List ℕ} {f : ℕ → ℕ} (i v : ℕ) → Within 5 i → v < 256 ^ headKit .at i .width → 32 ≤ length row → HeadBecomes row new f

@@ -16,16 +16,19 @@ use Rattle.quorums.specs.declared.Kind.{Kind}
 use Rattle.quorums.specs.declared.Kind.the-variants.{Read, Write}
 use Rattle.bytes.specs.Bytes.{number, part, zeros}
 use Rattle.fields.specs.Layout
-use Rattle.fields.specs.Layout.{isTall, get, mark, version, desired, epoch, list, noList, usedOf, firstOf, fileLengthOf, nameOf, linkOf, staleOf, versionOf, desiredOf, epochOf, listOf, contentsOf, filesOf, copyIn, inCopy, copyBytes, rowBytes, rowLength, rowsEnd, formOf, capacityOf}
+use Rattle.fields.specs.Layout.{isTall, get, mark, version, desired, epoch, list, noList, usedOf, firstOf, fileLengthOf, nameOf, linkOf, countyOf, staleOf, versionOf, desiredOf, epochOf, listOf, contentsOf, filesOf, copyIn, inCopy, copyBytes, rowBytes, rowLength, rowsEnd, formOf, capacityOf}
 use Rattle.linking.specs.Linking.{chain}
-use Rattle.table.specs.Chain.{orderOf}
+use Rattle.table.specs.Chain.{orderOf, frameOf}
 use Rattle.table.specs.WellFormed.{between, limit, onlyRows, lengthRight, unusedZero}
 use Rattle.bytes.proofs.ByteLaws.{part-part, zeros-are}
 use Rattle.table.proofs.FormLaws.{Formed, formed, header-facts}
-use Rattle.protocol.specs.Lists.{laidNow, listChoice}
+use Rattle.table.proofs.CountyLaws.{county-at, county-same, frame-same}
+use Rattle.counties.specs.Counties.{listChoice}
+use Rattle.counties.specs.Marks.{laidNow}
 use Rattle.protocol.specs.Polls.{Poll, polled, highestEpoch, inForce, goodVersion, good, current, stays, workedOn}
 use Rattle.protocol.specs.Rows.{checkedRow, refreshedCopy}
 use Rattle.asking.specs.Asking.{Question, firstNo, before}
+use Rattle.sheet.specs.Sheet.{sheetRight}
 use Rattle.protocol.specs.Calls.{Sending, Call, read, write, send, check, byCoordinator, isUsed, inFile, inGroup, questions, calledBy, noted, fromSix, calledAfter, done, outcome, answers, workSet}
 use Rattle.protocol.specs.Claims.{Answering, byRead, byWrite, bySend, byCheck, EqualIn, SameFor, UnansweredHaveNoPart}
 use Rattle.table.proofs.TableLaws.{Changed}
@@ -50,6 +53,14 @@ first-part m a n xs h = whole ∙ ap (λ (x : ℕ). part x n xs) (zero-add a)
     whole : part a n (take m xs) ≡ part (0 + a) n xs
     whole = part-part 0 m a n xs h
 
+-- equal headers, and so equal numbers of used rows
+header-part : (t u : List ℕ) → take 16 t ≡ take 16 u → (a n : ℕ) → a + n ≤ 16 → part a n u ≡ part a n t
+header-part t u e a n h = sym (first-part 16 a n u h) ∙ ap (part a n) (sym e) ∙ first-part 16 a n t h
+
+pub used-by : (t u : List ℕ) → take 16 t ≡ take 16 u → usedOf u ≡ usedOf t
+unfolding usedOf Layout.used get
+used-by t u e = ap number (header-part t u e 2 1 (omega arith))
+
 module _ {r : ℕ} {t u : List ℕ} (E : EqualIn r t u) where
   ft : Formed t
   ft = formed t (E .formed)
@@ -58,15 +69,14 @@ module _ {r : ℕ} {t u : List ℕ} (E : EqualIn r t u) where
   fu = formed u (E .formed-too)
 
   pub header : (a n : ℕ) → a + n ≤ 16 → part a n u ≡ part a n t
-  header a n h = sym (first-part 16 a n u h) ∙ ap (part a n) (sym (E .header)) ∙ first-part 16 a n t h
+  header = header-part t u (E .header)
 
   pub get-same : (f : Layout.Field) → f .place + f .width ≤ 16 → get f u ≡ get f t
   unfolding get
   get-same f h = ap number (header (f .place) (f .width) h)
 
   pub used-same : usedOf u ≡ usedOf t
-  unfolding usedOf Layout.used
-  used-same = get-same Layout.used (omega arith)
+  used-same = used-by t u (E .header)
 
   pub file-same : fileLengthOf u ≡ fileLengthOf t
   unfolding fileLengthOf Layout.fileLength
@@ -97,6 +107,12 @@ module _ {r : ℕ} {t u : List ℕ} (E : EqualIn r t u) where
     where
       linked : (i : ℕ) → Within (usedOf t) i → linkOf t i ≤ usedOf t
       linked i w = ft .heads i w .linked
+
+  pub counties-same : countyOf u ≡ countyOf t
+  counties-same = county-same t u used-same (λ i w. sym (county-at u i (rw used-same w)) ∙ sym (E .counties i w) ∙ county-at t i w)
+
+  pub framed-same : frameOf u ≡ frameOf t
+  framed-same = frame-same t u order-same counties-same
 
   -- what the rows of R say is the same
   poll-same : (q : ℕ) → answers u q r ≡ answers t q r
@@ -130,7 +146,7 @@ module _ {r : ℕ} {t u : List ℕ} (E : EqualIn r t u) where
 
   work-same : (kind : Kind) (q c : ℕ) → has r c ≡ true → workSet kind u q c r ≡ workSet kind t q c r
   unfolding workSet nameOf
-  work-same kind q c m = rw (order-same, poll-same q) (ap (λ (x : List ℕ). workedOn kind (orderOf t) (answers t q r) c (get Layout.name x) (has r)) (sym (E .rows c m)))
+  work-same kind q c m = rw (framed-same, poll-same q) (ap (λ (x : List ℕ). workedOn kind (frameOf t) (answers t q r) c (get Layout.name x) (has r)) (sym (E .rows c m)))
 
   -- ---- the first no is the same
   first-same-by : (c : ℕ) (qs rs : List Question) → (has r c ≡ true → firstNo qs ≡ firstNo rs) → firstNo (byCoordinator u c r qs) ≡ firstNo (byCoordinator t c r rs)
@@ -145,8 +161,8 @@ module _ {r : ℕ} {t u : List ℕ} (E : EqualIn r t u) where
   -- ---- and so is the size of the set called
   called-by-same : (kind : Kind) (q c : ℕ) → has r c ≡ true → calledBy kind u q c r ≡ calledBy kind t q c r
   unfolding calledBy nameOf
-  called-by-same kind q c m = rw (order-same, poll-same q, used-same) (ap (λ (x : List ℕ). let a = get Layout.name x in
-      cond (stays kind (orderOf t) (answers t q r) c a (has r)) (count 64 (listChoice kind (orderOf t) (answers t q r .list c) a)) (usedOf t)) (sym (E .rows c m)))
+  called-by-same kind q c m = rw (framed-same, poll-same q, used-same) (ap (λ (x : List ℕ). let a = get Layout.name x in
+      cond (stays kind (frameOf t) (answers t q r) c a (has r)) (count 64 (listChoice kind (frameOf t) (answers t q r .list c) a)) (usedOf t)) (sym (E .rows c m)))
 
   from-six-same : (c : ℕ) (qs rs : List Question) (x y : ℕ) → (has r c ≡ true → firstNo (before 6 qs) ≡ firstNo (before 6 rs)) → (has r c ≡ true → x ≡ y)
       → fromSix (byCoordinator u c r qs) x ≡ fromSix (byCoordinator t c r rs) y
@@ -166,7 +182,7 @@ module _ {r : ℕ} {t u : List ℕ} (E : EqualIn r t u) where
 
   work-in : (kind : Kind) (q c i : ℕ) → workSet kind t q c r i ≡ true → has r i ≡ true
   unfolding workSet
-  work-in kind q c i m = worked-in kind (orderOf t) (answers t q r) c (nameOf t c) (has r) i m
+  work-in kind q c i m = worked-in kind (frameOf t) (answers t q r) c (nameOf t c) (has r) i m
 
   -- ---- refused: the tables are as they were
   refused-same : (k : Call) → (outcome t k .refusal ≡ 0 → ⊥) → (outcome u k .refusal ≡ 0 → ⊥) → outcome u k .refusal ≡ outcome t k .refusal → calledAfter t k ≡ calledAfter u k → SameFor r (outcome t k) (outcome u k)
@@ -178,6 +194,7 @@ module _ {r : ℕ} {t u : List ℕ} (E : EqualIn r t u) where
         value = a .0 ∙ sym (b .0);
         buffer = a .2 ∙ sym (b .2);
         called = called-is t k ∙ n ∙ sym (called-is u k);
+        sheet = a .3 ∙ sym (b .3);
         rows = λ i m. ap (λ (x : List ℕ). rowBytes x i) (a .1) ∙ E .rows i m ∙ sym (ap (λ (x : List ℕ). rowBytes x i) (b .1));
       }
 
@@ -233,16 +250,25 @@ send-same t u a E =
     go false y m z n = refl
 
 asks-same : (t u : List ℕ) (k : Call) (r : ℕ) → Answering k r → EqualIn r t u → firstNo (questions u k) ≡ firstNo (questions t k)
-unfolding questions inFile inGroup
-asks-same t u (read a) r byRead E = first-same-by E (a .c) _ _ (λ m. rw (work-same E Read (a .file) (a .c) m, poll-same E (a .file), order-same E, file-same E, files-same E))
-asks-same t u (write a) r byWrite E = first-same-by E (a .c) _ _ (λ m. rw (work-same E Write (a .file) (a .c) m, poll-same E (a .file), order-same E, file-same E, files-same E))
+unfolding questions inFile inGroup firstNo
+asks-same t u (read a) r byRead E = first-same-by E (a .c) _ _ (λ m. rw (work-same E Read (a .file) (a .c) m, poll-same E (a .file), framed-same E, file-same E, files-same E))
+asks-same t u (write a) r byWrite E =
+    ap (λ (n : ℕ). cond (sheetRight (a .sheet)) n 1)
+    (first-same-by E (a .c) _ _ (λ m. rw (work-same E Write (a .file) (a .c) m, poll-same E (a .file), framed-same E, file-same E, files-same E)))
 asks-same t u (send a) r bySend E = send-same t u a E
-asks-same t u (check a) r byCheck E = first-same-by E (a .c) _ _ (λ m. rw (all-current-same E, poll-same E 1, order-same E))
+asks-same t u (check a) r byCheck E = ap (λ (n : ℕ). cond (sheetRight (a .sheet)) n 1) (first-same-by E (a .c) _ _ (λ m. rw (all-current-same E, poll-same E 1, framed-same E)))
+
+-- with a question before them that both answer alike
+first-too : (b : Bool) (qs rs : List Question) (x y : ℕ) → fromSix qs x ≡ fromSix rs y → fromSix (record { ask = 1; yes = b } ∷ qs) x ≡ fromSix (record { ask = 1; yes = b } ∷ rs) y
+unfolding fromSix before firstNo
+first-too true qs rs x y e = e
+first-too false qs rs x y e = refl
 
 called-same : (t u : List ℕ) (k : Call) (r : ℕ) → Answering k r → EqualIn r t u → calledAfter t k ≡ calledAfter u k
 unfolding calledAfter questions before inFile inGroup
 called-same t u (read a) r byRead E = sym (ap (noted (a .called)) (from-six-same E (a .c) _ _ _ _ (λ m. rw (file-same E, files-same E)) (called-by-same E Read (a .file) (a .c))))
-called-same t u (write a) r byWrite E = sym (ap (noted (a .called)) (from-six-same E (a .c) _ _ _ _ (λ m. rw (file-same E, files-same E)) (called-by-same E Write (a .file) (a .c))))
+called-same t u (write a) r byWrite E =
+    sym (ap (noted (a .called)) (first-too (sheetRight (a .sheet)) _ _ _ _ (from-six-same E (a .c) _ _ _ _ (λ m. rw (file-same E, files-same E)) (called-by-same E Write (a .file) (a .c)))))
 called-same t u (send a) r bySend E = refl
 called-same t u (check a) r byCheck E = refl
 
@@ -254,6 +280,7 @@ done-same t u (read a) r byRead E ht hu = record {
   value = rw (work-same E Read (a .file) (a .c) (y .first .answered), poll-same E (a .file));
   buffer = rw (work-same E Read (a .file) (a .c) (y .first .answered), poll-same E (a .file)) (ap (λ (x : List ℕ). part (a .offset) (a .count) (Layout.contents x)) lowest-row);
   called = called-same t u (read a) r byRead E;
+  sheet = refl;
   rows = λ i m. E .rows i m;
 }
   where
@@ -270,6 +297,7 @@ done-same t u (write a) r byWrite E ht hu = record {
   value = rw (work-same E Write (a .file) (a .c) (y .first .answered), poll-same E (a .file));
   buffer = refl;
   called = called-same t u (write a) r byWrite E;
+  sheet = refl;
   rows = λ i m. changed-same E (write-rows t a y) alike i (answered-used t (a .c) (a .r) [] (y .first) i m) m;
 }
   where
@@ -283,6 +311,7 @@ done-same t u (send a) r bySend E ht hu = record {
   value = sym (row-of E (a .file) (a .f) (y .from-answered) .1);
   buffer = refl;
   called = called-same t u (send a) r bySend E;
+  sheet = refl;
   rows = λ i m. changed-same E (send-changed t a y) alike i (has-within (usedOf t) (a .r) i (y .rows) m) m;
 }
   where
@@ -302,15 +331,15 @@ done-same t u (check a) r byCheck E ht hu = go (eqb (a .r) (inForce (answers t 1
     same-u : (b : Bool) → eqb (a .r) (inForce (answers t 1 (a .r)) (has (a .r)) .members) ≡ b → eqb (a .r) (inForce (answers u 1 (a .r)) (has (a .r)) .members) ≡ b
     same-u b q = ap (λ (p : Poll). eqb (a .r) (inForce p (has (a .r)) .members)) (poll-same E 1) ∙ q
 
-    -- what a row becomes, by the number of files, their length and the polls
-    by : ℕ → ℕ → (ℕ → Poll) → ℕ → List ℕ → List ℕ
-    by n l p = checkedRow n l (λ q. good (p q) (has (a .r))) (λ q. goodVersion (p q) (has (a .r))) (highestEpoch (p 1) (has (a .r)) + 1) (laidNow (isTall (inForce (p 1) (has (a .r)))) (a .r))
+    -- what a row becomes, by the number of files, their length, the counties and the polls
+    by : ℕ → ℕ → (ℕ → ℕ) → (ℕ → Poll) → ℕ → List ℕ → List ℕ
+    by n l y p = checkedRow n l (λ q. good (p q) (has (a .r))) (λ q. goodVersion (p q) (has (a .r))) (highestEpoch (p 1) (has (a .r)) + 1) (laidNow (isTall (inForce (p 1) (has (a .r)))) y (a .r))
 
-    by-same : by (filesOf u) (fileLengthOf u) (λ q. answers u q (a .r)) ≡ by (filesOf t) (fileLengthOf t) (λ q. answers t q (a .r))
-    by-same = ap₂ (λ (n l : ℕ). by n l (λ q. answers u q (a .r))) (files-same E) (file-same E) ∙ ap (by (filesOf t) (fileLengthOf t)) (fun-ext (poll-same E))
+    by-same : by (filesOf u) (fileLengthOf u) (countyOf u) (λ q. answers u q (a .r)) ≡ by (filesOf t) (fileLengthOf t) (countyOf t) (λ q. answers t q (a .r))
+    by-same = ap₂ (λ (n l : ℕ). by n l (countyOf u) (λ q. answers u q (a .r))) (files-same E) (file-same E) ∙ ap₂ (by (filesOf t) (fileLengthOf t)) (counties-same E) (fun-ext (poll-same E))
 
     go : (b : Bool) → eqb (a .r) (inForce (answers t 1 (a .r)) (has (a .r)) .members) ≡ b → SameFor (a .r) (done t (check a)) (done u (check a))
-    go true q = rw (q, same-u true q) (record { refusal = refl; value = ap (λ (p : Poll). highestEpoch p (has (a .r))) (sym (poll-same E 1)); buffer = refl; called = called-same t u (check a) r byCheck E; rows = λ i m. E .rows i m })
+    go true q = rw (q, same-u true q) (record { refusal = refl; value = ap (λ (p : Poll). highestEpoch p (has (a .r))) (sym (poll-same E 1)); buffer = refl; called = called-same t u (check a) r byCheck E; sheet = refl; rows = λ i m. E .rows i m })
     go false q =
         let room : ltb (highestEpoch (answers t 1 (a .r)) (has (a .r))) limit ≡ true = rw q at (y .room) in
         let room-u : ltb (highestEpoch (answers u 1 (a .r)) (has (a .r))) limit ≡ true = rw (same-u false q) at (z .room) in
@@ -319,6 +348,7 @@ done-same t u (check a) r byCheck E ht hu = go (eqb (a .r) (inForce (answers t 1
           value = ap (λ (p : Poll). highestEpoch p (has (a .r)) + 1) (sym (poll-same E 1));
           buffer = refl;
           called = called-same t u (check a) r byCheck E;
+          sheet = refl;
           rows = λ i m. changed-same E (check-rows t a y (ltb-true _ _ room)) (changed-as E refl by-same (check-rows u a z (ltb-true _ _ room-u)))
               i (answered-used t (a .c) (a .r) [] (y .first) i m) m;
         })

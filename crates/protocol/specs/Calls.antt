@@ -10,11 +10,13 @@ use Rattle.quorums.specs.declared.Kind.{Kind}
 use Rattle.quorums.specs.declared.Kind.the-variants.{Read, Write}
 use Rattle.bytes.specs.Bytes.{bytesOf, part, zeros}
 use Rattle.fields.specs.declared.Laid.{Laid}
-use Rattle.fields.specs.Layout.{isTall, formValue, bodyLength, stride, inCopy, formOf, capacityOf, usedOf, fileLengthOf, filesOf, nameOf, copyBytes, staleOf, versionOf, desiredOf, contentsOf, withRow, withRows}
-use Rattle.table.specs.Chain.{orderOf}
-use Rattle.table.specs.WellFormed.{between, limit, onlyRows, ownForm, wellFormed}
+use Rattle.fields.specs.Layout.{isTall, formValue, bodyLength, stride, inCopy, formOf, capacityOf, usedOf, fileLengthOf, filesOf, nameOf, countyOf, copyBytes, staleOf, versionOf, desiredOf, contentsOf, withRow, withRows}
+use Rattle.table.specs.Chain.{frameOf}
+use Rattle.table.specs.WellFormed.{between, isCounty, limit, onlyRows, ownForm, wellFormed}
 use Rattle.asking.specs.Asking.{Question, firstNo, before, result}
-use Rattle.protocol.specs.Lists.{laidNow, listChoice}
+use Rattle.sheet.specs.Sheet.{sheetRight, byClub, counted, cleared}
+use Rattle.counties.specs.Counties.{countyAt, listChoice}
+use Rattle.counties.specs.Marks.{laidNow}
 use Rattle.protocol.specs.Polls.{Poll, polled, highestEpoch, inForce, goodVersion, good, current, quorumHeld, stays, workedOn}
 use Rattle.protocol.specs.Rows.{refreshedCopy, wroteCopy, checkedRow}
 use Rattle.carrying.specs.Moves.{goesOver, allPlain, carried, carriedLength}
@@ -30,6 +32,8 @@ pub record Founding : Type 0 where
   pub choice : ℕ
   -- "A tournament has up to eight files on the same machines"
   pub files : ℕ
+  -- a byte each
+  pub counties : List ℕ
 
 pub record Reading : Type 0 where
   pub c : ℕ
@@ -50,6 +54,10 @@ pub record Writing : Type 0 where
   pub patch : List ℕ
   pub called : List ℕ
   pub file : ℕ
+  -- "A sheet, lent to writes .. and checks"
+  pub sheet : List ℕ
+  -- "A write .. names its club"
+  pub club : ℕ
 
 pub record Sending : Type 0 where
   -- from row f to row t
@@ -61,9 +69,11 @@ pub record Sending : Type 0 where
 pub record Checking : Type 0 where
   pub c : ℕ
   pub r : ℕ
+  pub sheet : List ℕ
 
 pub record Joining : Type 0 where
   pub name : ℕ
+  pub county : ℕ
 
 pub record Carrying : Type 0 where
   -- the form to move to
@@ -80,13 +90,15 @@ pub data Call : Type 0 where
   check : Checking → Call
   carry : Carrying → Call
 
--- what a call leaves: refusal number (0: done), value, the table's bytes, the bytes of the read buffer or of a move's second one, and those lent for the size of the set called
+-- what a call leaves: refusal number (0: done), value, the table's bytes, the bytes of the read buffer or of a move's second one, those lent for the size of
+-- the set called, and the sheet
 pub record Outcome : Type 0 where
   pub refusal : ℕ
   pub value : ℕ
   pub table : List ℕ
   pub buffer : List ℕ
   pub called : List ℕ
+  pub sheet : List ℕ
 
 -- the buffer that a call is lent besides the table
 unfoldable pub lent : Call → List ℕ
@@ -97,6 +109,16 @@ lent (write a) = []
 lent (send a) = []
 lent (check a) = []
 lent (carry a) = a .dest
+
+-- and the sheet
+unfoldable pub lentSheet : Call → List ℕ
+lentSheet (founding a) = []
+lentSheet (join a) = []
+lentSheet (read a) = []
+lentSheet (write a) = a .sheet
+lentSheet (send a) = []
+lentSheet (check a) = a .sheet
+lentSheet (carry a) = []
 
 -- "A result is one 64-bit number: refusal number times 2^32, plus value."
 unfoldable pub resultOf : Outcome → ℕ
@@ -119,7 +141,7 @@ unfoldable pub answers : List ℕ → ℕ → ℕ → Poll
 answers t q r = polled t q (has r)
 
 unfoldable pub workSet : Kind → List ℕ → ℕ → ℕ → ℕ → ℕ → Bool
-workSet kind t q c r = workedOn kind (orderOf t) (answers t q r) c (nameOf t c) (has r)
+workSet kind t q c r = workedOn kind (frameOf t) (answers t q r) c (nameOf t c) (has r)
 
 -- ---- founding
 -- names, two bytes each, low byte first
@@ -137,25 +159,26 @@ namesRising a (x ∷ l) = ltb a x && leb x 65_535 && namesRising x l
 unfoldable pub foundedHeader : ℕ → ℕ → ℕ → ℕ → List ℕ
 foundedHeader capacity n files fileLength = formValue ∷ capacity ∷ n ∷ 1 ∷ (bytesOf 2 fileLength ++ (bytesOf 1 files ++ zeros 9))
 
--- row i of n: its name, the next row (0 after the last), the list of all used rows; "contents, versions, epochs, marks .. become 0", with a body of so many bytes
-unfoldable pub foundedRow : ℕ → Laid → ℕ → ℕ → ℕ → List ℕ
-foundedRow n all body i x = bytesOf 2 x ++ (cond (eqb i n) 0 (i + 1) ∷ (zeros 13 ++ (bytesOf 8 (all .members) ++ (bytesOf 1 (all .mark) ++ (zeros 7 ++ zeros body)))))
+-- row i of n: its name, the next row (0 after the last), the list of all used rows, its county; "contents, versions, epochs, marks .. become 0", with a body of so many bytes
+unfoldable pub foundedRow : ℕ → Laid → ℕ → ℕ → ℕ → ℕ → List ℕ
+foundedRow n all body i x y =
+    bytesOf 2 x ++ (cond (eqb i n) 0 (i + 1) ∷ (zeros 13 ++ (bytesOf 8 (all .members) ++ (bytesOf 1 (all .mark) ++ (0 ∷ y ∷ (zeros 5 ++ zeros body))))))
 
 -- "It puts them in rows 1 upward": the rows from row i on
-unfoldable pub foundedRows : ℕ → Laid → ℕ → ℕ → List ℕ → List ℕ
-foundedRows n all body i [] = []
-foundedRows n all body i (x ∷ l) = foundedRow n all body i x ++ foundedRows n all body (suc i) l
+unfoldable pub foundedRows : ℕ → Laid → ℕ → (ℕ → ℕ) → ℕ → List ℕ → List ℕ
+foundedRows n all body county i [] = []
+foundedRows n all body county i (x ∷ l) = foundedRow n all body i x (county i) ++ foundedRows n all body county (suc i) l
 
--- the list that a founding lays of n rows, by its choice
-unfoldable pub foundedList : ℕ → ℕ → Laid
-foundedList choice n = laidNow (eqb choice 1) (2 ^ n - 1)
+-- the list that a founding lays of n rows, by its choice and their counties
+unfoldable pub foundedList : ℕ → List ℕ → ℕ → Laid
+foundedList choice counties n = laidNow (eqb choice 1) (countyAt counties) (2 ^ n - 1)
 
 -- the table after a founding: "every unused row" becomes 0 too
-unfoldable pub founded : ℕ → ℕ → ℕ → ℕ → List ℕ → List ℕ
-founded choice capacity files fileLength names =
+unfoldable pub founded : ℕ → ℕ → ℕ → ℕ → List ℕ → List ℕ → List ℕ
+founded choice capacity files fileLength names counties =
     let n = length names in
     foundedHeader capacity n files fileLength
-    ++ (foundedRows n (foundedList choice n) (bodyLength files fileLength) 1 names ++ zeros ((capacity - n) * stride files fileLength))
+    ++ (foundedRows n (foundedList choice counties n) (bodyLength files fileLength) (countyAt counties) 1 names ++ zeros ((capacity - n) * stride files fileLength))
 
 -- ---- "Questions put to each call": in this order, each to the calls it names
 -- 1 to 3 of a call by coordinator c, then those after
@@ -176,12 +199,15 @@ questions t (founding a) =
       yes = between 1 (a .capacity) 64 && leb n (a .capacity) && between 1 (a .fileLength) 4_096 && between 1 (a .files) 8
           && eqb (length t) (16 + a .capacity * stride (a .files) (a .fileLength));
     }
+    -- "after question 12 and after 14, a county outside 1 to 8, or counties (in C a byte each) not as many as the names, gives 20"
+    ∷ record { ask = 20; yes = eqb (length (a .counties)) n && every n (λ i. isCounty (countyAt (a .counties) i)) }
     ∷ []
 -- "Questions 2 and 3 are not put to it. .. after question 1, joining gives 13 for name 0 or a name in use, then 14 when no unused row is left."
 questions t (join a) =
     record { ask = 1; yes = wellFormed t }
     ∷ record { ask = 13; yes = between 1 (a .name) 65_535 && not (some (usedOf t) (λ i. eqb (nameOf t i) (a .name))) }
     ∷ record { ask = 14; yes = ltb (usedOf t) (capacityOf t) }
+    ∷ record { ask = 20; yes = isCounty (a .county) }
     ∷ []
 -- "after question 3, a file number not in the group gives 16"
 questions t (read a) =
@@ -191,20 +217,23 @@ questions t (read a) =
     record { ask = 16; yes = inGroup t (a .file) }
     ∷ record { ask = 4; yes = inFile t (a .offset) (a .count) }
     ∷ record { ask = 5; yes = eqb (length (a .buffer)) (a .count) && eqb (length (a .called)) 1 }
-    ∷ record { ask = 6; yes = quorumHeld Read (orderOf t) p s }
+    ∷ record { ask = 6; yes = quorumHeld Read (frameOf t) p s }
     ∷ record { ask = 7; yes = current p s }
     ∷ [])
+-- "a sheet that breaks this is refused by 1": 1 is put to the sheet and to the table
 questions t (write a) =
     let p = answers t (a .file) (a .r) in
     let s = workSet Write t (a .file) (a .c) (a .r) in
-    byCoordinator t (a .c) (a .r) (
+    record { ask = 1; yes = sheetRight (a .sheet) }
+    ∷ byCoordinator t (a .c) (a .r) (
     record { ask = 16; yes = inGroup t (a .file) }
     ∷ record { ask = 4; yes = inFile t (a .offset) (length (a .patch)) }
     ∷ record { ask = 5; yes = eqb (length (a .called)) 1 }
-    ∷ record { ask = 6; yes = quorumHeld Write (orderOf t) p s }
+    ∷ record { ask = 6; yes = quorumHeld Write (frameOf t) p s }
     ∷ record { ask = 7; yes = current p s }
-    ∷ record { ask = 8; yes = ltb (goodVersion p s) limit }
-    ∷ [])
+    ∷ byClub (a .sheet) (a .club) (
+    record { ask = 8; yes = ltb (goodVersion p s) limit }
+    ∷ []))
 questions t (send a) =
     record { ask = 1; yes = wellFormed t }
     ∷ record { ask = 2; yes = isUsed t (a .f) && isUsed t (a .t) && onlyRows (usedOf t) (a .r) && not (eqb (a .f) (a .t)) }
@@ -217,8 +246,9 @@ questions t (send a) =
 questions t (check a) =
     let p = answers t 1 (a .r) in
     let same = eqb (a .r) (inForce p (has (a .r)) .members) in
-    byCoordinator t (a .c) (a .r) (
-    record { ask = 6; yes = quorumHeld Write (orderOf t) p (has (a .r)) }
+    record { ask = 1; yes = sheetRight (a .sheet) }
+    ∷ byCoordinator t (a .c) (a .r) (
+    record { ask = 6; yes = quorumHeld Write (frameOf t) p (has (a .r)) }
     ∷ record { ask = 7; yes = same || every (filesOf t) (λ q. current (answers t q (a .r)) (has (a .r))) }
     ∷ record { ask = 8; yes = same || ltb (highestEpoch p (has (a .r))) limit }
     ∷ [])
@@ -234,7 +264,7 @@ questions t (carry a) =
 -- "the coordinator's own choice, or all used rows if it went on to R"
 unfoldable pub calledBy : Kind → List ℕ → ℕ → ℕ → ℕ → ℕ
 calledBy kind t q c r = let p = answers t q r in
-    cond (stays kind (orderOf t) p c (nameOf t c) (has r)) (count 64 (listChoice kind (orderOf t) (p .list c) (nameOf t c))) (usedOf t)
+    cond (stays kind (frameOf t) p c (nameOf t c) (has r)) (count 64 (listChoice kind (frameOf t) (p .list c) (nameOf t c))) (usedOf t)
 
 -- "In C it is a list of one byte; one of another length is left alone"
 unfoldable pub noted : List ℕ → ℕ → List ℕ
@@ -257,41 +287,47 @@ calledAfter t (carry a) = []
 -- ---- what a done call leaves
 -- what a call on table t leaves that alters no more than the table, and notes the size of the set called: all else is as it was lent
 abbrev pub leaves : List ℕ → Call → ℕ → ℕ → List ℕ → Outcome
-leaves t k refusal value table = record { refusal = refusal; value = value; table = table; buffer = lent k; called = calledAfter t k }
+leaves t k refusal value table = record { refusal = refusal; value = value; table = table; buffer = lent k; called = calledAfter t k; sheet = lentSheet k }
 
 -- the same with these bytes in the buffer
 abbrev pub buffered : List ℕ → Outcome → Outcome
-buffered bytes o = record { refusal = o .refusal; value = o .value; table = o .table; buffer = bytes; called = o .called }
+buffered bytes o = record { refusal = o .refusal; value = o .value; table = o .table; buffer = bytes; called = o .called; sheet = o .sheet }
+
+-- the same with this sheet
+abbrev pub counting : List ℕ → Outcome → Outcome
+counting bytes o = record { refusal = o .refusal; value = o .value; table = o .table; buffer = o .buffer; called = o .called; sheet = bytes }
 
 unfoldable pub done : List ℕ → Call → Outcome
-done t (founding a) = leaves t (founding a) 0 (length (namesIn (a .names))) (founded (a .choice) (a .capacity) (a .files) (a .fileLength) (namesIn (a .names)))
+done t (founding a) = leaves t (founding a) 0 (length (namesIn (a .names))) (founded (a .choice) (a .capacity) (a .files) (a .fileLength) (namesIn (a .names)) (a .counties))
 -- "its value is the new index"
-done t (join a) = leaves t (join a) 0 (suc (usedOf t)) (joined t (a .name))
+done t (join a) = leaves t (join a) 0 (suc (usedOf t)) (joined t (a .name) (a .county))
 -- "copies the range from the good row of lowest index. Value: its version."
 done t (read a) =
     let p = answers t (a .file) (a .r) in
     let s = workSet Read t (a .file) (a .c) (a .r) in
     buffered (part (a .offset) (a .count) (contentsOf t (a .file) (lowest 64 (good p s)))) (leaves t (read a) 0 (goodVersion p s) t)
--- "Value: the new version."
+-- "Value: the new version."; "a done one adds one there"
 done t (write a) =
     let p = answers t (a .file) (a .r) in
     let s = workSet Write t (a .file) (a .c) (a .r) in
     let v = goodVersion p s + 1 in
-    leaves t (write a) 0 v (withRows t s (λ i. inCopy (fileLengthOf t) (a .file) (wroteCopy (good p s) v (a .offset) (a .patch) i)) (usedOf t))
+    counting (counted (a .sheet) (a .club))
+    (leaves t (write a) 0 v (withRows t s (λ i. inCopy (fileLengthOf t) (a .file) (wroteCopy (good p s) v (a .offset) (a .patch) i)) (usedOf t)))
 -- "Value: that version."
 done t (send a) =
     leaves t (send a) 0 (versionOf t (a .file) (a .f))
     (withRow t (a .t) (inCopy (fileLengthOf t) (a .file) (refreshedCopy (copyBytes t (a .file) (a .f)))))
--- "if R equals V, nothing changes. .. Value: the epoch number in force."
+-- "if R equals V, nothing changes. .. Value: the epoch number in force."; "a changing check sets all counts to 0"
 done t (check a) =
     let p = answers t 1 (a .r) in
     let e = highestEpoch p (has (a .r)) in
     let same = eqb (a .r) (inForce p (has (a .r)) .members) in
     let goods : ℕ → ℕ → Bool = λ q. good (answers t q (a .r)) (has (a .r)) in
     let versions : ℕ → ℕ = λ q. goodVersion (answers t q (a .r)) (has (a .r)) in
-    leaves t (check a) 0 (cond same e (e + 1))
+    counting (cond same (a .sheet) (cleared (a .sheet)))
+    (leaves t (check a) 0 (cond same e (e + 1))
     (cond same t
-    (withRows t (has (a .r)) (checkedRow (filesOf t) (fileLengthOf t) goods versions (e + 1) (laidNow (isTall (inForce p (has (a .r)))) (a .r))) (usedOf t)))
+    (withRows t (has (a .r)) (checkedRow (filesOf t) (fileLengthOf t) goods versions (e + 1) (laidNow (isTall (inForce p (has (a .r)))) (countyOf t) (a .r))) (usedOf t))))
 -- "the value is the rows used"
 done t (carry a) = buffered (carried (a .form) t) (leaves t (carry a) 0 (usedOf t) t)
 

@@ -10,28 +10,29 @@ use Rattle.sets.specs.Sets.{has, losing}
 use Rattle.quorums.specs.declared.Kind.{Kind}
 use Rattle.quorums.specs.declared.Kind.the-variants.{Read, Write}
 use Rattle.fields.specs.declared.Laid.{Laid}
-use Rattle.fields.specs.Layout.{get, version, isEmpty, usedOf, nameOf, linkOf, rowsEnd, rowBytes, copyBytes}
+use Rattle.fields.specs.Layout.{get, version, isEmpty, usedOf, nameOf, linkOf, countyOf, rowsEnd, rowBytes, copyBytes}
 use Rattle.window.specs.Windows.{patches, windowOf}
-use Rattle.table.specs.Chain.{orderOf}
+use Rattle.table.specs.Chain.{orderOf, frameOf}
 use Rattle.table.specs.WellFormed.{wellFormed}
 use Rattle.linking.specs.Linking.{inserted}
 use Rattle.carrying.specs.Moves.{carried}
 use Rattle.carrying.specs.Claims.{RightIn}
 use Rattle.joining.specs.Claims.{OneMore}
 use Rattle.asking.specs.Asking.{Question, firstNo, before}
-use Rattle.protocol.specs.Lists.{seats, listQuorum, listChoice}
+use Rattle.counties.specs.Levels.{seats}
+use Rattle.counties.specs.Counties.{Frame, listQuorum, listChoice}
 use Rattle.protocol.specs.Polls.{Poll, highestEpoch, inForce, quorumHeld, workedOn}
 use Rattle.protocol.specs.Rows.{refreshedCopy}
-use Rattle.protocol.specs.Calls.{Founding, Reading, Writing, Sending, Checking, Joining, Call, founding, join, read, write, send, check, Carrying, carry, Outcome, resultOf, questions, calledBy, lent, outcome}
+use Rattle.protocol.specs.Calls.{Founding, Reading, Writing, Sending, Checking, Joining, Call, founding, join, read, write, send, check, Carrying, carry, Outcome, resultOf, questions, calledBy, lent, lentSheet, outcome}
 
 -- "In this order, each to the calls it names (2 and 3 to all but founding)", joining and a move: the numbers of the questions put to a call
 unfoldable pub numbersPut : Call → List ℕ
-numbersPut (founding a) = 11 ∷ 12 ∷ []
-numbersPut (join a) = 1 ∷ 13 ∷ 14 ∷ []
+numbersPut (founding a) = 11 ∷ 12 ∷ 20 ∷ []
+numbersPut (join a) = 1 ∷ 13 ∷ 14 ∷ 20 ∷ []
 numbersPut (read a) = 1 ∷ 2 ∷ 3 ∷ 16 ∷ 4 ∷ 5 ∷ 6 ∷ 7 ∷ []
-numbersPut (write a) = 1 ∷ 2 ∷ 3 ∷ 16 ∷ 4 ∷ 5 ∷ 6 ∷ 7 ∷ 8 ∷ []
+numbersPut (write a) = 1 ∷ 1 ∷ 2 ∷ 3 ∷ 16 ∷ 4 ∷ 5 ∷ 6 ∷ 7 ∷ 18 ∷ 19 ∷ 8 ∷ []
 numbersPut (send a) = 1 ∷ 2 ∷ 3 ∷ 16 ∷ 9 ∷ 10 ∷ []
-numbersPut (check a) = 1 ∷ 2 ∷ 3 ∷ 6 ∷ 7 ∷ 8 ∷ []
+numbersPut (check a) = 1 ∷ 1 ∷ 2 ∷ 3 ∷ 6 ∷ 7 ∷ 8 ∷ []
 numbersPut (carry a) = 1 ∷ 15 ∷ 12 ∷ []
 
 unfoldable pub PutInOrder : Type 0
@@ -51,6 +52,7 @@ pub record Untouched (t : List ℕ) (k : Call) (o : Outcome) : Type 0 where
   pub value : o .value ≡ 0
   pub table : o .table ≡ t
   pub buffer : o .buffer ≡ lent k
+  pub sheet : o .sheet ≡ lentSheet k
 
 unfoldable pub RefusalAltersNothing : Type 0
 RefusalAltersNothing = (t : List ℕ) (k : Call) → (outcome t k .refusal ≡ 0 → ⊥) → Untouched t k (outcome t k)
@@ -65,12 +67,14 @@ pub data Counting : Call → Kind → ℕ → ℕ → ℕ → List ℕ → Type 
   ofRead : {a : Reading} → Counting (read a) Read (a .file) (a .c) (a .r) (a .called)
   ofWrite : {a : Writing} → Counting (write a) Write (a .file) (a .c) (a .r) (a .called)
 
--- "It goes into a lent byte of its own, by refused calls too, as 0 before question 6": 0 by 1 to 5 and by 16; by 6 and 7, having gone on to R, all used rows; by 8 what was called
+-- "It goes into a lent byte of its own, by refused calls too, as 0 before question 6": 0 by 1 to 5 and by 16; by 6 and 7, having gone on to R, all used rows; by 18, 19 and 8 what was called
 pub record NotedRefused (t : List ℕ) (kind : Kind) (q c r : ℕ) (o : Outcome) : Type 0 where
   pub early : Within 5 (o .refusal) → o .called ≡ 0 ∷ []
   pub no-file : o .refusal ≡ 16 → o .called ≡ 0 ∷ []
   pub six : o .refusal ≡ 6 → o .called ≡ usedOf t ∷ []
   pub seven : o .refusal ≡ 7 → o .called ≡ usedOf t ∷ []
+  pub eighteen : o .refusal ≡ 18 → o .called ≡ calledBy kind t q c r ∷ []
+  pub nineteen : o .refusal ≡ 19 → o .called ≡ calledBy kind t q c r ∷ []
   pub eight : o .refusal ≡ 8 → o .called ≡ calledBy kind t q c r ∷ []
 
 unfoldable pub RefusedNote : Type 0
@@ -114,13 +118,14 @@ pub record OnlyRowsOf (r : ℕ) (t u : List ℕ) : Type 0 where
 unfoldable pub AltersOnlyAnswered : Type 0
 AltersOnlyAnswered = (t : List ℕ) (k : Call) (r : ℕ) → Answering k r → outcome t k .refusal ≡ 0 → OnlyRowsOf r t (outcome t k .table)
 
--- "Two well-formed tables with equal headers, names and links, and equal rows in R"
+-- "Two well-formed tables with equal headers, names and links, and equal rows in R"; "counties count with names and links"
 pub record EqualIn (r : ℕ) (t u : List ℕ) : Type 0 where
   pub formed : wellFormed t ≡ true
   pub formed-too : wellFormed u ≡ true
   pub header : take 16 t ≡ take 16 u
   pub names : (i : ℕ) → Within (usedOf t) i → nameOf t i ≡ nameOf u i
   pub links : (i : ℕ) → Within (usedOf t) i → linkOf t i ≡ linkOf u i
+  pub counties : (i : ℕ) → Within (usedOf t) i → countyOf t i ≡ countyOf u i
   pub rows : (i : ℕ) → has r i ≡ true → rowBytes t i ≡ rowBytes u i
 
 -- ".. give the same call the same result, the same read bytes and the same rows in R."
@@ -129,6 +134,7 @@ pub record SameFor (r : ℕ) (o p : Outcome) : Type 0 where
   pub value : o .value ≡ p .value
   pub buffer : o .buffer ≡ p .buffer
   pub called : o .called ≡ p .called
+  pub sheet : o .sheet ≡ p .sheet
   pub rows : (i : ℕ) → has r i ≡ true → rowBytes (o .table) i ≡ rowBytes (p .table) i
 
 unfoldable pub UnansweredHaveNoPart : Type 0
@@ -154,35 +160,37 @@ EmptyPassedOver = (p : Poll) (s : ℕ → Bool) (i : ℕ) → isEmpty (p .list i
 
 -- it "has no choice, so its calls work on R"
 unfoldable pub EmptyWorksOnR : Type 0
-EmptyWorksOnR = (kind : Kind) (order : List ℕ) (p : Poll) (c a : ℕ) (r : ℕ → Bool) → isEmpty (p .list c) ≡ true → workedOn kind order p c a r ≡ r
+EmptyWorksOnR = (kind : Kind) (f : Frame) (p : Poll) (c a : ℕ) (r : ℕ → Bool) → isEmpty (p .list c) ≡ true → workedOn kind f p c a r ≡ r
 
 -- "If S has only such rows, question 6 is answered no."
 unfoldable pub OnlyEmptyRefused : Type 0
-OnlyEmptyRefused = (kind : Kind) (order : List ℕ) (p : Poll) (s : ℕ → Bool) → ((i : ℕ) → s i ≡ true → isEmpty (p .list i) ≡ true) → quorumHeld kind order p s ≡ false
+OnlyEmptyRefused = (kind : Kind) (f : Frame) (p : Poll) (s : ℕ → Bool) → ((i : ℕ) → s i ≡ true → isEmpty (p .list i) ≡ true) → quorumHeld kind f p s ≡ false
 
 -- ---- joining
 -- what a done joining alters, byte for byte
 unfoldable pub JoinAlters : Type 0
-JoinAlters = (t : List ℕ) (a : Joining) → outcome t (join a) .refusal ≡ 0 → OneMore t (outcome t (join a) .table) (a .name)
+JoinAlters = (t : List ℕ) (a : Joining) → outcome t (join a) .refusal ≡ 0 → OneMore t (outcome t (join a) .table) (a .name) (a .county)
 
 -- "is linked in name order": the chain is the old one with the new row before the next higher name; and so every list of rows that were used before
 -- keeps its positions, quorums and choices
 pub record KeepsLists (t u : List ℕ) (x : ℕ) : Type 0 where
   pub order : orderOf u ≡ inserted (nameOf t) x (suc (usedOf t)) (orderOf t)
   pub positions : (l : Laid) → l .members < 2 ^ usedOf t → seats (orderOf u) (has (l .members)) ≡ seats (orderOf t) (has (l .members))
-  pub quorums : (l : Laid) → l .members < 2 ^ usedOf t → (kind : Kind) (s : ℕ → Bool) → listQuorum kind (orderOf u) l s ≡ listQuorum kind (orderOf t) l s
-  pub choices : (l : Laid) → l .members < 2 ^ usedOf t → (kind : Kind) (a i : ℕ) → listChoice kind (orderOf u) l a i ≡ listChoice kind (orderOf t) l a i
+  pub quorums : (l : Laid) → l .members < 2 ^ usedOf t → (kind : Kind) (s : ℕ → Bool) → listQuorum kind (frameOf u) l s ≡ listQuorum kind (frameOf t) l s
+  pub choices : (l : Laid) → l .members < 2 ^ usedOf t → (kind : Kind) (a i : ℕ) → listChoice kind (frameOf u) l a i ≡ listChoice kind (frameOf t) l a i
 
 unfoldable pub JoinKeepsLists : Type 0
 JoinKeepsLists = (t : List ℕ) (a : Joining) → outcome t (join a) .refusal ≡ 0 → KeepsLists t (outcome t (join a) .table) (a .name)
 
--- a joining sees header, names and links alone: two well-formed tables that are equal in these give it the same result, header, links and new row
+-- a joining sees header, names, links and counties alone: two well-formed tables that are equal in these give it the same result, header, links,
+-- counties and new row
 pub record JoinsAlike (t : List ℕ) (o p : Outcome) : Type 0 where
   pub refusal : o .refusal ≡ p .refusal
   pub value : o .value ≡ p .value
   pub header : take 16 (o .table) ≡ take 16 (p .table)
   pub names : (i : ℕ) → Within (usedOf (o .table)) i → nameOf (o .table) i ≡ nameOf (p .table) i
   pub links : (i : ℕ) → Within (usedOf (o .table)) i → linkOf (o .table) i ≡ linkOf (p .table) i
+  pub counties : (i : ℕ) → Within (usedOf (o .table)) i → countyOf (o .table) i ≡ countyOf (p .table) i
   pub new : o .refusal ≡ 0 → rowBytes (o .table) (suc (usedOf t)) ≡ rowBytes (p .table) (suc (usedOf t))
 
 unfoldable pub JoinSees : Type 0
@@ -227,6 +235,7 @@ pub record SameInFile (q : ℕ) (t : List ℕ) (o p : Outcome) : Type 0 where
   pub value : o .value ≡ p .value
   pub buffer : o .buffer ≡ p .buffer
   pub called : o .called ≡ p .called
+  pub sheet : o .sheet ≡ p .sheet
   pub copies : (i : ℕ) → Within (usedOf t) i → copyBytes (o .table) q i ≡ copyBytes (p .table) q i
 
 unfoldable pub OtherFilesHaveNoPart : Type 0

@@ -1,4 +1,3 @@
-pub mod Lists
 pub mod Polls
 pub mod Rows
 pub mod Calls

@@ -8,7 +8,7 @@ use Rattle.sets.specs.Sets.{cutTo}
 use Rattle.quorums.specs.declared.Kind.{Kind}
 use Rattle.fields.specs.declared.Laid.{Laid}
 use Rattle.fields.specs.Layout.{noList, isEmpty, epochOf, listOf, staleOf, versionOf, desiredOf}
-use Rattle.protocol.specs.Lists.{listQuorum, listChoice}
+use Rattle.counties.specs.Counties.{Frame, listQuorum, listChoice}
 
 -- "The state gathered by a poll is one value, with a place for each of the 64 rows."
 pub record Poll : Type 0 where
@@ -60,16 +60,16 @@ module _ (p : Poll) (s : ℕ → Bool) where
   unfoldable pub current : Bool
   current = some 64 good && not (some 64 (λ i. marked i && ltb goodVersion (p .desired i)))
 
--- ---- questions 6 and 7, and the set worked on, for a chain order and a poll
-module _ (kind : Kind) (order : List ℕ) (p : Poll) where
+-- ---- questions 6 and 7, and the set worked on, for what is known of all rows and a poll
+module _ (kind : Kind) (f : Frame) (p : Poll) where
   -- "does S hold a read quorum of V; write, check: a write quorum?"; "For an empty P the answer to question 6 is no", and "if S has only such
   -- rows" as have an empty list
   unfoldable pub quorumHeld : (ℕ → Bool) → Bool
-  quorumHeld s = some 64 (listed p s) && listQuorum kind order (inForce p s) s
+  quorumHeld s = some 64 (listed p s) && listQuorum kind f (inForce p s) s
 
   -- "P: c's own choice over c's own list, cut down to R", by c's name a
   unfoldable pub ownTry : ℕ → ℕ → (ℕ → Bool) → ℕ → Bool
-  ownTry c a r = cutTo (listChoice kind order (p .list c) a) r
+  ownTry c a r = cutTo (listChoice kind f (p .list c) a) r
 
   -- "If questions 6 and 7 are yes for P": then the call stays with P
   unfoldable pub stays : ℕ → ℕ → (ℕ → Bool) → Bool

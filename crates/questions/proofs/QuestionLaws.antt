@@ -12,10 +12,11 @@ use Rattle.bools.proofs.BoolLaws.{and-l, and-r, and-i, same-test}
 use Rattle.fields.specs.Layout.{usedOf, filesOf}
 use Rattle.table.specs.WellFormed.{onlyRows, wellFormed}
 use Rattle.asking.specs.Asking.{Question, firstNo, before}
+use Rattle.sheet.specs.Sheet.{sheetRight}
 use Rattle.quorums.specs.declared.Kind.{Kind}
-use Rattle.protocol.specs.Calls.{Call, questions, byCoordinator, isUsed, inGroup, inFile, calledBy, noted, fromSix, calledAfter, lent, outcome, resultOf}
+use Rattle.protocol.specs.Calls.{Call, questions, byCoordinator, isUsed, inGroup, inFile, calledBy, noted, fromSix, calledAfter, lent, outcome, resultOf, lentSheet}
 use Rattle.asking.proofs.AskingLaws.{yes-first, no-first, asked-more}
-use Rattle.protocol.proofs.QuestionLaws.{ByCoordinator, group-is, passed-first, early-is, refusal-is, called-is, when-refused}
+use Rattle.protocol.proofs.QuestionLaws.{ByCoordinator, group-is, passed-first, early-is, refusal-is, called-is, when-refused, afterThree}
 use Rattle.questions.specs.Stages.{toRange, Ranged, aRead, aWrite}
 
 pub range-test : (file offset count : ℕ) (b : Bool) → (b ≡ true → (1 ≤ count) × (offset + count ≤ file)) → (1 ≤ count → offset + count ≤ file → b ≡ true)
@@ -70,22 +71,22 @@ toFive t q c r offset count five =
     byCoordinator t c r (record { ask = 16; yes = inGroup t q } ∷ record { ask = 4; yes = inFile t offset count } ∷ record { ask = 5; yes = five } ∷ [])
 
 before-six : {k : Call} {kind : Kind} {q c r offset count : ℕ} {bytes : List ℕ} {five : Bool} (t : List ℕ) → Ranged k kind q c r offset count bytes five
-    → before 6 (questions t k) ≡ toFive t q c r offset count five
+    → firstNo (before 6 (questions t k)) ≡ firstNo (toFive t q c r offset count five)
 unfolding questions before
-before-six t aRead = early-is t _ _ _ 6 (omega arith)
-before-six t aWrite = early-is t _ _ _ 6 (omega arith)
+before-six t aRead = ap firstNo (early-is t _ _ _ 6 (omega arith))
+before-six t (aWrite {a} right) = no-first 1 (sheetRight (a .sheet)) (before 6 (byCoordinator t (a .c) (a .r) (afterThree t a))) right ∙ ap firstNo (early-is t (a .c) (a .r) (afterThree t a) 6 (omega arith))
 
 after-call : {k : Call} {kind : Kind} {q c r offset count : ℕ} {bytes : List ℕ} {five : Bool} (t : List ℕ) → Ranged k kind q c r offset count bytes five
     → calledAfter t k ≡ noted bytes (fromSix (questions t k) (calledBy kind t q c r))
 unfolding calledAfter
 after-call t aRead = refl
-after-call t aWrite = refl
+after-call t (aWrite right) = refl
 
 module _ {k : Call} {kind : Kind} {q c r offset count : ℕ} {bytes : List ℕ} {five : Bool} (t : List ℕ) (x : Ranged k kind q c r offset count bytes five) where
   -- the byte after the call, by the first no before 6
   noted-is : (n : ℕ) → firstNo (toFive t q c r offset count five) ≡ n → noted bytes (cond (eqb n 0) (calledBy kind t q c r) 0) ≡ outcome t k .called
   unfolding fromSix
-  noted-is n e = sym (called-is t k ∙ after-call t x ∙ ap (λ (m : ℕ). noted bytes (cond (eqb m 0) (calledBy kind t q c r) 0)) (ap firstNo (before-six t x) ∙ e))
+  noted-is n e = sym (called-is t k ∙ after-call t x ∙ ap (λ (m : ℕ). noted bytes (cond (eqb m 0) (calledBy kind t q c r) 0)) (before-six t x ∙ e))
 
   -- 0 where 1 to 4, 16 or 5 is no
   pub called-early : (n : ℕ) → n ≡ firstNo (toRange t q c r offset count) → 1 ≤ n → noted bytes 0 ≡ outcome t k .called
@@ -105,13 +106,14 @@ pub record Refused (t : List ℕ) (k : Call) (n : ℕ) : Type 0 where
   pub result : n * 2 ^ 32 + 0 ≡ resultOf (outcome t k)
   pub table : t ≡ outcome t k .table
   pub buffer : lent k ≡ outcome t k .buffer
+  pub sheet : lentSheet k ≡ outcome t k .sheet
 
 pub refused-is : (t : List ℕ) (k : Call) (n : ℕ) → firstNo (questions t k) ≡ n → 1 ≤ n → Refused t k n
 unfolding resultOf
 refused-is t k n e h =
     let r : outcome t k .refusal ≡ n = refusal-is t k ∙ e in
     let w = when-refused t k (λ z. omega arith) in
-    record { result = sym (ap₂ (λ (x y : ℕ). x * 2 ^ 32 + y) r (w .0)); table = sym (w .1); buffer = sym (w .2) }
+    record { result = sym (ap₂ (λ (x y : ℕ). x * 2 ^ 32 + y) r (w .0)); table = sym (w .1); buffer = sym (w .2); sheet = sym (w .3) }
 
 -- questions 6 and 7 by the first no among them, and what is asked after them
 pub no-in : (q k : Bool) (x n : ℕ) → n ≡ cond q (cond k 0 7) 6 → 1 ≤ n → cond q (cond k x 7) 6 ≡ n

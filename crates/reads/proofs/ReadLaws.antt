@@ -15,7 +15,7 @@ use Rattle.quorums.specs.declared.Kind.the-variants.{Read}
 use Rattle.bytes.specs.Bytes.{part}
 use Rattle.fields.specs.Layout.{usedOf, fileLengthOf, nameOf, copyBytes, contents, contentsOf}
 use Rattle.fields.proofs.FieldLaws.{copy-is}
-use Rattle.table.specs.Chain.{orderOf}
+use Rattle.table.specs.Chain.{frameOf}
 use Rattle.table.proofs.FormLaws.{formed}
 use Rattle.protocol.specs.Polls.{good, current, quorumHeld}
 use Rattle.asking.specs.Asking.{firstNo}
@@ -40,7 +40,7 @@ module _ (t : List ℕ) (a : Reading) where
   five = eqb (length (a .buffer)) (a .count) && eqb (length (a .called)) 1
 
   module _ (p : firstNo (toRange t (a .file) (a .c) (a .r) (a .offset) (a .count)) ≡ 0) where
-    after-four : firstNo (questions t (read a)) ≡ cond five (cond (quorumHeld Read (orderOf t) (answers t (a .file) (a .r)) (workSet Read t (a .file) (a .c) (a .r))) (cond (current (answers t (a .file) (a .r)) (workSet Read t (a .file) (a .c) (a .r))) 0 7) 6) 5
+    after-four : firstNo (questions t (read a)) ≡ cond five (cond (quorumHeld Read (frameOf t) (answers t (a .file) (a .r)) (workSet Read t (a .file) (a .c) (a .r))) (cond (current (answers t (a .file) (a .r)) (workSet Read t (a .file) (a .c) (a .r))) 0 7) 6) 5
     unfolding questions firstNo
     after-four = after-range t (a .c) (a .r) (a .file) (a .offset) (a .count) _ p
 
@@ -48,7 +48,7 @@ module _ (t : List ℕ) (a : Reading) where
     pub read-long : five ≡ false → Refused t (read a) 5
     read-long d =
         refused-is t (read a) 5
-        (after-four ∙ ap (λ (b : Bool). cond b (cond (quorumHeld Read (orderOf t) (answers t (a .file) (a .r)) (workSet Read t (a .file) (a .c) (a .r))) (cond (current (answers t (a .file) (a .r)) (workSet Read t (a .file) (a .c) (a .r))) 0 7) 6) 5) d)
+        (after-four ∙ ap (λ (b : Bool). cond b (cond (quorumHeld Read (frameOf t) (answers t (a .file) (a .r)) (workSet Read t (a .file) (a .c) (a .r))) (cond (current (answers t (a .file) (a .r)) (workSet Read t (a .file) (a .c) (a .r))) 0 7) 6) 5) d)
         (omega arith)
 
     module _ (l : five ≡ true) (v : Settled) (j : Works Read t (a .file) (a .c) (a .r) v) where
@@ -58,7 +58,7 @@ module _ (t : List ℕ) (a : Reading) where
       after-poll : firstNo (questions t (read a)) ≡ v .refusal
       after-poll =
           after-four
-          ∙ ap (λ (b : Bool). cond b (cond (quorumHeld Read (orderOf t) (answers t (a .file) (a .r)) (workSet Read t (a .file) (a .c) (a .r))) (cond (current (answers t (a .file) (a .r)) (workSet Read t (a .file) (a .c) (a .r))) 0 7) 6) 5) l
+          ∙ ap (λ (b : Bool). cond b (cond (quorumHeld Read (frameOf t) (answers t (a .file) (a .r)) (workSet Read t (a .file) (a .c) (a .r))) (cond (current (answers t (a .file) (a .r)) (workSet Read t (a .file) (a .c) (a .r))) 0 7) 6) 5) l
           ∙ sym (j .refusal)
 
       -- refused by 6 or 7
@@ -75,7 +75,7 @@ module _ (t : List ℕ) (a : Reading) where
         source-used =
             let y = read-yes t a (after-poll ∙ z) in
             let g = lowest-good (answers t (a .file) (a .r)) (workSet Read t (a .file) (a .c) (a .r)) (y .current) in
-            rw good-is (has-within (usedOf t) (a .r) _ (y .first .rows) (worked-in Read (orderOf t) (answers t (a .file) (a .r)) (a .c) (nameOf t (a .c)) (has (a .r)) _ (g .1 .inside)))
+            rw good-is (has-within (usedOf t) (a .r) _ (y .first .rows) (worked-in Read (frameOf t) (answers t (a .file) (a .r)) (a .c) (nameOf t (a .c)) (has (a .r)) _ (g .1 .inside)))
 
         pub range-in : 588 + a .offset + length (a .buffer) ≤ length (copyBytes t (a .file) (lowest 64 (has (v .good .bits))))
         range-in =

@@ -13,13 +13,15 @@ use Rattle.blocks.specs.Blocks.{block}
 use Rattle.blocks.proofs.BlockLaws.{Altered, blocks-changed, alike}
 use Rattle.bytes.specs.Bytes.{bytesOf, part, zeros}
 use Rattle.bytes.proofs.ByteLaws.{length-zeros}
-use Rattle.fields.specs.Layout.{get, link, epoch, list, isEmpty, isTall, bodyLength, stride, copyLength, copyIn, copyBytes, filesOf, fileLengthOf, rowLength, rowsEnd, usedOf, nameOf, linkOf, listOf, rowBytes, withRows}
+use Rattle.fields.specs.Layout.{get, link, epoch, county, list, noList, isEmpty, isTall, bareRow, bodyLength, stride, copyLength, copyIn, copyBytes, filesOf, fileLengthOf, rowLength, rowsEnd, usedOf, nameOf, linkOf, listOf, countyOf, rowBytes, withRows}
+use Rattle.counties.specs.Marks.{markRight}
 use Rattle.table.specs.WellFormed.{wellFormed}
-use Rattle.fields.proofs.FieldLaws.{row-newest, zero-copies, blank-copy}
-use Rattle.table.proofs.FormLaws.{HeadFacts, CopyFacts, OneList, OneShape, Formed, formed, well-formed-of, rows-room, header-facts}
+use Rattle.fields.proofs.FieldLaws.{row-newest, blank-copy, zero-copies}
+use Rattle.table.proofs.FormLaws.{HeadFacts, CopyFacts, OneList, OneShape, Formed, formed, well-formed-of, rows-room, header-facts, blank-facts, empty-mark}
+use Rattle.table.proofs.CountyLaws.{county-at}
 use Rattle.table.proofs.TableLaws.{Changed, behind, like-length, many-rows}
-use Rattle.joining.proofs.RowLaws.{blank-facts, new-name, new-link, new-list, new-facts}
-use Rattle.protocol.proofs.FrameLaws.{same-form, Frame, frame-of, same-used, same-file, same-files, same-header, same-long, same-visits, same-rise, zero-stays}
+use Rattle.joining.proofs.RowLaws.{new-name, new-link, new-county, new-facts, new-blank}
+use Rattle.protocol.proofs.FrameLaws.{same-form, SameFrame, frame-of, same-used, same-file, same-files, same-header, same-long, same-visits, same-rise, zero-stays}
 use Rattle.protocol.specs.Claims.{EqualIn}
 use Rattle.protocol.proofs.Unanswered.{header, used-same, file-same, unanswered-have-no-part, files-same, widths, lengths, ends, rest, drop-more}
 use Rattle.protocol.specs.Claims.{UnansweredHaveNoPart}
@@ -42,7 +44,7 @@ module _ (t : List ℕ) (r : ℕ) (e : wellFormed t ≡ true) where
   link-small i u = let h = header-facts t (w .header) in omega (arith, facts i u .linked, h .used, h .capacity)
 
   long : (i : ℕ) → length (blankRow body (rowBytes t i)) ≡ rowLength t
-  unfolding blankRow body stride bytesOf zeros
+  unfolding blankRow bareRow body stride bytesOf zeros
   long i = simp length-zeros (omega arith) ∙ sym (row-newest t (w .newest))
 
   -- the rows outside R are blank, and nothing else is altered
@@ -50,9 +52,13 @@ module _ (t : List ℕ) (r : ℕ) (e : wellFormed t ≡ true) where
   unfolding blanked out body
   change = many-rows t out (λ i. blankRow body) (usedOf t) (rows-room t w) (λ i u m. long i)
 
-  frame : Frame t (blanked r t)
+  frame : SameFrame t (blanked r t)
   unfolding blankRow
-  frame = frame-of change (λ i u m. new-name _ _ body (facts i u .named) (link-small i u)) (λ i u m. new-link _ _ body (facts i u .named) (link-small i u))
+  frame = frame-of change (λ i u m. record {
+    name = new-name _ _ _ body (facts i u .named) (link-small i u) (facts i u .county);
+    link = new-link _ _ _ body (facts i u .named) (link-small i u) (facts i u .county);
+    county = new-county _ _ _ body (facts i u .named) (link-small i u) (facts i u .county);
+  })
 
   kept : (i : ℕ) → Within (usedOf t) i → has r i ≡ true → rowBytes (blanked r t) i ≡ rowBytes t i
   unfolding out
@@ -63,17 +69,21 @@ module _ (t : List ℕ) (r : ℕ) (e : wellFormed t ≡ true) where
   blank i u m = change .rows i u ∙ rw m
 
   blank-copies : (i q : ℕ) → Within (filesOf t) q → copyIn (fileLengthOf t) q (blankRow body (rowBytes t i)) ≡ zeros (copyLength (fileLengthOf t))
-  unfolding blankRow body bytesOf zeros
+  unfolding blankRow bareRow body bytesOf zeros
   blank-copies i q v = zero-copies (filesOf t) (fileLengthOf t) (blankRow body (rowBytes t i)) refl q v
+
+  blank-list : (i : ℕ) → list (blankRow body (rowBytes t i)) ≡ noList
+  unfolding blankRow body
+  blank-list i = new-blank _ _ _ (filesOf t) (fileLengthOf t) .list
 
   -- a row with a list is one of R
   listed : (i : ℕ) → Within (usedOf t) i → isEmpty (list (rowBytes (blanked r t) i)) ≡ false → rowBytes (blanked r t) i ≡ rowBytes t i
-  unfolding blankRow
+  unfolding isEmpty noList
   listed i u f = go (has r i) refl
     where
       go : (b : Bool) → has r i ≡ b → rowBytes (blanked r t) i ≡ rowBytes t i
       go true m = kept i u m
-      go false m = absurd (clash (sym f ∙ ap (λ (x : List ℕ). isEmpty (list x)) (blank i u m) ∙ new-list _ _ body (facts i u .named) (link-small i u)))
+      go false m = absurd (clash (sym f ∙ ap (λ (x : List ℕ). isEmpty (list x)) (blank i u m) ∙ ap isEmpty (blank-list i)))
 
   row-facts : (i : ℕ) → Within (usedOf t) i → HeadFacts (usedOf t) i (rowBytes (blanked r t) i)
   unfolding blankRow
@@ -81,7 +91,7 @@ module _ (t : List ℕ) (r : ℕ) (e : wellFormed t ≡ true) where
     where
       go : (b : Bool) → has r i ≡ b → HeadFacts (usedOf t) i (rowBytes (blanked r t) i)
       go true m = rw (kept i u m) (facts i u)
-      go false m = rw (blank i u m) (new-facts _ _ body (facts i u .named) (link-small i u) (usedOf t) i (facts i u .linked))
+      go false m = rw (blank i u m) (new-facts _ _ _ body (facts i u .named) (link-small i u) (facts i u .county) (usedOf t) i (facts i u .linked))
 
   -- a blank row's copies say nothing
   copy-facts : (i q : ℕ) → Within (usedOf t) i → Within (filesOf t) q → CopyFacts (fileLengthOf t) (copyBytes (blanked r t) q i)
@@ -97,6 +107,15 @@ module _ (t : List ℕ) (r : ℕ) (e : wellFormed t ≡ true) where
       let x = listed i u a in
       let y = listed j v b in
       ap list x ∙ w .agree i j u v (rw x at a) (rw y at b) (ap (get epoch) (sym x) ∙ q ∙ ap (get epoch) y) ∙ sym (ap list y)
+
+  -- an empty list has mark 0
+  marks : (i : ℕ) → Within (usedOf t) i → markRight (countyOf t) (listOf (blanked r t) i) ≡ true
+  unfolding listOf isEmpty noList
+  marks i u = go (has r i) refl
+    where
+      go : (b : Bool) → has r i ≡ b → markRight (countyOf t) (list (rowBytes (blanked r t) i)) ≡ true
+      go true m = rw (kept i u m) (w .marks i u)
+      go false m = rw (blank i u m, blank-list i) (empty-mark (countyOf t) noList refl)
 
   shape : OneShape (blanked r t) (usedOf t)
   unfolding listOf
@@ -126,6 +145,7 @@ module _ (t : List ℕ) (r : ℕ) (e : wellFormed t ≡ true) where
     rise = same-rise frame ∙ w .rise;
     zero = zero-stays change refl (same-used frame) ∙ w .zero;
     agree = rw (same-used frame) agree;
+    marks = rw (same-used frame, frame .counties) marks;
     shape = rw (same-used frame) shape;
   }
 
@@ -137,19 +157,22 @@ blanked-equal t r e = record {
   header = sym (frame t r e .like .header 0 16 (omega arith));
   names = λ i u. ap (λ (f : ℕ → ℕ). f i) (sym (frame t r e .names));
   links = λ i u. ap (λ (f : ℕ → ℕ). f i) (sym (frame t r e .links));
+  counties = λ i u. ap (λ (f : ℕ → ℕ). f i) (sym (frame t r e .counties));
   rows = answered t r e;
 }
 
 pub others-blank : OthersBlank
 unfolding OthersBlank blankRow body nameOf linkOf
-others-blank t r i e u m = blank t r e i u m
+others-blank t r i e u m = rw (county-at t i u) (blank t r e i u m)
 
 -- ---- two tables that are equal in R
 module _ {r : ℕ} {t u : List ℕ} (E : EqualIn r t u) where
   row-alike : (i : ℕ) → Within (usedOf t) i → (b : Bool) → has r i ≡ b → rowBytes (blanked r u) i ≡ cond (not b) (blankRow (bodyLength (filesOf t) (fileLengthOf t)) (rowBytes t i)) (rowBytes t i)
   unfolding body blankRow nameOf linkOf
   row-alike i w true m = kept u r (E .formed-too) i (rw (used-same E) w) m ∙ sym (E .rows i m)
-  row-alike i w false m = blank u r (E .formed-too) i (rw (used-same E) w) m ∙ rw (file-same E, files-same E, sym (E .names i w), sym (E .links i w))
+  row-alike i w false m =
+      let county : get county (rowBytes u i) ≡ get county (rowBytes t i) = sym (county-at u i (rw (used-same E) w)) ∙ sym (E .counties i w) ∙ county-at t i w in
+      blank u r (E .formed-too) i (rw (used-same E) w) m ∙ rw (file-same E, files-same E, sym (E .names i w), sym (E .links i w), county)
 
   altered : Altered 16 (rowLength t) t (blanked r u) (usedOf t) (λ i. not (has r i)) (λ i. blankRow (bodyLength (filesOf t) (fileLengthOf t)))
   unfolding rowBytes rowsEnd

@@ -76,6 +76,7 @@ module _ (t : List ℕ) (e : wellFormed t ≡ true) where
         table = shipped-is r t (outcome (blanked r t) k .table) (outcome t k .table) (rows-room t (formed t e)) (only-answered k r a) (s .rows) j;
         buffer = sym (s .buffer) j;
         called = sym (s .called) j;
+        sheet = sym (s .sheet) j;
       }
 
   relayed-same : (k : Call) → relayed t k ≡ outcome t k

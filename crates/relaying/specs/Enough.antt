@@ -10,6 +10,7 @@ use Rattle.table.specs.WellFormed.{wellFormed}
 use Rattle.asking.specs.Asking.{firstNo, before}
 use Rattle.protocol.specs.Calls.{Reading, Writing, Call, read, write, questions, outcome, workSet}
 use Rattle.history.specs.Book.{Book, someHasAll}
+use Rattle.history.specs.Demand3.{shareNo}
 use Rattle.history.specs.Claims.{Reached}
 use Rattle.choices.specs.Choosing.{firstCalled, chosen}
 use Rattle.relaying.specs.Relaying.{blanked}
@@ -30,11 +31,11 @@ pub record AnswersWhole (t : List ℕ) (b : Book) (k : Call) (kind : Kind) (c r 
   pub current : someHasAll b (firstCalled kind t c) ≡ true
   pub passes : firstNo (before 6 (questions t k)) ≡ 0
 
--- it passes 6 and 7, works on that choice alone, and is done below the limit of writes
+-- it passes 6 and 7, works on that choice alone, and below the limit of writes is done, but for what the sheet says to a write
 pub record StaysWithChoice (t : List ℕ) (b : Book) (k : Call) (kind : Kind) (q c r : ℕ) : Type 0 where
-  pub passes : firstNo (before 8 (questions t k)) ≡ 0
+  pub passes : firstNo (before 18 (questions t k)) ≡ 0
   pub alone : workSet kind t q c r ≡ firstCalled kind t c
-  pub done : b .writes < 1_000_000 → outcome t k .refusal ≡ 0
+  pub done : b .writes < 1_000_000 → outcome t k .refusal ≡ shareNo k
 
 -- so a relay that calls its choice, and itself, calls enough
 unfoldable pub ChoiceEnough : Type 0

@@ -1,34 +1,33 @@
 -- A relay that holds only rows that answered, and the table that it puts together for a call.
 use mathlib.Core.Path.{_≡_}
 use mathlib.Core.Bool.{true, false, not}
-use mathlib.Core.List.{List, _++_}
+use mathlib.Core.List.{List}
 use Prim.Native.Nat.{ℕ}
 use Rattle.sets.specs.Upto.{Within}
 use Rattle.sets.specs.Sets.{has}
-use Rattle.bytes.specs.Bytes.{bytesOf, zeros}
-use Rattle.fields.specs.Layout.{get, name, link, bodyLength, fileLengthOf, filesOf, usedOf, nameOf, linkOf, rowBytes, withRows}
+use Rattle.fields.specs.Layout.{get, name, link, county, bareRow, bodyLength, fileLengthOf, filesOf, usedOf, nameOf, linkOf, countyOf, rowBytes, withRows}
 use Rattle.table.specs.WellFormed.{wellFormed}
 use Rattle.protocol.specs.Calls.{Call, outcome}
 use Rattle.protocol.specs.Claims.{Answering, EqualIn, SameFor}
 
--- a row of which only name and link are known, with so many bytes behind its head: "zero otherwise", its list empty
+-- a row of which only name, link and county are known, with so many bytes behind its head
 unfoldable pub blankRow : ℕ → List ℕ → List ℕ
-blankRow body row = bytesOf 2 (get name row) ++ (bytesOf 1 (get link row) ++ (zeros 29 ++ zeros body))
+blankRow body row = bareRow (get name row) (get link row) (get county row) body
 
 -- the table in which each used row outside R is such a row
 unfoldable pub blanked : ℕ → List ℕ → List ℕ
 blanked r t = withRows t (λ i. not (has r i)) (λ i. blankRow (bodyLength (filesOf t) (fileLengthOf t))) (usedOf t)
 
--- of a well-formed table it is well formed, with the same header, names, links and rows of R
+-- of a well-formed table it is well formed, with the same header, names, links, counties and rows of R
 unfoldable pub BlankedEqual : Type 0
 BlankedEqual = (t : List ℕ) (r : ℕ) → wellFormed t ≡ true → EqualIn r t (blanked r t)
 
--- and nothing of any other used row but its name and link
+-- and nothing of any other used row but its name, link and county
 unfoldable pub OthersBlank : Type 0
 OthersBlank = (t : List ℕ) (r i : ℕ) → wellFormed t ≡ true → Within (usedOf t) i → has r i ≡ false
-    → rowBytes (blanked r t) i ≡ bytesOf 2 (nameOf t i) ++ (bytesOf 1 (linkOf t i) ++ (zeros 29 ++ zeros (bodyLength (filesOf t) (fileLengthOf t))))
+    → rowBytes (blanked r t) i ≡ bareRow (nameOf t i) (linkOf t i) (countyOf t i) (bodyLength (filesOf t) (fileLengthOf t))
 
--- so it is put together from header, names, links and the rows of R: two tables that are equal in these give the same bytes
+-- so it is put together from header, names, links, counties and the rows of R: two tables that are equal in these give the same bytes
 unfoldable pub BlankedAlike : Type 0
 BlankedAlike = (t u : List ℕ) (r : ℕ) → EqualIn r t u → blanked r t ≡ blanked r u
 

@@ -15,7 +15,7 @@ shipped r u t = withRows t (has r) (λ i row. rowBytes u i) (usedOf t)
 
 -- a call with the answering set R: decided on the table put together, whose rows of R are then shipped
 unfoldable pub relayedBy : ℕ → List ℕ → Call → Outcome
-relayedBy r t k = let o = outcome (blanked r t) k in record { refusal = o .refusal; value = o .value; table = shipped r (o .table) t; buffer = o .buffer; called = o .called }
+relayedBy r t k = let o = outcome (blanked r t) k in record { refusal = o .refusal; value = o .value; table = shipped r (o .table) t; buffer = o .buffer; called = o .called; sheet = o .sheet }
 
 -- what a relay does of a call; founding and joining alter header, names and links, which every machine has: they are made on the whole table, and so
 -- is a move, which has no answering set

@@ -1,9 +1,9 @@
 -- Single calls on tables that no founding leads to, and foundings: what the histories do not reach.
 use mathlib.Core.Bool.{Bool, true, not, _&&_}
 use mathlib.Core.List.{List, [], _∷_, _++_}
-use Prim.Native.Nat.{ℕ, _+_, _-_, _*_}
+use Prim.Native.Nat.{ℕ, _+_, _-_, _*_, _/_}
 use lib.Dec.{eqb}
-use lib.ListN.{take}
+use lib.ListN.{length, take, replicate}
 use Rattle.sets.specs.Upto.{upward}
 use Rattle.bytes.specs.Bytes.{zeros}
 use Rattle.fields.specs.Layout.{Field, get, stride, mark, oldest, version, desired, epoch, members, records, rowBytes, copyBytes, contentsOf}
@@ -24,13 +24,17 @@ unfoldable pub twoBytes : List ℕ → List ℕ
 twoBytes [] = []
 twoBytes (x ∷ xs) = x ∷ 0 ∷ twoBytes xs
 
--- a founding on so many bytes
-unfoldable pub founds : (length capacity fileLength : ℕ) (names : List ℕ) (refusal value : ℕ) → Case
-founds length capacity fileLength names refusal value = On (zeros length) (fo capacity fileLength names 0 1) refusal value []
+-- a founding on so many bytes, all rows in county 1
+unfoldable pub founds : (size capacity fileLength : ℕ) (names : List ℕ) (refusal value : ℕ) → Case
+founds size capacity fileLength names refusal value = On (zeros size) (fo capacity fileLength names 0 1 (replicate (length names / 2) 1)) refusal value []
+
+-- a row's head from its list on: of rows 1 to 8, and in county 1
+unfoldable pub listed : (rows : ℕ) → List ℕ
+listed rows = (rows ∷ zeros 9) ++ (1 ∷ zeros 5)
 
 -- one used row, with a blank copy of each of so many files of one byte
 unfoldable pub grouped : (files : ℕ) → List ℕ
-grouped files = (4 ∷ 1 ∷ 1 ∷ 1 ∷ 1 ∷ 0 ∷ files ∷ zeros 9) ++ ((10 ∷ zeros 15) ++ ((1 ∷ zeros 15) ++ zeros (files * 589)))
+grouped files = (5 ∷ 1 ∷ 1 ∷ 1 ∷ 1 ∷ 0 ∷ files ∷ zeros 9) ++ ((10 ∷ zeros 15) ++ (listed 1 ++ zeros (files * 589)))
 
 -- where row 1's copy of file 2 starts
 unfoldable pub last : ℕ
@@ -135,10 +139,24 @@ cases =
     ∷ malformed (set (row2 + 24) 1 2 pair)
     ∷ formed (set (row1 + 24) 1 2 (unlisted 0))
     ∷ malformed (remarked 2 2 (unlisted 0))
+    -- counties; a list of two has mark 3 in a wide table and 2 in a tall one, whichever five it is, and no other list has mark 3
+    ∷ malformed (set (row2 + 26) 1 0 pair)
+    ∷ formed (set (row1 + 26) 1 8 (set (row2 + 16) 8 2 pair))
+    ∷ malformed (set (row2 + 26) 1 9 pair)
+    ∷ malformed (set (row2 + 26) 1 2 pair)
+    ∷ formed (set (row2 + 24) 1 3 (set (row2 + 26) 1 2 pair))
+    ∷ malformed (remarked 2 3 (set (row2 + 26) 1 2 pair))
+    ∷ malformed (set (row2 + 24) 1 3 pair)
+    ∷ formed (remarked 2 2 (set (row2 + 26) 1 2 pair))
+    ∷ malformed (set (row1 + 24) 1 2 (set (row2 + 24) 1 3 (set (row2 + 26) 1 2 pair)))
+    ∷ malformed (set (row2 + 26) 1 2 (full 5))
+    ∷ formed (remarked 5 3 (set (row2 + 26) 1 2 (full 5)))
+    ∷ malformed (remarked 5 0 (set (row2 + 26) 1 2 (full 5)))
     -- zeros of a row; its contents; an unused row
     ∷ malformed (set (row1 + 3) 1 1 pair)
     ∷ malformed (set (row1 + 11) 1 1 pair)
     ∷ malformed (set (row1 + 25) 1 1 pair)
+    ∷ malformed (set (row1 + 27) 1 1 pair)
     -- a copy's: the oldest record of an empty window, the two zeros
     ∷ malformed (set (row1 + 33) 1 1 pair)
     ∷ malformed (set (row1 + 34) 1 1 pair)
@@ -156,6 +174,7 @@ cases =
     ∷ On nobody (wr 1 3 0 (7 ∷ [])) 6 0 []
     ∷ On nobody (ck 1 3) 6 0 []
     -- ---- how many machines were called: the coordinator's own choice where the call stayed with P, also a P that is R, or lacks a row of the choice
+    ∷ Notes (full 5) (wr 1 31 0 (7 ∷ [])) 0 (4 ∷ [])
     ∷ Notes (full 5) (rd 4 12 0 1 (9 ∷ [])) 0 (2 ∷ [])
     ∷ Notes (full 5) (wr 2 31 0 (7 ∷ [])) 0 (3 ∷ [])
     -- all used rows where it went on to R: done, refused by 6, by a coordinator without a list
@@ -181,18 +200,25 @@ cases =
     ∷ On (remarked 5 0 (full 5)) (rd 1 27 0 1 (9 ∷ [])) 6 0 (9 ∷ [])
     ∷ On (remarked 5 0 (full 5)) (rd 1 7 0 1 (9 ∷ [])) 0 0 (0 ∷ [])
     ∷ On (outcome (remarked 5 0 (full 5)) (ck 1 31) .table) (rd 1 27 0 1 (9 ∷ [])) 6 0 (9 ∷ [])
-    -- ---- joining: 1, then 13 (name 0, above 65,535, in use), then 14
-    ∷ On pair (jn 15) 0 3 []
-    ∷ On pair (jn 1) 0 3 []
-    ∷ On pair (jn 65_535) 0 3 []
-    ∷ On pair (jn 0) 13 0 []
-    ∷ On pair (jn 65_536) 13 0 []
-    ∷ On pair (jn 20) 13 0 []
-    ∷ On (set 0 1 0 pair) (jn 0) 1 0 []
-    ∷ On (set 1 1 2 (take row3 pair)) (jn 10) 13 0 []
-    ∷ On (set 1 1 2 (take row3 pair)) (jn 15) 14 0 []
-    ∷ formed (outcome pair (jn 15) .table)
-    ∷ formed (outcome nobody (jn 1) .table)
+    -- ---- joining: 1, then 13 (name 0, above 65,535, in use), then 14, then 20
+    ∷ On pair (jn 15 1) 0 3 []
+    ∷ On pair (jn 1 1) 0 3 []
+    ∷ On pair (jn 65_535 1) 0 3 []
+    ∷ On pair (jn 0 1) 13 0 []
+    ∷ On pair (jn 65_536 1) 13 0 []
+    ∷ On pair (jn 20 1) 13 0 []
+    ∷ On (set 0 1 0 pair) (jn 0 1) 1 0 []
+    ∷ On (set 1 1 2 (take row3 pair)) (jn 10 1) 13 0 []
+    ∷ On (set 1 1 2 (take row3 pair)) (jn 15 1) 14 0 []
+    ∷ On pair (jn 15 8) 0 3 []
+    ∷ On pair (jn 15 0) 20 0 []
+    ∷ On pair (jn 15 9) 20 0 []
+    ∷ On pair (jn 15 4_294_967_297) 20 0 []
+    ∷ On pair (jn 0 0) 13 0 []
+    ∷ On (set 1 1 2 (take row3 pair)) (jn 15 0) 14 0 []
+    ∷ formed (outcome pair (jn 15 1) .table)
+    ∷ formed (outcome pair (jn 15 2) .table)
+    ∷ formed (outcome nobody (jn 1 1) .table)
     -- ---- question 8, of a write and of a check that changes the list; one that does not is done
     ∷ On (set (row1 + 36) 4 999_999 pair) (wr 1 1 0 (7 ∷ [])) 0 1_000_000 []
     ∷ On (set (row1 + 36) 4 1_000_000 pair) (wr 1 1 0 (7 ∷ [])) 8 0 []
@@ -226,10 +252,10 @@ cases =
     ∷ founds 636 1 1 (10 ∷ 0 ∷ []) 12 0
     ∷ founds 638 1 1 (10 ∷ 0 ∷ []) 12 0
     -- ---- 1 to 8 files
-    ∷ On (zeros 48) (fo 1 1 (10 ∷ 0 ∷ []) 0 0) 12 0 []
-    ∷ On (zeros 1_226) (fo 1 1 (10 ∷ 0 ∷ []) 0 2) 0 1 []
-    ∷ On (zeros 4_760) (fo 1 1 (10 ∷ 0 ∷ []) 0 8) 0 1 []
-    ∷ On (zeros 5_349) (fo 1 1 (10 ∷ 0 ∷ []) 0 9) 12 0 []
+    ∷ On (zeros 48) (fo 1 1 (10 ∷ 0 ∷ []) 0 0 (1 ∷ [])) 12 0 []
+    ∷ On (zeros 1_226) (fo 1 1 (10 ∷ 0 ∷ []) 0 2 (1 ∷ [])) 0 1 []
+    ∷ On (zeros 4_760) (fo 1 1 (10 ∷ 0 ∷ []) 0 8 (1 ∷ [])) 0 1 []
+    ∷ On (zeros 5_349) (fo 1 1 (10 ∷ 0 ∷ []) 0 9 (1 ∷ [])) 12 0 []
     -- ---- 16 after 3 and before 4, and before 9, by which a marked sender is refused; then nothing is noted
     ∷ On pair (wrq 0 2 3 9 (7 ∷ []) (0 ∷ [])) 16 0 []
     ∷ On pair (wrq 2 2 3 9 (7 ∷ []) (0 ∷ [])) 16 0 []
@@ -240,10 +266,16 @@ cases =
     ∷ On pair (snq 2 1 2 1) 3 0 []
     ∷ Notes pair (wrq 2 2 3 0 (7 ∷ []) (9 ∷ [])) 16 (0 ∷ [])
     -- ---- the choice is 0 or 1
-    ∷ On (zeros 637) (fo 1 1 (10 ∷ 0 ∷ []) 1 1) 0 1 []
-    ∷ On (zeros 637) (fo 1 1 (10 ∷ 0 ∷ []) 2 1) 11 0 []
-    -- ---- 11 before 12
+    ∷ On (zeros 637) (fo 1 1 (10 ∷ 0 ∷ []) 1 1 (1 ∷ [])) 0 1 []
+    ∷ On (zeros 637) (fo 1 1 (10 ∷ 0 ∷ []) 2 1 (1 ∷ [])) 11 0 []
+    -- ---- 11 before 12, 12 before 20: a county outside 1 to 8, counties not as many as the names
     ∷ founds 0 0 0 [] 11 0
+    ∷ On (zeros 636) (fo 1 1 (10 ∷ 0 ∷ []) 0 1 []) 12 0 []
+    ∷ On (zeros 637) (fo 1 1 (10 ∷ 0 ∷ []) 0 1 []) 20 0 []
+    ∷ On (zeros 637) (fo 1 1 (10 ∷ 0 ∷ []) 0 1 (1 ∷ 1 ∷ [])) 20 0 []
+    ∷ On (zeros 637) (fo 1 1 (10 ∷ 0 ∷ []) 0 1 (0 ∷ [])) 20 0 []
+    ∷ On (zeros 637) (fo 1 1 (10 ∷ 0 ∷ []) 0 1 (9 ∷ [])) 20 0 []
+    ∷ On (zeros 637) (fo 1 1 (10 ∷ 0 ∷ []) 0 1 (8 ∷ [])) 0 1 []
     ∷ []
 
 -- ---- a table with every field of a copy changed, of a file of one byte: where the copy starts
@@ -257,9 +289,9 @@ other = touched (row2 + 32) (set (row2 + 12) 4 2 (set (row2 + 16) 8 2 pair))
 -- two rows and two files; and with every field of file 2 changed
 unfoldable pub doubled : List ℕ
 doubled =
-    (4 ∷ 2 ∷ 2 ∷ 1 ∷ 1 ∷ 0 ∷ 2 ∷ zeros 9)
-    ++ ((10 ∷ 0 ∷ 2 ∷ zeros 13) ++ ((3 ∷ zeros 15) ++ (zeros 1_178
-    ++ ((20 ∷ 0 ∷ zeros 14) ++ ((3 ∷ zeros 15) ++ zeros 1_178)))))
+    (5 ∷ 2 ∷ 2 ∷ 1 ∷ 1 ∷ 0 ∷ 2 ∷ zeros 9)
+    ++ ((10 ∷ 0 ∷ 2 ∷ zeros 13) ++ (listed 3 ++ (zeros 1_178
+    ++ ((20 ∷ 0 ∷ zeros 14) ++ (listed 3 ++ zeros 1_178)))))
 
 unfoldable pub elsewhere : List ℕ
 elsewhere = touched last (touched (last + stride 2 1) doubled)

@@ -1,5 +1,5 @@
--- All members but one of a list of four or more, as now laid, hold a write quorum, on a well-formed table.
-use mathlib.Core.Path.{_≡_, ap}
+-- All members but one of a list of four or more within one county, as now laid, hold a write quorum, on a well-formed table.
+use mathlib.Core.Path.{_≡_, _∙_, ap}
 use mathlib.Core.Bool.{Bool, true, _||_}
 use mathlib.Core.Logic.{_⊎_, inl, inr}
 use mathlib.Core.List.{List}
@@ -16,12 +16,15 @@ use Rattle.quorums.specs.Losses.{AllButOne, RoomBearsLoss}
 use Rattle.quorums.proofs.QuorumLaws.{position-within}
 use Rattle.quorums.proofs.LossLaws.{room-bears-loss}
 use Rattle.fields.specs.declared.Laid.{Laid}
-use Rattle.fields.specs.Layout.{usedOf}
-use Rattle.table.specs.Chain.{orderOf}
-use Rattle.protocol.specs.Lists.{laidNow, seats, atSeat, level, listQuorum}
+use Rattle.fields.specs.Layout.{usedOf, countyOf}
+use Rattle.table.specs.Chain.{orderOf, frameOf}
+use Rattle.counties.specs.Levels.{seats, atSeat, level}
+use Rattle.counties.specs.Counties.{listQuorum}
+use Rattle.counties.specs.Claims.{OneCounty, OneCountyMarks}
 use Rattle.seats.specs.Seats.{rowAt, Seated, EveryListIsSeated, ListBearsLoss}
 use Rattle.seats.proofs.SeatLaws.{every-list-is-seated}
-use Rattle.seats.proofs.HeldLaws.{at-seat}
+use Rattle.counties.proofs.LevelLaws.{at-seat}
+use Rattle.counties.proofs.OneCountyLaws.{one-county, one-county-marks}
 
 module _ (t : List ℕ) (p : ℕ → Bool) (S : Seated t p) (s : ℕ → Bool) (all : AllButOne p s) where
   -- who misses one member misses one position
@@ -45,7 +48,8 @@ module _ (t : List ℕ) (p : ℕ → Bool) (S : Seated t p) (s : ℕ → Bool) (
       let r = roomy tall (count 64 p) four in room-bears-loss (gridBy (newMark tall (count 64 p)) (count 64 p)) (count 64 p) (r .0) (r .1) (atSeat (seats (orderOf t) p) s) seats-missed
 
 pub list-bears-loss : ListBearsLoss
-unfolding ListBearsLoss EveryListIsSeated listQuorum laidNow
-list-bears-loss t e tall l now small four s all =
-    let mark : l .mark ≡ newMark tall (count 64 (has (l .members))) = ap (λ (x : Laid). x .mark) now in
-    rw mark (level-bears-loss t (has (l .members)) (every-list-is-seated t e (has (l .members)) (λ i. has-within (usedOf t) (l .members) i small)) s all tall four)
+unfolding ListBearsLoss EveryListIsSeated OneCounty OneCountyMarks listQuorum frameOf
+list-bears-loss t e tall l now small one four s all =
+    let mark : l .mark ≡ newMark tall (count 64 (has (l .members))) = ap (λ (x : Laid). x .mark) (now ∙ one-county-marks (countyOf t) l one .laid tall) in
+    one-county (frameOf t) (has (l .members)) one Write (l .mark) .quorum s
+    ∙ rw mark (level-bears-loss t (has (l .members)) (every-list-is-seated t e (has (l .members)) (λ i. has-within (usedOf t) (l .members) i small)) s all tall four)

@@ -13,7 +13,7 @@ use Rattle.table.specs.Chain.{orderOf}
 use Rattle.table.specs.WellFormed.{wellFormed}
 use Rattle.table.proofs.WellFormedLaws.{sized, few-rows}
 use Rattle.table.proofs.ChainLaws.{order-each, order-rises}
-use Rattle.protocol.specs.Lists.{seats}
+use Rattle.counties.specs.Levels.{seats}
 use Rattle.seats.specs.Seats.{rowAt, EveryListIsSeated}
 use Rattle.table.proofs.RisingLaws.{order-within}
 use Rattle.sets.proofs.CountLaws.{count-to}

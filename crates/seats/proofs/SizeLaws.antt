@@ -1,5 +1,5 @@
--- A choice over a list has as many rows as it has positions, on a well-formed table.
-use mathlib.Core.Path.{_≡_, refl, sym, _∙_, subst, fun-ext}
+-- A choice over a list within one county has as many rows as it has positions, on a well-formed table.
+use mathlib.Core.Path.{_≡_, refl, sym, _∙_, ap, subst, fun-ext}
 use mathlib.Core.Bool.{Bool, true, false, not, _&&_}
 use mathlib.Core.List.{List}
 use Prim.Native.Nat.{ℕ, _≤_}
@@ -21,13 +21,16 @@ use Rattle.quorums.specs.Quorums.{choice}
 use Rattle.quorums.specs.ChoiceSizes.{ChoicesSized, GridChoiceSizes}
 use Rattle.quorums.proofs.ChoiceLaws.{grid-choice-sizes}
 use Rattle.fields.specs.Layout.{isEmpty, usedOf}
-use Rattle.table.specs.Chain.{orderOf}
+use Rattle.table.specs.Chain.{orderOf, frameOf}
 use Rattle.table.specs.WellFormed.{wellFormed}
 use Rattle.table.proofs.WellFormedLaws.{sized, few-rows}
-use Rattle.protocol.specs.Lists.{seats, atSeat, levelChoice, listChoice}
+use Rattle.counties.specs.Levels.{seats, atSeat, levelChoice}
+use Rattle.counties.specs.Counties.{listChoice}
+use Rattle.counties.specs.Claims.{OneCounty}
 use Rattle.seats.specs.Seats.{rowAt, Seated, EveryListIsSeated, ChoiceSizes}
 use Rattle.seats.proofs.SeatLaws.{every-list-is-seated}
-use Rattle.seats.proofs.HeldLaws.{chosen-at}
+use Rattle.counties.proofs.LevelLaws.{chosen-at}
+use Rattle.counties.proofs.OneCountyLaws.{one-county}
 
 module _ (t : List ℕ) (e : wellFormed t ≡ true) (p : ℕ → Bool) (used : (i : ℕ) → p i ≡ true → Within (usedOf t) i) where
   S : Seated t p
@@ -56,8 +59,10 @@ module _ (t : List ℕ) (e : wellFormed t ≡ true) (p : ℕ → Bool) (used : (
       N = count 64 p
 
 pub choice-sizes : ChoiceSizes
-unfolding ChoiceSizes isEmpty listChoice
-choice-sizes t e l small full = level-sizes t e (has (l .members)) (λ i. has-within (usedOf t) (l .members) i small) one (l .mark)
+unfolding ChoiceSizes OneCounty isEmpty listChoice frameOf
+choice-sizes t e l small county full =
+    subst (ChoicesSized (gridBy (l .mark) (count 64 (has (l .members))))) (fun-ext (λ kind. fun-ext (λ a. ap (count 64) (fun-ext (λ i. sym (one-county (frameOf t) (has (l .members)) county kind (l .mark) .choice a i))))))
+    (level-sizes t e (has (l .members)) (λ i. has-within (usedOf t) (l .members) i small) one (l .mark))
   where
     some-member : some 64 (has (l .members)) ≡ true
     some-member = go (some 64 (has (l .members))) (sym (empty-is (l .members) (omega (arith, pow-mono (few-rows (sized e))))) ∙ full)

@@ -5,12 +5,13 @@ use mathlib.Core.Logic.{⊎-elim}
 use Prim.Native.Nat.{ℕ, zero, suc, _+_, _≤_, _<_}
 use native.Mathlib.Decide.{decLe}
 use native.Mathlib.Omega.{arith}
-use lib.Dec.{eqb}
-use borrow.Author.Tests.{eq-eqb, ne-eqb}
+use lib.Dec.{eqb, leb}
+use borrow.Author.Tests.{eq-eqb, ne-eqb, le-leb, leb-true}
 use Rattle.bools.proofs.BoolLaws.{and-l, and-r, same-test, clash}
-use Rattle.sets.specs.Upto.{Within, count}
+use Rattle.sets.specs.Upto.{Within, some, count}
 use Rattle.sets.specs.Sets.{losing}
-use Rattle.sets.proofs.UptoLaws.{last, count-ext}
+use Rattle.sets.proofs.UptoLaws.{last, some-at, count-ext}
+use Rattle.sets.proofs.TestLaws.{none-at}
 
 pub count-to : (m : ℕ) (p : ℕ → Bool) → ((i : ℕ) → m < i → p i ≡ false) → (n : ℕ) → m ≤ n → count n p ≡ count m p
 unfolding count
@@ -43,6 +44,20 @@ count-one (suc n) p i w h = ⊎-elim
     (λ (e : i ≡ suc n). let here : p (suc n) ≡ true = rw e at h in rw here (omega arith))
     (λ (v : Within n i). omega (arith, count-one n p i v h))
     (last n i w)
+
+-- one passes exactly where one counts
+pub some-count : (n : ℕ) (p : ℕ → Bool) → some n p ≡ leb 1 (count n p)
+unfolding count
+some-count n p = same-test _ _
+    (λ e. let r = some-at n p e in le-leb 1 (count n p) (count-one n p (r .0) (r .1) (r .2)))
+    (λ e. go (some n p) refl (leb-true 1 (count n p) e))
+  where
+    go : (b : Bool) → some n p ≡ b → 1 ≤ count n p → b ≡ true
+    go true e h = refl
+    go false e h = absurd (omega (arith, count-ext n p (λ i. false) (none-at n p e), count-to 0 (λ i. false) (λ i l. refl) n (omega arith)))
+
+pub count-some : (n : ℕ) (p : ℕ → Bool) → 1 ≤ count n p → (i : ℕ) × Within n i × (p i ≡ true)
+count-some n p one = some-at n p (some-count n p ∙ le-leb 1 (count n p) one)
 
 pub count-all : (n : ℕ) → count n (λ i. true) ≡ n
 unfolding count

@@ -3,13 +3,13 @@ use mathlib.Core.Path.{_≡_, refl, sym, _∙_, ap}
 use mathlib.Core.Bool.{Bool, true, false, cond, _||_, or-false}
 use mathlib.Core.Logic.{⊎-elim}
 use mathlib.Core.List.{List, [], _∷_}
-use Prim.Native.Nat.{ℕ, zero, suc, _≤_}
+use Prim.Native.Nat.{ℕ, zero, suc}
 use native.Mathlib.Decide.{ℕ-discrete}
 use native.Mathlib.Omega.{arith}
 use lib.Dec.{eqb}
 use lib.ListN.{length}
-use borrow.Author.Tests.{eqb-true, ne-eqb}
-use Rattle.bools.proofs.BoolLaws.{clash, or-l}
+use borrow.Author.Tests.{eqb-true}
+use Rattle.bools.proofs.BoolLaws.{clash}
 use Rattle.sets.specs.Upto.{Within, among}
 use Rattle.sets.proofs.RisingLaws.{among-tail, among-head, among-e}
 

@@ -15,7 +15,8 @@ ghost use Rattle.sets.specs.Sets.{has};
 ghost use Rattle.fields.specs.Layout.{isEmpty, usedOf, filesOf};
 ghost use Rattle.table.specs.WellFormed.{wellFormed};
 ghost use Rattle.table.specs.Contracts.{Listed, Ordered};
-ghost use Rattle.protocol.specs.Lists.{listQuorum};
+ghost use Rattle.counties.specs.Counties.{listQuorum};
+ghost use Rattle.grouping.specs.Grouped.{Apart, frameBy};
 ghost use Rattle.settle.specs.Works.{Works};
 
 // The set that a call works on: the first no among questions 6 and 7 (0: none), its good rows and their version, and how many machines were called.
@@ -48,11 +49,26 @@ fn on_try(tried: RowSet, part: Verdict, chosen: RowSet) -> Settled
 }
 
 // All rows that answered are worked on, with what questions 6 and 7 say of them: every used row was called.
-fn on_all(kind: Kind, order: &[u8; 64], count: usize, answering: RowSet, whole: Verdict) -> Settled
-    requires { ⌜ Listed count (now order) count ⌝ }
-    ensures { λ r. ⌜ r ≡ record { rows = answering; refusal = cond (not (isEmpty (whole .list)) && listQuorum kind (take count (now (order .entry))) (whole .list) (has (answering .bits))) (cond (whole .current) 0 7) 6; good = whole .good; version = whole .version; called = count } ⌝ }
+fn on_all(
+    kind: Kind,
+    order: &[u8; 64],
+    count: usize,
+    sets: &[u64; 8],
+    answering: RowSet,
+    whole: Verdict,
+) -> Settled
+    requires { ⌜ Listed count (now order) count × Apart (now sets) ⌝ }
+    ensures { λ r. ⌜ r ≡ record { rows = answering; refusal = cond (not (isEmpty (whole .list)) && listQuorum kind (frameBy (take count (now (order .entry))) (now (sets .entry))) (whole .list) (has (answering .bits))) (cond (whole .current) 0 7) 6; good = whole .good; version = whole .version; called = count } ⌝ }
 {
-    let no = asked(kind, order, count, whole.list, answering, whole.current);
+    let no = asked(
+        kind,
+        order,
+        count,
+        sets,
+        whole.list,
+        answering,
+        whole.current,
+    );
     settled_on(answering, no, whole, count as u8)
 }
 
@@ -72,7 +88,8 @@ pub fn settle(
     let count = header::used(t);
     let row = table::row_of(t, c);
     let own = fields::list(row);
-    let chosen = lists::choice(kind, order, count, own, fields::name(row));
+    let sets = grouping::group(t);
+    let chosen = tiers::choice(kind, order, count, &sets, own, fields::name(row));
     let tried = chosen.cut(answering);
     // pointer and length of the table, each by itself: loaded as one, they would wait until the stores of the caller are done
     let lent = &t[0..t.len()];
@@ -82,13 +99,20 @@ pub fn settle(
         if both(tried.bits == chosen.bits, part.list.same(own)) {
             return on_try(tried, part, chosen);
         }
-        if quorum_held(kind, order, count, part.list, tried) {
+        if quorum_held(kind, order, count, &sets, part.list, tried) {
             return on_try(tried, part, chosen);
         }
     }
     if tried.bits == answering.bits {
         // P is all that answered: it is not polled again
-        return on_all(kind, order, count, answering, part);
+        return on_all(kind, order, count, &sets, answering, part);
     }
-    on_all(kind, order, count, answering, judged(lent, q, answering))
+    on_all(
+        kind,
+        order,
+        count,
+        &sets,
+        answering,
+        judged(lent, q, answering),
+    )
 }

@@ -13,8 +13,8 @@ use Rattle.quorums.specs.declared.Kind.{Kind}
 use Rattle.fields.specs.declared.Laid.{Laid}
 use Rattle.fields.specs.Layout.{noList, isEmpty, listOf}
 use Rattle.fields.proofs.FieldLaws.{no-row-no-list}
-use Rattle.table.specs.Chain.{orderOf}
-use Rattle.protocol.specs.Lists.{listQuorum}
+use Rattle.table.specs.Chain.{frameOf}
+use Rattle.counties.specs.Counties.{Frame, listQuorum}
 use Rattle.protocol.specs.Polls.{polled, listed, highestEpoch, inForce, current, quorumHeld}
 use Rattle.protocol.specs.Calls.{answers}
 use Rattle.protocol.proofs.PollLaws.{listed-at, lead-none, held-list, Agree, listed-same, epoch-same, list-same, good-same, version-same, current-same}
@@ -73,13 +73,13 @@ module _ (t : List ℕ) (q r s : ℕ) (sub : (i : ℕ) → has s i ≡ true → 
       list-is false none = lead-none _ (has s) none ∙ sym (lead-none _ (has s) (rw (← listed-same _ _ (has s) same) none))
 
   -- questions 6 and 7 are asked of it
-  module _ (kind : Kind) (order : List ℕ) (v : Verdict) (eo : order ≡ orderOf t) (y : Judged (answers t q r) (has s) v) where
-    pub six-is : (not (isEmpty (v .list)) && listQuorum kind order (v .list) (has s)) ≡ quorumHeld kind (orderOf t) (answers t q r) (has s)
+  module _ (kind : Kind) (frame : Frame) (v : Verdict) (ef : frame ≡ frameOf t) (y : Judged (answers t q r) (has s) v) where
+    pub six-is : (not (isEmpty (v .list)) && listQuorum kind frame (v .list) (has s)) ≡ quorumHeld kind (frameOf t) (answers t q r) (has s)
     unfolding quorumHeld
     six-is =
-        ap₂ (λ (o : List ℕ) (l : Laid). not (isEmpty l) && listQuorum kind o l (has s)) eo (y .list)
-        ∙ ap (λ (b : Bool). b && listQuorum kind (orderOf t) (inForce (answers t q r) (has s)) (has s)) (sym (held-list (answers t q r) (has s) no-place))
+        ap₂ (λ (f : Frame) (l : Laid). not (isEmpty l) && listQuorum kind f l (has s)) ef (y .list)
+        ∙ ap (λ (b : Bool). b && listQuorum kind (frameOf t) (inForce (answers t q r) (has s)) (has s)) (sym (held-list (answers t q r) (has s) no-place))
 
-    pub verdict-is : (n : ℕ) → n ≡ cond (not (isEmpty (v .list)) && listQuorum kind order (v .list) (has s)) (cond (v .current) 0 7) 6
-        → n ≡ cond (quorumHeld kind (orderOf t) (answers t q r) (has s)) (cond (current (answers t q r) (has s)) 0 7) 6
+    pub verdict-is : (n : ℕ) → n ≡ cond (not (isEmpty (v .list)) && listQuorum kind frame (v .list) (has s)) (cond (v .current) 0 7) 6
+        → n ≡ cond (quorumHeld kind (frameOf t) (answers t q r) (has s)) (cond (current (answers t q r) (has s)) 0 7) 6
     verdict-is n en = en ∙ ap₂ (λ (b x : Bool). cond b (cond x 0 7) 6) six-is (y .current)

@@ -1,8 +1,9 @@
 -- What a poll says of a set, as the code finds it.
-use mathlib.Core.Path.{_≡_, refl, _∙_, ap, ap₂}
-use mathlib.Core.Bool.{Bool, true, false, not, _&&_}
+use mathlib.Core.Path.{_≡_, _∙_, ap, ap₂}
+use mathlib.Core.Bool.{Bool, not, _&&_}
 use Prim.Native.Nat.{ℕ}
 use lib.Dec.{eqb, ltb}
+use Rattle.bools.proofs.BoolLaws.{not-not}
 use Rattle.sets.specs.Upto.{some, most}
 use Rattle.sets.specs.Sets.{has, cutTo, leftOf}
 use Rattle.protocol.specs.Polls.{Poll, unmarked, marked, goodVersion, good, current}
@@ -11,10 +12,6 @@ use Rattle.polls.specs.Shows.{Shows}
 use Rattle.places.specs.declared.Top.{Top}
 use Rattle.places.specs.Places.{placed, Tops}
 use Rattle.verdicts.specs.Judged.{Tallied}
-
-not-not : (b : Bool) → not (not b) ≡ b
-not-not true = refl
-not-not false = refl
 
 module _ (q : code.Poll) (p : Poll) (shown : Shows q p) (s : ℕ → Bool) where
   unmarked-is : leftOf s (has (q .stale .bits)) ≡ unmarked p s

@@ -13,7 +13,8 @@ ghost use Rattle.sets.specs.Sets.{has};
 ghost use Rattle.rows.specs.declared.RowSet.{RowSet};
 ghost use Rattle.fields.specs.Layout.{isEmpty, formValue, formOf, usedOf, filesOf, listOf};
 ghost use Rattle.table.specs.Contracts.{Sized, Listed};
-ghost use Rattle.protocol.specs.Lists.{listQuorum};
+ghost use Rattle.counties.specs.Counties.{listQuorum};
+ghost use Rattle.grouping.specs.Grouped.{Apart, frameBy};
 ghost use Rattle.protocol.specs.Polls.{Poll};
 ghost use Rattle.protocol.specs.Calls.{answers};
 ghost use Rattle.places.specs.Places.{placed};
@@ -135,14 +136,21 @@ pub fn tallied(t: &[u8], q: usize, s: RowSet) -> Tally
 }
 
 // Question 6: does a set hold a quorum of a list? Of an empty one none does.
-pub fn quorum_held(kind: Kind, order: &[u8; 64], count: usize, list: Laid, s: RowSet) -> bool
-    requires { ⌜ Listed count (now order) count ⌝ }
-    ensures { λ r. ⌜ r ≡ (not (isEmpty list) && listQuorum kind (take count (now (order .entry))) list (has (s .bits))) ⌝ }
+pub fn quorum_held(
+    kind: Kind,
+    order: &[u8; 64],
+    count: usize,
+    sets: &[u64; 8],
+    list: Laid,
+    s: RowSet,
+) -> bool
+    requires { ⌜ Listed count (now order) count × Apart (now sets) ⌝ }
+    ensures { λ r. ⌜ r ≡ (not (isEmpty list) && listQuorum kind (frameBy (take count (now (order .entry))) (now (sets .entry))) list (has (s .bits))) ⌝ }
 {
     if list.is_empty() {
         return false;
     }
-    lists::quorum(kind, order, count, list, s)
+    tiers::quorum(kind, order, count, sets, list, s)
 }
 
 // Questions 6 and 7 of a set, by the list in force and by whether the set is current: the first no, 0 where there is none.
@@ -150,14 +158,15 @@ pub fn asked(
     kind: Kind,
     order: &[u8; 64],
     count: usize,
+    sets: &[u64; 8],
     list: Laid,
     s: RowSet,
     current: bool,
 ) -> u32
-    requires { ⌜ Listed count (now order) count ⌝ }
-    ensures { λ r. ⌜ r ≡ cond (not (isEmpty list) && listQuorum kind (take count (now (order .entry))) list (has (s .bits))) (cond current 0 7) 6 ⌝ }
+    requires { ⌜ Listed count (now order) count × Apart (now sets) ⌝ }
+    ensures { λ r. ⌜ r ≡ cond (not (isEmpty list) && listQuorum kind (frameBy (take count (now (order .entry))) (now (sets .entry))) list (has (s .bits))) (cond current 0 7) 6 ⌝ }
 {
-    if !quorum_held(kind, order, count, list, s) {
+    if !quorum_held(kind, order, count, sets, list, s) {
         return 6;
     }
     if current { 0 } else { 7 }

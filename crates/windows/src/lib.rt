@@ -189,7 +189,7 @@ fn tails_zero(k: usize, records: &[u8]) -> bool
 }
 
 // Is a window that has records right?
-fn records_right(file: usize, version: u32, oldest: usize, records: &[u8]) -> bool
+pub fn records_right(file: usize, version: u32, oldest: usize, records: &[u8]) -> bool
     requires { ⌜ (length (now records) ≡ 576) × (1 ≤ oldest) ⌝ }
     ensures { λ r. ⌜ r ≡ windowRight file version (window oldest (now (records .entry))) ⌝ }
 {
@@ -211,7 +211,7 @@ fn records_right(file: usize, version: u32, oldest: usize, records: &[u8]) -> bo
     tails_zero(k, records)
 }
 
-// Is a window right, for a file of so many bytes and a version? An empty one is looked through once, without a call: it is the common one.
+// Is a window right, for a file of so many bytes and a version?
 pub fn window_right(file: usize, version: u32, oldest: usize, records: &[u8]) -> bool
     requires { ⌜ length (now records) ≡ 576 ⌝ }
     ensures { λ r. ⌜ r ≡ windowRight file version (window oldest (now (records .entry))) ⌝ }

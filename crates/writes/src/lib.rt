@@ -1,4 +1,5 @@
 // A write: its questions in order, then what is done.
+use asking::result;
 use questions::Answered;
 use questions::answer_of;
 use questions::below_limit;
@@ -6,13 +7,17 @@ use questions::range_asked;
 use quorums::Kind;
 use rows::RowSet;
 ghost use mathlib.Core.Path.{_≡_};
-ghost use mathlib.Core.List.{List};
-ghost use Prim.Native.Nat.{ℕ};
-ghost use lib.Dec.{eqb};
+ghost use mathlib.Core.Bool.{true, cond};
+ghost use mathlib.Core.List.{List, []};
+ghost use Prim.Native.Nat.{ℕ, _^_, _<_};
+ghost use lib.Dec.{eqb, ltb};
 ghost use lib.ListN.{length};
+ghost use Rattle.sets.specs.Upto.{Within};
+ghost use Rattle.asking.specs.Asking.{firstNo};
+ghost use Rattle.sheet.specs.Sheet.{sheetRight, byClub, counted};
 ghost use Rattle.protocol.specs.Calls.{resultOf, outcome, write, noted};
 
-// A write, all but its note of how many machines were called: `fits` says whether one byte is lent for it.
+// A write by a right sheet, all but its notes: `fits` says whether one byte is lent for how many machines were called, `share` what the sheet says to the club.
 fn answer(
     t: &mut [u8],
     c: usize,
@@ -21,8 +26,9 @@ fn answer(
     patch: &[u8],
     fits: bool,
     q: usize,
+    share: u32,
 ) -> Answered
-    ensures { λ x. ⌜ ((called : List ℕ) → fits ≡ eqb (length called) 1 → (let o = outcome (now (t .entry)) (write (record { c = c; r = r; offset = offset; patch = now (patch .entry); called = called; file = q })) in (x .result ≡ resultOf o) × (now (t .exit) ≡ o .table) × (noted called (x .called) ≡ o .called))) ⌝ }
+    ensures { λ x. ⌜ ((called sheet : List ℕ) (club : ℕ) → fits ≡ eqb (length called) 1 → sheetRight sheet ≡ true → share ≡ firstNo (byClub sheet club []) → (let o = outcome (now (t .entry)) (write (record { c = c; r = r; offset = offset; patch = now (patch .entry); called = called; file = q; sheet = sheet; club = club })) in (x .result ≡ resultOf o) × (now (t .exit) ≡ o .table) × (noted called (x .called) ≡ o .called))) ⌝ }
 {
     let answering = RowSet { bits: r };
     let mut order = [0u8; 64];
@@ -37,6 +43,9 @@ fn answer(
     if s.refusal != 0 {
         return answer_of(s.refusal, 0, s.called);
     }
+    if share != 0 {
+        return answer_of(share, 0, s.called);
+    }
     if !below_limit(s.version) {
         return answer_of(8, 0, s.called);
     }
@@ -45,7 +54,18 @@ fn answer(
     answer_of(0, version, s.called)
 }
 
-// A write of a file: the patch goes to the good rows worked on, the others are marked, and how many machines were called is noted. Value: the new version.
+// A done write, whose result is below 2^32, is counted for its club.
+fn count_done(sheet: &mut [u8], club: u64, result: u64)
+    requires { ⌜ (result < 2 ^ 32 → (length (now sheet) ≡ 196) × Within 16 club) ⌝ }
+    ensures { λ x. ⌜ now (sheet .exit) ≡ cond (ltb result (2 ^ 32)) (counted (now (sheet .entry)) club) (now (sheet .entry)) ⌝ }
+{
+    if result < 0x1_0000_0000 {
+        sheets::count_one(sheet, club as usize);
+    }
+}
+
+// A write of a file for a club: the patch goes to the good rows worked on, the others are marked, how many machines were called is noted, and the club's count
+// grows. Value: the new version.
 pub fn write(
     t: &mut [u8],
     c: usize,
@@ -54,11 +74,19 @@ pub fn write(
     patch: &[u8],
     called: &mut [u8],
     file: u64,
+    sheet: &mut [u8],
+    club: u64,
 ) -> u64
-    ensures { λ x. ⌜ (let o = outcome (now (t .entry)) (write (record { c = c; r = r; offset = offset; patch = now (patch .entry); called = now (called .entry); file = file })) in (x ≡ resultOf o) × (now (t .exit) ≡ o .table) × (now (patch .exit) ≡ now (patch .entry)) × (now (called .exit) ≡ o .called)) ⌝ }
+    ensures { λ x. ⌜ (let o = outcome (now (t .entry)) (write (record { c = c; r = r; offset = offset; patch = now (patch .entry); called = now (called .entry); file = file; sheet = now (sheet .entry); club = club })) in (x ≡ resultOf o) × (now (t .exit) ≡ o .table) × (now (patch .exit) ≡ now (patch .entry)) × (now (called .exit) ≡ o .called) × (now (sheet .exit) ≡ o .sheet)) ⌝ }
 {
+    let told = sheets::look(sheet, club);
+    if !told.right {
+        questions::note(called, 0);
+        return result(1, 0);
+    }
     let fits = called.len() == 1;
-    let a = answer(t, c, r, offset, patch, fits, file as usize);
+    let a = answer(t, c, r, offset, patch, fits, file as usize, told.no);
     questions::note(called, a.called);
+    count_done(sheet, club, a.result);
     a.result
 }

@@ -70,7 +70,7 @@ returns c =
     let n = i .before .before in
     let l = n .before .before in
     let s = l .before .before .before in
-    admitted (s .pre .0) (s .pre .1) _ _ _ _ _ _ _ _ _ _ _ (l .row-length .ensures) (n .used .ensures) (i .first .ensures) (b .row-behind .ensures) (f .before .front .ensures)
+    admitted (s .pre .0) (s .pre .1) _ _ _ _ _ _ _ _ _ _ _ _ (l .row-length .ensures) (n .used .ensures) (i .first .ensures) (b .row-behind .ensures) (f .before .front .ensures)
     (a .add-row .ensures) (k .link-row .ensures) (u .set-used .ensures) (f .set-first .ensures)
 
 pub admit-spec : {M : Type 1} → statement M

@@ -9,12 +9,15 @@ set-name-requires c κs = search needs
 set-link-requires : tie.Need-set-link-requires
 set-link-requires c κs = search needs
 
+set-county-requires : tie.Need-set-county-requires
+set-county-requires c κs = search needs
+
 same-length : tie.Need-same-length
 same-length c = search needs
 
 returns : tie.Need-returns
 unfolding namedRow
-returns c = rw (c .before .before .set-link .ensures, c .before .before .before .before .before .before .set-name .ensures)
+returns c = rw (c .before .before .set-county .ensures, c .before .before .before .before .before .before .set-link .ensures, c .before .before .before .before .before .before .before .before .before .before .set-name .ensures)
 
 pub name-row-spec : {M : Type 1} → statement M
-name-row-spec = tie.close (tie.spec set-name-requires set-link-requires same-length returns)
+name-row-spec = tie.close (tie.spec set-name-requires set-link-requires set-county-requires same-length returns)

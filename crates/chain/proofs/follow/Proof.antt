@@ -15,44 +15,49 @@ use Rattle.chain.proofs.follow.Statement.{statement}
 use Rattle.chain.proofs.follow.Tie as tie
 
 abbrev Inv-loop : tie.InvT-loop
-Inv-loop t rows₀ used seen₀ low₀ count₀ next₀ rows seen low count next = Walked t rows₀ rows (has (seen .bits)) low count next
+Inv-loop t size rows₀ used seen₀ low₀ count₀ next₀ rows seen low count next = Walked t rows₀ rows (has (seen .bits)) low count next
 
 abbrev μ-loop : tie.MeasureT-loop
-μ-loop t rows₀ used seen₀ low₀ count₀ next₀ rows seen low count next = used - count
+μ-loop t size rows₀ used seen₀ low₀ count₀ next₀ rows seen low count next = used - count
 
 -- not all used rows are passed yet
-some-left : (c : tie.In-loop Inv-loop μ-loop) → c .before .loop .count < usedOf (c .before .before .before .before .before .before .args .t .now)
+some-left : (c : tie.In-loop Inv-loop μ-loop) → c .before .loop .count < usedOf (c .before .before .before .before .before .before .before .args .t .now)
 some-left c = omega (arith, c .loop-test .taken, c .before .before .before .used .ensures)
 
 -- the row at hand is a used one, and this is its name
 row-here : (c : tie.Else1 Inv-loop μ-loop) → let l = c .before .before .loop in
-    Within (usedOf (c .before .before .before .before .before .before .before .args .t .now)) (l .next)
+    Within (usedOf (c .before .before .before .before .before .before .before .before .args .t .now)) (l .next)
 row-here c = let l = c .before .before .loop in omega (arith, l .inv .on)
 
 name-here : (c : tie.After-name Inv-loop μ-loop) → let l = c .before .before .before .before in
-    c .name .result ≡ nameOf (l .before .before .before .before .before .args .t .now) (l .loop .next)
+    c .name .result ≡ nameOf (l .before .before .before .before .before .before .args .t .now) (l .loop .next)
 unfolding nameOf
-name-here c = c .name .ensures ∙ ap (get name) (c .before .row-of .ensures .0)
+name-here c = c .name .ensures ∙ ap (get name) (c .before .row-at .ensures .0)
+
+row-length-requires : tie.Need-row-length-requires Inv-loop μ-loop
+row-length-requires c κs = let p = c .before .pre .sized in (long p, p .header)
 
 used-requires : tie.Need-used-requires Inv-loop μ-loop
-used-requires c κs = long (c .before .before .pre .sized)
+used-requires c κs = long (c .before .before .before .pre .sized)
 
 first-requires : tie.Need-first-requires Inv-loop μ-loop
-first-requires c κs = long (c .before .before .before .pre .sized)
+first-requires c κs = long (c .before .before .before .before .pre .sized)
 
 loop-holds : tie.Need-loop-holds Inv-loop μ-loop
-loop-holds c = let r = c .before .before in walk-start (r .before .before .pre) _ _ (r .rows .given .0 .1) (c .first .ensures)
+loop-holds c = let r = c .before .before in walk-start (r .before .before .before .pre) _ _ (r .rows .given .0 .1) (c .first .ensures)
 
 returns : tie.Need-returns Inv-loop μ-loop
 returns c =
     let l = c .before .before in
     (walk-short (l .loop .inv) (c .if1 .taken) (some-left (c .before)), λ e. absurd (clash e), left-short (l .loop .inv) (c .if1 .taken))
 
-row-of-requires : tie.Need-row-of-requires Inv-loop μ-loop
-row-of-requires c κs = (c .before .before .before .before .before .before .before .pre .sized, row-here c)
+row-at-requires : tie.Need-row-at-requires Inv-loop μ-loop
+row-at-requires c κs =
+    let n = c .before .before .before .before .before .before in
+    (n .before .before .pre .sized, n .row-length .ensures, row-here c)
 
 name-requires : tie.Need-name-requires Inv-loop μ-loop
-name-requires c κs = c .row-of .ensures .1
+name-requires c κs = c .row-at .ensures .1
 
 returns-2 : tie.Need-returns-2 Inv-loop μ-loop
 returns-2 c =
@@ -62,12 +67,12 @@ returns-2 c =
 cast-rows : tie.Need-cast-rows Inv-loop μ-loop
 cast-rows c =
     let e = c .before .before .before in
-    omega (arith, row-here e, few-rows (e .before .before .before .before .before .before .before .pre .sized))
+    omega (arith, row-here e, few-rows (e .before .before .before .before .before .before .before .before .pre .sized))
 
 slice-write-rows : tie.Need-slice-write-rows Inv-loop μ-loop
 slice-write-rows c =
     let i = c .before .before .before .before in
-    omega (arith, some-left i, few-rows (i .before .before .before .before .before .before .pre .sized))
+    omega (arith, some-left i, few-rows (i .before .before .before .before .before .before .before .pre .sized))
 
 sub-add : tie.Need-sub-add Inv-loop μ-loop
 sub-add c = omega (arith, row-here (c .before .before .before))
@@ -76,7 +81,7 @@ add-requires : tie.Need-add-requires Inv-loop μ-loop
 add-requires c κs = search needs
 
 link-requires : tie.Need-link-requires Inv-loop μ-loop
-link-requires c κs = c .before .before .before .row-of .ensures .1
+link-requires c κs = c .before .before .before .row-at .ensures .1
 
 cast-next : tie.Need-cast-next Inv-loop μ-loop
 cast-next c = search needs
@@ -95,8 +100,8 @@ loop-again c =
     let e = r .before in
     let l = e .before .before in
     let u = l .before .before in
-    let s = u .before .before .before in
-    let k : c .link .result ≡ linkOf (s .args .t .now) (l .loop .next) = c .link .ensures ∙ ap (get link) (r .row-of .ensures .0) in
+    let s = u .before .before .before .before in
+    let k : c .link .result ≡ linkOf (s .args .t .now) (l .loop .next) = c .link .ensures ∙ ap (get link) (r .row-at .ensures .0) in
     let w = row-here e in
     let place : (l .loop .next - 1) % 64 ≡ l .loop .next - 1 = mod-eq-of-lt (omega (arith, w, few-rows (s .pre .sized))) in
     let row : (l .loop .next - 1) % 64 + 1 ≡ l .loop .next = omega (arith, place, w .0) in
@@ -114,7 +119,7 @@ returns-3 c =
     let f = c .before in
     let l = f .before .before in
     let u = l .before .before in
-    let all : l .loop .count ≡ usedOf (u .before .before .before .args .t .now) = omega (arith, f .before .loop-test .left, u .used .ensures, l .loop .inv .few) in (
+    let all : l .loop .count ≡ usedOf (u .before .before .before .before .args .t .now) = omega (arith, f .before .loop-test .left, u .used .ensures, l .loop .inv .few) in (
       c .both .ensures
           ∙ ap (λ (b : Bool). eqb (l .loop .next) 0 && b) (f .fills .ensures ∙ ap (λ (n : ℕ). every n (has (l .loop .seen .bits))) (u .used .ensures))
           ∙ walk-all (l .loop .inv) all,
@@ -128,11 +133,12 @@ follow-spec =
     (tie.spec
     Inv-loop
     μ-loop
+    row-length-requires
     used-requires
     first-requires
     loop-holds
     returns
-    row-of-requires
+    row-at-requires
     name-requires
     returns-2
     cast-rows

@@ -12,12 +12,13 @@ use Rattle.sets.proofs.UptoLaws.{count-le}
 use Rattle.quorums.specs.declared.Kind.{Kind}
 use Rattle.fields.specs.declared.Laid.{Laid}
 use Rattle.fields.specs.Layout.{get, name, list, usedOf, nameOf, listOf}
-use Rattle.table.specs.Chain.{orderOf}
+use Rattle.table.specs.Chain.{frameOf}
 use Rattle.table.specs.Contracts.{Ordered}
 use Rattle.table.specs.WellFormed.{between, wellFormed}
 use Rattle.table.proofs.FormLaws.{between-is}
-use Rattle.table.proofs.WellFormedLaws.{sized, long}
-use Rattle.protocol.specs.Lists.{listChoice}
+use Rattle.table.proofs.WellFormedLaws.{sized, long, linked}
+use Rattle.counties.specs.Counties.{Frame, listChoice}
+use Rattle.grouping.proofs.GroupLaws.{frame-by}
 use Rattle.protocol.specs.Calls.{isUsed}
 use Rattle.choices.specs.Choosing.{kindOf, firstCalled, Chosen}
 use Rattle.choices.proofs.ChoiceLaws.{no-one, no-two, no-four, no-five, all-yes}
@@ -112,25 +113,29 @@ kind-of-requires c κs = search needs
 name-requires : tie.Need-name-requires
 name-requires c κs = search needs
 
+group-requires : tie.Need-group-requires
+group-requires c κs = linked (formed-here (c .before .before .before .before .before .before .before))
+
 choice-requires : tie.Need-choice-requires
 choice-requires c κs =
-    let u = c .before .before .before .before .before .before .before .before .before in
-    rw (u .used .ensures) (ordered-here u .listed)
+    let u = c .before .before .before .before .before .before .before .before .before .before .before in
+    (rw (u .used .ensures) (ordered-here u .listed), c .before .before .before .before .group .ensures .apart)
 
 -- the rows found are those that the coordinator calls first
-rows-are : (c : tie.After-choice) → let s = c .before .before .before .before .before .before .before .before .before .before .before .before .before .before .before .before in
+rows-are : (c : tie.After-choice) → let s = c .before .before .before .before .before .before .before .before .before .before .before .before .before .before .before .before .before .before in
     has (c .choice .result .bits) ≡ firstCalled (kindOf (s .args .kind)) (s .args .t .now) (s .args .c)
 unfolding firstCalled nameOf listOf
 rows-are c =
-    let k = c .before .before .before in
-    let l = k .before in
+    let k = c .before .before .before .before in
+    let g = k .before in
+    let l = g .before in
     let r = l .before in
     let u = r .before .before .before .before .before in
     let s = u .before .before .before .before .before .before in
     let row = r .row-of .ensures .0 in
     c .choice .ensures
-    ∙ ap₂ (λ (kind : Kind) (o : List ℕ). listChoice kind o (l .list .result) (c .before .name .result)) (k .kind-of .ensures) (rw (u .used .ensures) (ordered-here u .order))
-    ∙ ap₂ (λ (x : Laid) (a : ℕ). listChoice (kindOf (s .args .kind)) (orderOf (s .args .t .now)) x a) (l .list .ensures ∙ ap list row) (c .before .name .ensures ∙ ap (get name) row)
+    ∙ ap₂ (λ (kind : Kind) (f : Frame). listChoice kind f (l .list .result) (c .before .name .result)) (k .kind-of .ensures) (rw (u .used .ensures) (frame-by _ _ _ (ordered-here u) (g .group .ensures)))
+    ∙ ap₂ (λ (x : Laid) (a : ℕ). listChoice (kindOf (s .args .kind)) (frameOf (s .args .t .now)) x a) (l .list .ensures ∙ ap list row) (c .before .name .ensures ∙ ap (get name) row)
 
 small : (c : tie.After-choice) → c .choice .result .bits < 2 ^ 64
 small c = omega (arith, c .choice .ok)
@@ -155,7 +160,7 @@ returns-5 c =
     let z = c .before in
     let w = z .before .before .before in
     let h = w .before .before in
-    let f = h .before .before .before .before .before .before in
+    let f = h .before .before .before .before .before .before .before .before in
     let k = f .before in
     let d = k .before in
     let e = d .before .before .before in
@@ -180,6 +185,7 @@ choice-spec =
     returns-4
     row-of-requires
     list-requires
+    group-requires
     kind-of-requires
     name-requires
     choice-requires

@@ -8,8 +8,11 @@ check-requires c κs = search needs
 same-length : tie.Need-same-length
 same-length c = search needs
 
+same-length-2 : tie.Need-same-length-2
+same-length-2 c = search needs
+
 returns : tie.Need-returns
-returns c = c .before .before .check .ensures
+returns c = c .before .before .before .before .check .ensures
 
 pub grid-check-spec : {M : Type 1} → statement M
-grid-check-spec = tie.close (tie.spec check-requires same-length returns)
+grid-check-spec = tie.close (tie.spec check-requires same-length same-length-2 returns)

@@ -8,7 +8,7 @@ use borrow.Author.Needs.{needs}
 use lib.ListN.{getD, take, drop}
 use lib.Seq.{length-take-le, getD-take, drop-length}
 use Rattle.lists.proofs.SeatLaws.{held-next, held-few, none-held}
-use Rattle.protocol.specs.Lists.{seats, atSeat}
+use Rattle.counties.specs.Levels.{seats, atSeat}
 use Rattle.sets.proofs.SetLaws.{has-empty}
 use Rattle.sets.specs.Upto.{keep}
 use Rattle.sets.specs.Sets.{has}

@@ -1,13 +1,13 @@
 use mathlib.Core.Bool.{cond, _&&_}
-use mathlib.Core.Path.{_≡_, refl, ap, _∙_}
-use Prim.Native.Nat.{ℕ, _+_, _-_, _%_, _≤_, _<_}
-use native.Mathlib.Nat.{mod-eq-of-lt}
+use mathlib.Core.Path.{_≡_, sym, ap, _∙_}
+use Prim.Native.Nat.{ℕ, _+_, _-_, _/_, _%_, _^_, _≤_, _<_}
+use native.Mathlib.Nat.{mod-eq-of-lt, div-one}
 use native.Mathlib.Omega.{arith}
 use borrow.Author.Needs.{needs}
 use lib.ListN.{length, getD, take}
 use lib.Dec.{eqb}
-use Rattle.lists.proofs.SeatLaws.{seat-next, seat-few, seated-next, none-seated}
-use Rattle.protocol.specs.Lists.{seats, atSeat}
+use Rattle.lists.proofs.SeatLaws.{left-next, seated-next, none-seated}
+use Rattle.counties.specs.Levels.{seats, atSeat}
 use Rattle.sets.proofs.SetLaws.{has-empty}
 use Rattle.sets.specs.Sets.{has, gaining}
 use Rattle.sets.specs.Upto.{some, keep}
@@ -15,24 +15,13 @@ use Rattle.lists.proofs.seated.Statement.{statement}
 use Rattle.lists.proofs.seated.Tie as tie
 
 abbrev Inv-loop : tie.InvT-loop
-Inv-loop order count members positions set₀ passed₀ j₀ set passed j = (j ≤ count) × (passed ≡ length (seats (take j order) (has (members .bits))))
-    × (has (set .bits) ≡ (λ (i : ℕ). some 64 (λ k. has (positions .bits) k && atSeat (seats (take j order) (has (members .bits))) (eqb i) k)))
+Inv-loop order count members set₀ left₀ j₀ set left j = (j ≤ count) × (left .bits ≡ left₀ .bits / 2 ^ length (seats (take j order) (has (members .bits))))
+    × (has (set .bits) ≡ (λ (i : ℕ). some 64 (λ k. has (left₀ .bits) k && atSeat (seats (take j order) (has (members .bits))) (eqb i) k)))
 
 abbrev μ-loop : tie.MeasureT-loop
-μ-loop order count members positions set₀ passed₀ j₀ set passed j = count - j
+μ-loop order count members set₀ left₀ j₀ set left j = count - j
 
--- there are fewer seats than 64 in a turn
-few : (c : tie.In-loop Inv-loop μ-loop) → c .before .loop .passed < 64
-few c =
-    let l = c .before .loop in
-    let s = c .before .before in
-    omega (arith, seat-few (s .args .order .now) (has (s .args .members .bits)) (l .j) (s .pre .places) (omega (arith, s .pre .few)))
-
--- so the next seat is a position
-seat : (c : tie.In-loop Inv-loop μ-loop) → c .before .loop .passed % 64 + 1 ≡ c .before .loop .passed + 1
-seat c = ap (λ (x : ℕ). x + 1) (mod-eq-of-lt (few c))
-
--- and the row at hand has a place
+-- the row at hand has a place
 row-here : (c : tie.After-place-at Inv-loop μ-loop) → c .place-at .result % 64 + 1 ≡ getD (c .before .before .before .args .order .now) (c .before .before .loop .j) 0
 row-here c =
     let s = c .before .before .before in
@@ -41,7 +30,7 @@ row-here c =
 
 loop-holds : tie.Need-loop-holds Inv-loop μ-loop
 unfolding seats keep
-loop-holds c = (omega arith, refl, has-empty ∙ none-seated (has (c .args .positions .bits)))
+loop-holds c = (omega arith, sym (div-one (c .args .positions .bits)), has-empty ∙ none-seated (has (c .args .positions .bits)))
 
 place-at-requires : tie.Need-place-at-requires Inv-loop μ-loop
 place-at-requires c κs =
@@ -59,8 +48,8 @@ both-requires c κs = search needs
 add-requires : tie.Need-add-requires Inv-loop μ-loop
 add-requires c κs = search needs
 
-step-requires : tie.Need-step-requires Inv-loop μ-loop
-step-requires c κs = few (c .before .before .before .before .before)
+popped-requires : tie.Need-popped-requires Inv-loop μ-loop
+popped-requires c κs = search needs
 
 add-j : tie.Need-add-j Inv-loop μ-loop
 add-j c = search needs
@@ -79,10 +68,10 @@ loop-again c =
     let b = c .before .before .both in
     let listed = c .before .before .before .before .at .ensures ∙ ap (has (a .members .bits)) (row-here p) in (
       omega arith,
-      c .step .ensures ∙ seat-next (a .order .now) (has (a .members .bits)) (l .j) (s .pre .places) inside (l .inv .1) listed,
+      c .popped .ensures ∙ left-next (a .order .now) (has (a .members .bits)) (a .positions .bits) (l .j) (s .pre .places) inside (l .inv .1) listed,
       c .before .add .ensures ∙ ap (λ (i : ℕ). cond (b .result) (gaining set i) set) (row-here p)
-          ∙ seated-next (a .order .now) (has (a .members .bits)) (l .j) (s .pre .places) inside (l .inv .1) listed (has (a .positions .bits)) set _ (s .pre .each (l .j) (omega arith)) (l .inv .2)
-          (b .ensures ∙ ap (_&&_ (c .before .before .before .before .at .result)) (c .before .before .before .at2 .ensures ∙ ap (has (a .positions .bits)) (seat (p .before)))),
+          ∙ seated-next (a .order .now) (has (a .members .bits)) (a .positions .bits) (l .j) (s .pre .places) inside (l .inv .1) listed set _ (s .pre .each (l .j) (omega arith)) (l .inv .2)
+          (b .ensures ∙ ap (_&&_ (c .before .before .before .before .at .result)) (c .before .before .before .at2 .ensures)),
     )
 
 returns : tie.Need-returns Inv-loop μ-loop
@@ -100,7 +89,7 @@ seated-spec =
     at-requires-2
     both-requires
     add-requires
-    step-requires
+    popped-requires
     add-j
     loop-less
     loop-again

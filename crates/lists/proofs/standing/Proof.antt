@@ -8,7 +8,7 @@ use borrow.Author.Tests.{not-true, not-false}
 use lib.Dec.{eqb}
 use lib.ListN.{getD, take}
 use Rattle.lists.proofs.SeatLaws.{none-standing, standing-next, standing-all}
-use Rattle.protocol.specs.Lists.{atSeat}
+use Rattle.counties.specs.Levels.{atSeat}
 use Rattle.bools.proofs.BoolLaws.{and-r}
 use Rattle.sets.proofs.SetLaws.{has-empty, first-within}
 use Rattle.sets.proofs.MemberLaws.{only, Taken, none-taken, all-taken, in-set, fewer-left, one-taken}

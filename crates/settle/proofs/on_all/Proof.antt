@@ -7,7 +7,7 @@ asked-requires : tie.Need-asked-requires
 asked-requires c κs = search needs
 
 cast-settled-on : tie.Need-cast-settled-on
-cast-settled-on c = record { fits = omega (arith, c .before .pre .few) }
+cast-settled-on c = record { fits = omega (arith, c .before .pre .0 .few) }
 
 settled-on-requires : tie.Need-settled-on-requires
 settled-on-requires c κs = search needs

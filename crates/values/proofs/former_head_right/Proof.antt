@@ -1,5 +1,6 @@
-use Rattle.table.specs.WellFormed.{headValues, headRight}
-use borrow.Author.Tests.{not-true, not-false}
+use Rattle.table.specs.WellFormed.{headValues, countyRight, headRight}
+use borrow.Author.Tests.{not-true, not-false, lt-leb}
+use native.Mathlib.Omega.{arith}
 use mathlib.Core.Path.{_≡_, sym, _∙_}
 use borrow.Author.Needs.{needs}
 use Rattle.values.proofs.former_head_right.Statement.{statement}
@@ -32,29 +33,20 @@ returns-2 c =
     let v = c .before .before in
     rw (values-are (v .before) ∙ not-false _ (v .if1 .left), sym (c .before .list-right .ensures) ∙ not-true _ (c .if2 .taken))
 
-grid-right-requires : tie.Need-grid-right-requires
-grid-right-requires c κs = search needs
-
-returns-3 : tie.Need-returns-3
-unfolding headRight
-returns-3 c =
-    let l = c .before .before in
-    let v = l .before .before in
-    rw (values-are (v .before) ∙ not-false _ (v .if1 .left), sym (l .before .list-right .ensures) ∙ not-false _ (l .if2 .left), sym (c .before .grid-right .ensures) ∙ not-true _ (c .if3 .taken))
-
 plain-right-requires : tie.Need-plain-right-requires
 plain-right-requires c κs = search needs
 
-returns-4 : tie.Need-returns-4
-unfolding headRight
-returns-4 c =
-    let g = c .before in
-    let l = g .before .before in
+-- no form before 5 has counties
+returns-3 : tie.Need-returns-3
+unfolding headRight countyRight
+returns-3 c =
+    let l = c .before in
     let v = l .before .before in
+    let s = v .before .before .before .before .before in
     rw (
       values-are (v .before) ∙ not-false _ (v .if1 .left),
       sym (l .before .list-right .ensures) ∙ not-false _ (l .if2 .left),
-      sym (g .before .grid-right .ensures) ∙ not-false _ (g .if3 .left),
+      lt-leb 5 (s .args .form) (omega (arith, s .pre .0)),
     ) (c .plain-right .ensures)
 
 pub former-head-right-spec : {M : Type 1} → statement M
@@ -67,7 +59,5 @@ former-head-right-spec =
     returns
     list-right-requires
     returns-2
-    grid-right-requires
-    returns-3
     plain-right-requires
-    returns-4)
+    returns-3)

@@ -1,4 +1,4 @@
-use Rattle.table.specs.WellFormed.{headValues, gridRight, plainRight, headRight}
+use Rattle.table.specs.WellFormed.{headValues, isCounty, countyRight, plainRight, headRight}
 use Rattle.fields.specs.Layout.{formValue, reservedIn}
 use borrow.Author.Tests.{not-true, not-false}
 use mathlib.Core.Bool.{and-true}
@@ -34,15 +34,21 @@ returns-2 c =
     let v = c .before .before in
     rw (values-are (v .before) ∙ not-false _ (v .if1 .left), sym (c .before .list-right .ensures) ∙ not-true _ (c .if2 .taken))
 
-grid-right-requires : tie.Need-grid-right-requires
-grid-right-requires c κs = search needs
+county-requires : tie.Need-county-requires
+county-requires c κs = search needs
+
+cast-is-county : tie.Need-cast-is-county
+cast-is-county c = search needs
+
+is-county-requires : tie.Need-is-county-requires
+is-county-requires c κs = search needs
 
 returns-3 : tie.Need-returns-3
-unfolding headRight plainRight formValue
+unfolding headRight countyRight plainRight formValue
 returns-3 c =
-    let l = c .before in
+    let l = c .before .before in
     let v = l .before .before in
-    rw (values-are (v .before) ∙ not-false _ (v .if1 .left), sym (l .before .list-right .ensures) ∙ not-false _ (l .if2 .left), c .grid-right .ensures) (sym (and-true (gridRight _)))
+    rw (values-are (v .before) ∙ not-false _ (v .if1 .left), sym (l .before .list-right .ensures) ∙ not-false _ (l .if2 .left), c .is-county .ensures, c .before .county .ensures) (sym (and-true (isCounty _)))
 
 pub head-right-spec : {M : Type 1} → statement M
 head-right-spec =
@@ -54,5 +60,7 @@ head-right-spec =
     returns
     list-right-requires
     returns-2
-    grid-right-requires
+    county-requires
+    cast-is-county
+    is-county-requires
     returns-3)

@@ -69,7 +69,7 @@ row-of-requires c κs = (c .before .before .before .before .before .before .pre 
 former-head-right-requires : tie.Need-former-head-right-requires Inv-loop μ-loop
 former-head-right-requires c κs =
     let u = c .before .before .before .before in
-    (given (c .before), omega (arith, u .used .ensures, few-rows (u .before .before .before .pre .0)), omega (arith, u .used .ensures, within (c .before)), c .row-of .ensures .1)
+    (omega (arith, given (c .before)), omega (arith, u .used .ensures, few-rows (u .before .before .before .pre .0)), omega (arith, u .used .ensures, within (c .before)), c .row-of .ensures .1)
 
 returns : tie.Need-returns Inv-loop μ-loop
 returns c =

@@ -19,9 +19,9 @@ by-own : (t : List ℕ) → ownForm t ≡ false → false ≡ wellFormed t
 unfolding wellFormed
 by-own t e = sym (rw e (and-false (eqb (formOf t) formValue)))
 
-by-form : (t : List ℕ) (f : ℕ) → ownForm t ≡ true → f ≡ formOf t → eqb f 4 ≡ wellFormed t
-unfolding wellFormed formValue
-by-form t f e q = ap (λ (n : ℕ). eqb n 4) q ∙ sym (rw e (and-true (eqb (formOf t) 4)))
+by-form : (t : List ℕ) (f : ℕ) → ownForm t ≡ true → f ≡ formOf t → eqb f formValue ≡ wellFormed t
+unfolding wellFormed
+by-form t f e q = ap (λ (n : ℕ). eqb n formValue) q ∙ sym (rw e (and-true (eqb (formOf t) formValue)))
 
 returns : tie.Need-returns
 returns c = (by-own _ (sym (c .before .chained .ensures .0) ∙ not-true _ (c .if1 .taken)), λ e. absurd (clash e), c .before .chained .ensures .2)
@@ -30,6 +30,7 @@ form-requires : tie.Need-form-requires
 form-requires c κs = long (own-sized (sym (c .before .chained .ensures .0) ∙ not-false _ (c .if1 .left)))
 
 returns-2 : tie.Need-returns-2
+unfolding formValue
 returns-2 c =
     let k = c .before .before in
     (by-form _ _ (sym (k .chained .ensures .0) ∙ not-false _ (c .before .if1 .left)) (c .form .ensures), λ _. k .chained .ensures .1 (not-false _ (c .before .if1 .left)), k .chained .ensures .2)

@@ -1,0 +1,6 @@
+pub mod LevelLaws
+pub mod TwoLevelLaws
+pub mod OneCountyLaws
+pub mod AlikeLaws
+pub mod MarkLaws
+pub mod ShownLaws

@@ -1,0 +1,1 @@
+// Fair use of imports, of calls and of whole histories.

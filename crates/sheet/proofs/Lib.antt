@@ -1,0 +1,3 @@
+pub mod SumLaws
+pub mod SheetLaws
+pub mod ShownLaws

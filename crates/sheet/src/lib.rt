@@ -1,0 +1,1 @@
+// Fair use of imports: the sheet of 16 clubs, defined, with its laws.

@@ -1,0 +1,175 @@
+// A sheet of fair use: is it right, may a club write by it; one more write counted, all counts 0.
+use bools::both;
+ghost use mathlib.Core.Path.{_≡_};
+ghost use mathlib.Core.Bool.{true, cond, _&&_, _||_};
+ghost use mathlib.Core.List.{[]};
+ghost use Prim.Native.Nat.{_+_, _-_, _≤_};
+ghost use lib.Dec.{leb, ltb};
+ghost use lib.ListN.{length};
+ghost use Rattle.sets.specs.Upto.{Within, every};
+ghost use Rattle.asking.specs.Asking.{firstNo};
+ghost use Rattle.sheet.specs.Sheet.{assuredOf, ceilingOf, countOf, allAssured, remainder, allBeyond, lineRight, sheetRight, isClub, byClub, counted, cleared};
+
+// A sheet's length, its clubs and the length of a club's line.
+const SHEET: usize = 196;
+
+const CLUBS: usize = 16;
+
+const LINE: usize = 12;
+
+const CEILING_AT: usize = 4;
+
+const COUNT_AT: usize = 8;
+
+const TOTAL_AT: usize = 192;
+
+// No number of a sheet passes this.
+const LIMIT: u32 = 1_000_000;
+
+// Are a club's numbers right: the assured number, the ceiling, the count?
+fn line_right(assured: u32, ceiling: u32, count: u32) -> bool
+    ensures { λ r. ⌜ r ≡ (leb ceiling 1_000_000 && leb assured ceiling && leb count ceiling) ⌝ }
+{
+    let small = both(ceiling <= LIMIT, assured <= ceiling);
+    both(small, count <= ceiling)
+}
+
+// How far a count is beyond the assured number.
+fn over(count: u32, assured: u32) -> u32
+    ensures { λ r. ⌜ r ≡ count - assured ⌝ }
+{
+    if assured < count { count - assured } else { 0 }
+}
+
+// What the lines of a sheet come to.
+struct Lines {
+    right: bool,
+    assured: u64,
+    beyond: u64,
+}
+
+// The 16 lines in one pass.
+fn added(s: &[u8]) -> Lines
+    requires { ⌜ length (now s) ≡ 196 ⌝ }
+    ensures { λ r. ⌜ (r .right ≡ every 16 (lineRight (now (s .entry)))) × (r .assured ≡ allAssured (now (s .entry))) × (r .beyond ≡ allBeyond (now (s .entry))) × (r .assured ≤ 68_719_476_720) × (r .beyond ≤ 68_719_476_720) ⌝ }
+{
+    let mut right = true;
+    let mut assured: u64 = 0;
+    let mut beyond: u64 = 0;
+    let mut x = 0;
+    while x < CLUBS {
+        let at = x * LINE;
+        let sure = bytes::u32_at(s, at);
+        let count = bytes::u32_at(s, at + COUNT_AT);
+        right = both(
+            right,
+            line_right(sure, bytes::u32_at(s, at + CEILING_AT), count),
+        );
+        assured += sure as u64;
+        beyond += over(count, sure) as u64;
+        x += 1;
+    }
+    Lines {
+        right: right,
+        assured: assured,
+        beyond: beyond,
+    }
+}
+
+// Is a sheet right, and is anything left of the remainder?
+struct Verdict {
+    right: bool,
+    left: bool,
+}
+
+fn summed(s: &[u8]) -> Verdict
+    requires { ⌜ length (now s) ≡ 196 ⌝ }
+    ensures { λ r. ⌜ (r .right ≡ sheetRight (now (s .entry))) × (r .left ≡ ltb (allBeyond (now (s .entry))) (remainder (now (s .entry)))) ⌝ }
+{
+    let lines = added(s);
+    let total = bytes::u32_at(s, TOTAL_AT);
+    let taken = lines.assured + lines.beyond;
+    let small = both(lines.right, total <= LIMIT);
+    Verdict {
+        right: both(small, taken <= total as u64),
+        left: taken < total as u64,
+    }
+}
+
+// Question 1 of a sheet.
+pub fn is_right(s: &[u8]) -> bool
+    ensures { λ r. ⌜ r ≡ sheetRight (now (s .entry)) ⌝ }
+{
+    if s.len() != SHEET {
+        return false;
+    }
+    let sum = summed(s);
+    sum.right
+}
+
+// Questions 18 and 19 of a club, where it is known whether the remainder leaves one: the first no, 0 where there is none.
+fn share_asked(s: &[u8], club: u64, left: bool) -> u32
+    requires { ⌜ length (now s) ≡ 196 ⌝ }
+    ensures { λ r. ⌜ r ≡ cond (isClub club && ltb (countOf (now (s .entry)) club) (ceilingOf (now (s .entry)) club)) (cond (ltb (countOf (now (s .entry)) club) (assuredOf (now (s .entry)) club) || left) 0 19) 18 ⌝ }
+{
+    if club == 0 {
+        return 18;
+    }
+    if 16 < club {
+        return 18;
+    }
+    let at = (club as usize - 1) * LINE;
+    let count = bytes::u32_at(s, at + COUNT_AT);
+    if bytes::u32_at(s, at + CEILING_AT) <= count {
+        return 18;
+    }
+    if count < bytes::u32_at(s, at) {
+        return 0;
+    }
+    if left { 0 } else { 19 }
+}
+
+// What a sheet says to a club's write: is it right, and 18 or 19 where the club may not write, else 0.
+pub struct Told {
+    pub right: bool,
+    pub no: u32,
+}
+
+// All that a write asks of a sheet, in one pass.
+pub fn look(s: &[u8], club: u64) -> Told
+    ensures { λ r. ⌜ (r .right ≡ sheetRight (now (s .entry))) × (r .right ≡ true → r .no ≡ firstNo (byClub (now (s .entry)) club [])) ⌝ }
+{
+    if s.len() != SHEET {
+        return Told {
+            right: false,
+            no: 0,
+        };
+    }
+    let sum = summed(s);
+    Told {
+        right: sum.right,
+        no: share_asked(s, club, sum.left),
+    }
+}
+
+// One more done write of a club.
+pub fn count_one(s: &mut [u8], club: usize)
+    requires { ⌜ (length (now s) ≡ 196) × Within 16 club ⌝ }
+    ensures { λ r. ⌜ now (s .exit) ≡ counted (now (s .entry)) club ⌝ }
+{
+    let at = (club - 1) * LINE + COUNT_AT;
+    let count = bytes::u32_at(s, at);
+    bytes::store_at(s, at, 4, count as u64 + 1);
+}
+
+// Every count becomes 0.
+pub fn clear(s: &mut [u8])
+    requires { ⌜ length (now s) ≡ 196 ⌝ }
+    ensures { λ r. ⌜ now (s .exit) ≡ cleared (now (s .entry)) ⌝ }
+{
+    let mut x = 0;
+    while x < CLUBS {
+        bytes::store_at(s, x * LINE + COUNT_AT, 4, 0);
+        x += 1;
+    }
+}
