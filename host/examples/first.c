@@ -1,5 +1,5 @@
-/* Four machines share a file of results: found it, ask whom to call, write, read, meet a refusal, and ask which machines are enough
-   to write. */
+/* Four machines share a file of results: found it, ask whom to call, write, read, meet refusals, one of them for fair use, and ask
+   which machines are enough to write. */
 #include <stdio.h>
 #include <string.h>
 #include "dyngrid.h"
@@ -38,8 +38,9 @@ static void print_chart(const uint8_t *sets, uint32_t count)
 int main(void)
 {
     static uint8_t table[TABLE_BYTES];
-    uint8_t sets[GRID_CHART_BYTES], called[1], chosen[GRID_SET_BYTES];
-    const uint8_t names[2 * MACHINES] = {10, 0, 20, 0, 30, 0, 40, 0};
+    uint8_t sets[GRID_CHART_BYTES], called[1], chosen[GRID_SET_BYTES], sheet[GRID_SHEET_BYTES] = {0};
+    const uint8_t names[2 * MACHINES] = {1, 0, 2, 0, 3, 0, 4, 0};
+    const uint8_t counties[MACHINES] = {1, 1, 1, 1};
     const char score[] = "1-0";
     uint8_t got[sizeof score] = {0};
     const uint64_t three = grid_row(1) | grid_row(2) | grid_row(3);
@@ -50,32 +51,41 @@ int main(void)
         return 1;
     }
     if (!report("found", GRID_CALL_FOUNDING, 0,
-                grid_found(table, sizeof table, MACHINES, FILE_BYTES, names, sizeof names, GRID_WIDE, FILES)))
+                grid_found(table, sizeof table, MACHINES, FILE_BYTES, names, sizeof names, GRID_WIDE, FILES, counties,
+                           sizeof counties)))
         return 1;
 
-    /* Machine 10, row 1, imports a score while row 4 is away. The machines that it calls first are up, and it is one of them. */
-    uint64_t choice = grid_choice(table, sizeof table, 1, GRID_WRITE, chosen, sizeof chosen);
+    /* Fair use: club 1 may write once until the counts start anew, and no other club may. Who wants no limits takes grid_open_sheet. */
+    grid_set_club(sheet, 1, 1, 1);
+    grid_set_total(sheet, 1);
+
+    /* Machine 2 imports a score while row 4 is away. The machines that it calls first are up, and it is one of them. */
+    uint64_t choice = grid_choice(table, sizeof table, 2, GRID_WRITE, chosen, sizeof chosen);
     if (grid_refusal(choice) != GRID_DONE || grid_set(chosen) != three)
         return 1;
-    printf("choice of row 1: %u machines\n", (unsigned)grid_value(choice));
-    if (!report("write by row 1", GRID_CALL_WRITE, 10,
-                grid_write(table, sizeof table, 1, three, 0, (const uint8_t *)score, sizeof score, called, sizeof called, 1)))
+    printf("choice of row 2: %u machines\n", (unsigned)grid_value(choice));
+    if (!report("write by row 2", GRID_CALL_WRITE, 2,
+                grid_write(table, sizeof table, 2, three, 0, (const uint8_t *)score, sizeof score, called, sizeof called, 1, sheet,
+                           sizeof sheet, 1)))
         return 1;
-    printf("machines called: %u\n", (unsigned)called[0]);
+    printf("machines called: %u, writes of club 1: %u\n", (unsigned)called[0], (unsigned)grid_count(sheet, 1));
+    report("second write by club 1", GRID_CALL_WRITE, 2,
+           grid_write(table, sizeof table, 2, three, 0, (const uint8_t *)score, sizeof score, called, sizeof called, 1, sheet,
+                      sizeof sheet, 1));
 
     /* Row 4 is back and reads with row 3: one machine of each column of the grid. */
-    if (!report("read by row 4", GRID_CALL_READ, 40,
+    if (!report("read by row 4", GRID_CALL_READ, 4,
                 grid_read(table, sizeof table, 4, two, 0, sizeof got, got, sizeof got, called, sizeof called, 1)))
         return 1;
     printf("machines called: %u\n", (unsigned)called[0]);
     printf("score: %s\n", (const char *)got);
 
     /* Alone it is refused: an old score would look like any other. */
-    report("read by row 4 alone", GRID_CALL_READ, 40,
+    report("read by row 4 alone", GRID_CALL_READ, 4,
            grid_read(table, sizeof table, 4, grid_row(4), 0, sizeof got, got, sizeof got, called, sizeof called, 1));
 
     /* The table has one file. */
-    report("read of a second file", GRID_CALL_READ, 40,
+    report("read of a second file", GRID_CALL_READ, 4,
            grid_read(table, sizeof table, 4, two, 0, sizeof got, got, sizeof got, called, sizeof called, 2));
 
     /* The smallest sets of machines that are enough for a write. */

@@ -1,5 +1,6 @@
 /* Machines that each hold their own row, with a copy of two files: ask whom to call, gather what a call looks at of the rows that
-   answer, make the call, ship the bytes that changed. As examples/relay.rs, in C; docs/RELAY.md tells the steps. */
+   answer, make the call, ship the bytes that changed. As examples/relay.rs, in C, with the rules that a relay must not miss: names and
+   counts are compared, and new rows are stored by all and only then taken. docs/RELAY.md tells the steps. */
 #include <stdio.h>
 #include <string.h>
 #include "dyngrid.h"
@@ -7,13 +8,26 @@
 enum { MACHINES = 4, FILE_BYTES = 16, FILES = 2, ENTRY = 3 };
 enum { RESULTS = 1, CLOCKS = 2, EVERY_FILE = 0 };
 enum { ROW_BYTES = GRID_ROW_BYTES(FILE_BYTES, FILES), TABLE_BYTES = GRID_TABLE_BYTES(MACHINES, FILE_BYTES, FILES) };
-/* A row begins with its name and link; a copy has its stale mark first, and its version in bytes 4 to 7. */
-enum { NAME_AND_LINK = 3, STALE = 0, VERSION = 4 };
+/* A call that some machine did not store: nothing has changed, and it is made anew. No result of the library. */
+#define OVERTAKEN UINT64_MAX
+/* A row begins with its name and link, and has its county in byte 26; a copy has its stale mark first, and its version in bytes 4 to 7. */
+enum { NAME = 2, NAME_AND_LINK = 3, COUNTY = 26, STALE = 0, VERSION = 4 };
 
-/* Header, names and links, and zeros: what all calls must agree on. */
+/* Header, names, links and counties, and zeros: what all calls must agree on. */
 static uint8_t frame[TABLE_BYTES];
-/* What each machine holds: row i at place i - 1. */
-static uint8_t machines[MACHINES][ROW_BYTES];
+/* What each machine has on its disk, row i at place i - 1: its row, how many rows it has taken, and beside them the row that it has stored
+   for a call of which it does not know the end. */
+static struct machine {
+    uint8_t row[ROW_BYTES], stored[ROW_BYTES];
+    uint64_t taken;
+    int in_doubt;
+} machines[MACHINES];
+/* What a call heard: who answered, and how many rows each had taken when it gave its own. */
+struct heard {
+    uint64_t answering, taken[MACHINES];
+};
+/* The sheet of the clubs' writes, lent to every write and check; here it has no limits, and all writes are club 1's. */
+static uint8_t sheet[GRID_SHEET_BYTES];
 
 static size_t row_at(unsigned row)
 {
@@ -27,46 +41,85 @@ static int has(uint64_t set, unsigned row)
 
 static const uint8_t *copy_of(unsigned row, unsigned file)
 {
-    return machines[row - 1] + grid_copy(FILE_BYTES, file);
+    return machines[row - 1].row + grid_copy(FILE_BYTES, file);
 }
 
 /* Puts a table together: the frame, and behind name and link the rows that answered. The others stay zero there. For a read, write
-   or send a machine gives its head and its copy of that file; copies of other files stay zero too. For a check it gives all. */
-static void assemble(uint8_t *table, uint64_t answering, unsigned file)
+   or send a machine gives its head and its copy of that file; copies of other files stay zero too. For a check it gives all. A row whose
+   name or county is not the frame's is another machine's, and one in doubt is given to nobody: neither has answered. */
+static struct heard assemble(uint8_t *table, uint64_t asked, unsigned file)
 {
+    struct heard heard = {0, {0}};
     memcpy(table, frame, TABLE_BYTES);
     for (unsigned row = 1; row <= MACHINES; row++) {
-        if (!has(answering, row))
-            continue;
+        const struct machine *machine = &machines[row - 1];
         uint8_t *bytes = table + row_at(row);
-        memcpy(bytes + NAME_AND_LINK, machines[row - 1] + NAME_AND_LINK, GRID_ROW_HEADER - NAME_AND_LINK);
+        if (!has(asked, row) || machine->in_doubt || memcmp(bytes, machine->row, NAME) != 0 || bytes[COUNTY] != machine->row[COUNTY])
+            continue;
+        heard.answering |= grid_row(row);
+        heard.taken[row - 1] = machine->taken;
+        memcpy(bytes + NAME_AND_LINK, machine->row + NAME_AND_LINK, GRID_ROW_HEADER - NAME_AND_LINK);
         for (unsigned each = 1; each <= FILES; each++)
             if (file == EVERY_FILE || file == each)
                 memcpy(bytes + grid_copy(FILE_BYTES, each), copy_of(row, each), GRID_COPY_BYTES(FILE_BYTES));
     }
+    return heard;
 }
 
-/* Ships what a call changed in each row, and nothing else, to all machines concerned or to none: here they are at hand. Tells which
-   rows changed, and in how many bytes. */
-static void ship(const uint8_t *table, const uint8_t *before)
+/* Stores a new row beside the old one: unless it is in doubt, and only if it has taken no row since it gave its own. The bytes that
+   changed are laid over the row that the machine has. On a disk before it says so. */
+static int store(unsigned row, uint64_t taken, const uint8_t *now, const uint8_t *before)
 {
-    uint64_t changed = 0;
+    struct machine *machine = &machines[row - 1];
+    if (machine->in_doubt || machine->taken != taken)
+        return 0;
+    memcpy(machine->stored, machine->row, ROW_BYTES);
+    for (size_t at = 0; at < ROW_BYTES; at++)
+        if (now[at] != before[at])
+            machine->stored[at] = now[at];
+    machine->in_doubt = 1;
+    return 1;
+}
+
+/* The end of a call for a machine in doubt: taken, and counted, or dropped. */
+static void end(unsigned row, int take)
+{
+    struct machine *machine = &machines[row - 1];
+    if (take) {
+        memcpy(machine->row, machine->stored, ROW_BYTES);
+        machine->taken++;
+    }
+    machine->in_doubt = 0;
+}
+
+/* Ships what a call changed: every machine that answered stores its row, an unchanged one too; when all have, the call is done and all
+   take theirs; else all drop it. (A relay notes the call on its disk in between; a call that changes nothing asks each machine once more
+   whether it has still taken so many.) Tells which rows changed, and in how many bytes. Was it done? */
+static int ship(const struct heard *heard, const uint8_t *table, const uint8_t *before)
+{
+    uint64_t changed = 0, stored = 0;
     unsigned bytes = 0;
-    for (unsigned row = 1; row <= MACHINES; row++)
-        for (size_t at = 0; at < ROW_BYTES; at++)
-            if (table[row_at(row) + at] != before[row_at(row) + at]) {
-                machines[row - 1][at] = table[row_at(row) + at];
+    for (unsigned row = 1; row <= MACHINES; row++) {
+        for (size_t at = row_at(row); at < row_at(row + 1); at++)
+            if (table[at] != before[at]) {
                 changed |= grid_row(row);
                 bytes++;
             }
+        if (has(heard->answering, row) && store(row, heard->taken[row - 1], table + row_at(row), before + row_at(row)))
+            stored |= grid_row(row);
+    }
+    for (unsigned row = 1; row <= MACHINES; row++)
+        if (has(stored, row))
+            end(row, stored == heard->answering);
     printf(", rows 0x%x change in %u bytes\n", (unsigned)changed, bytes);
+    return stored == heard->answering;
 }
 
 /* The machines that a coordinator calls first, and itself. Of the rows it needs its own only. */
 static uint64_t whom(unsigned coordinator, uint64_t kind)
 {
     uint8_t table[TABLE_BYTES], set[GRID_SET_BYTES] = {0};
-    assemble(table, grid_row(coordinator), EVERY_FILE);
+    (void)assemble(table, grid_row(coordinator), EVERY_FILE);
     if (grid_refusal(grid_choice(table, sizeof table, coordinator, kind, set, sizeof set)) != GRID_DONE)
         return 0;
     return grid_set(set) | grid_row(coordinator);
@@ -89,19 +142,19 @@ static uint64_t write_entry(unsigned coordinator, uint64_t up, unsigned file, co
 {
     uint8_t table[TABLE_BYTES], before[TABLE_BYTES], called[1];
     const uint64_t asked[2] = {whom(coordinator, GRID_WRITE) & up, up};
+    struct heard heard;
     uint64_t result = 0;
     for (int round = 0; round < 2; round++) {
-        assemble(before, asked[round], file);
+        heard = assemble(before, asked[round], file);
         memcpy(table, before, sizeof table);
-        result = grid_write(table, sizeof table, coordinator, asked[round], 0, (const uint8_t *)entry, ENTRY, called,
-                            sizeof called, file);
+        result = grid_write(table, sizeof table, coordinator, heard.answering, 0, (const uint8_t *)entry, ENTRY, called,
+                            sizeof called, file, sheet, sizeof sheet, 1);
         if (!wants_more(result))
             break;
     }
     print_call("write", coordinator, file, result);
     printf(", %u machines called", (unsigned)called[0]);
-    ship(table, before);
-    return result;
+    return ship(&heard, table, before) ? result : OVERTAKEN;
 }
 
 /* Reads an entry in the same way; a read changes nothing. */
@@ -111,8 +164,8 @@ static uint64_t read_entry(unsigned coordinator, uint64_t up, unsigned file, uin
     const uint64_t asked[2] = {whom(coordinator, GRID_READ) & up, up};
     uint64_t result = 0;
     for (int round = 0; round < 2; round++) {
-        assemble(table, asked[round], file);
-        result = grid_read(table, sizeof table, coordinator, asked[round], 0, ENTRY, entry, ENTRY, called, sizeof called, file);
+        const struct heard heard = assemble(table, asked[round], file);
+        result = grid_read(table, sizeof table, coordinator, heard.answering, 0, ENTRY, entry, ENTRY, called, sizeof called, file);
         if (!wants_more(result))
             break;
     }
@@ -134,33 +187,31 @@ static uint64_t send_copy(unsigned from, unsigned to, unsigned file)
     uint8_t table[TABLE_BYTES], before[TABLE_BYTES];
     const uint64_t ends = grid_row(from) | grid_row(to);
     const int by_window = version_of(from, file) - version_of(to, file) <= grid_patches(copy_of(from, file), FILE_BYTES);
-    assemble(before, ends, file);
+    const struct heard heard = assemble(before, ends, file);
     if (by_window)
         memset(before + row_at(from) + grid_copy(FILE_BYTES, file) + GRID_COPY_HEADER, 0, FILE_BYTES);
     memcpy(table, before, sizeof table);
-    const uint64_t result = grid_send(table, sizeof table, from, to, ends, file);
+    const uint64_t result = grid_send(table, sizeof table, from, to, heard.answering, file);
     print_call(by_window ? "send of patches" : "send of the contents", from, file, result);
     printf(", to row %u", to);
-    ship(table, before);
-    return result;
+    return ship(&heard, table, before) ? result : OVERTAKEN;
 }
 
 /* A check serves all files, and looks at the copies of all. */
 static uint64_t check(unsigned coordinator, uint64_t up)
 {
     uint8_t table[TABLE_BYTES], before[TABLE_BYTES];
-    assemble(before, up, EVERY_FILE);
+    const struct heard heard = assemble(before, up, EVERY_FILE);
     memcpy(table, before, sizeof table);
-    const uint64_t result = grid_check(table, sizeof table, coordinator, up);
+    const uint64_t result = grid_check(table, sizeof table, coordinator, heard.answering, sheet, sizeof sheet);
     printf("check by row %u: refusal %u, epoch %u", coordinator, (unsigned)grid_refusal(result), (unsigned)grid_value(result));
-    ship(table, before);
-    return result;
+    return ship(&heard, table, before) ? result : OVERTAKEN;
 }
 
 int main(void)
 {
     static uint8_t founded[TABLE_BYTES];
-    const uint8_t names[2 * MACHINES] = {10, 0, 20, 0, 30, 0, 40, 0};
+    const uint8_t names[2 * MACHINES] = {1, 0, 2, 0, 3, 0, 4, 0}, counties[MACHINES] = {1, 1, 1, 1};
     const uint64_t all = grid_row(1) | grid_row(2) | grid_row(3) | grid_row(4);
     const uint64_t two = grid_row(3) | grid_row(4), but_two = all & ~grid_row(2), but_three = all & ~grid_row(3);
     uint8_t entry[ENTRY];
@@ -169,14 +220,16 @@ int main(void)
         fprintf(stderr, "libdyngrid.a and dyngrid.h are of two versions: take both from one checkout\n");
         return 1;
     }
-    if (grid_refusal(grid_found(founded, sizeof founded, MACHINES, FILE_BYTES, names, sizeof names, GRID_WIDE, FILES)) !=
-        GRID_DONE)
+    if (grid_refusal(grid_found(founded, sizeof founded, MACHINES, FILE_BYTES, names, sizeof names, GRID_WIDE, FILES, counties,
+                                sizeof counties)) != GRID_DONE)
         return 1;
-    /* Each machine gets its row; the relay keeps header, names and links. */
+    grid_open_sheet(sheet);
+    /* Each machine gets its row; the relay keeps header, names, links and counties. */
     memcpy(frame, founded, GRID_HEADER);
     for (unsigned row = 1; row <= MACHINES; row++) {
-        memcpy(machines[row - 1], founded + row_at(row), ROW_BYTES);
+        memcpy(machines[row - 1].row, founded + row_at(row), ROW_BYTES);
         memcpy(frame + row_at(row), founded + row_at(row), NAME_AND_LINK);
+        frame[row_at(row) + COUNTY] = founded[row_at(row) + COUNTY];
     }
 
     /* All are up: the choice of row 4, {1, 2, 3}, is enough, and row 4 itself is not written. */
@@ -206,5 +259,20 @@ int main(void)
         return 1;
     if (read_entry(4, two, CLOCKS, entry) != 2 || memcmp(entry, "62m", ENTRY) != 0)
         return 1;
-    return read_entry(4, two, RESULTS, entry) != 2 || memcmp(entry, "0-1", ENTRY) != 0;
+    if (read_entry(4, two, RESULTS, entry) != 2 || memcmp(entry, "0-1", ENTRY) != 0)
+        return 1;
+    /* The disks of rows 3 and 4 were exchanged: their names are not the frame's, so neither answers, and no quorum is left. */
+    const struct machine third = machines[2];
+    machines[2] = machines[3];
+    machines[3] = third;
+    if (grid_refusal(read_entry(1, all, RESULTS, entry)) != GRID_NO_QUORUM)
+        return 1;
+    machines[3] = machines[2];
+    machines[2] = third;
+    /* Row 3 has taken another row since it gave its own: the new row is not stored, and nobody takes one. */
+    uint8_t before[TABLE_BYTES];
+    const struct heard late = assemble(before, two, RESULTS);
+    if (write_entry(3, two, RESULTS, "1/2") != 3 || ship(&late, before, before))
+        return 1;
+    return read_entry(3, two, RESULTS, entry) != 3 || memcmp(entry, "1/2", ENTRY) != 0;
 }

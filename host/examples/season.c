@@ -1,4 +1,4 @@
-/* A table of an older season: one of form 2 is carried up to form 3, and carried down again. Nothing carries it to form 4: a new
+/* A table of an older season: one of form 2 is carried up to form 3, and carried down again. Nothing carries it to form 5: a new
    table is founded, and the file written into it. */
 #include <stdio.h>
 #include <stdlib.h>
@@ -14,7 +14,7 @@ static int report(const char *call, uint64_t result)
     return grid_refusal(result) == GRID_DONE;
 }
 
-/* What an older program kept: names 10, 20, 30, 40, all of them with the score 1-0 at version 1. */
+/* What an older program kept: names 1, 2, 3, 4, all of them with the score 1-0 at version 1. */
 static void keep(uint8_t *old)
 {
     const uint8_t header[] = {GRID_FORM_2, MACHINES, MACHINES, 1, FILE_BYTES};
@@ -22,7 +22,7 @@ static void keep(uint8_t *old)
     memcpy(old, header, sizeof header);
     for (uint8_t row = 1; row <= MACHINES; row++) {
         uint8_t *bytes = old + GRID_HEADER + (row - 1) * OLD_ROW;
-        bytes[0] = (uint8_t)(10 * row);                     /* the name */
+        bytes[0] = row;                                     /* the name */
         bytes[2] = row < MACHINES ? (uint8_t)(row + 1) : 0; /* the next row */
         bytes[4] = 1;                                       /* the version */
         bytes[16] = 0xf;                                    /* the list */
@@ -49,11 +49,14 @@ static uint8_t *carry(const uint8_t *table, size_t table_len, uint64_t form, siz
 static int found_anew(const uint8_t *file)
 {
     static uint8_t table[GRID_TABLE_BYTES(MACHINES, FILE_BYTES, 1)];
-    const uint8_t names[2 * MACHINES] = {10, 0, 20, 0, 30, 0, 40, 0};
+    const uint8_t names[2 * MACHINES] = {1, 0, 2, 0, 3, 0, 4, 0}, counties[MACHINES] = {1, 1, 1, 1};
     const uint64_t all = grid_row(1) | grid_row(2) | grid_row(3) | grid_row(4);
-    uint8_t got[3] = {0}, called[1];
-    return report("found", grid_found(table, sizeof table, MACHINES, FILE_BYTES, names, sizeof names, GRID_WIDE, 1)) &&
-           report("write", grid_write(table, sizeof table, 1, all, 0, file, FILE_BYTES, called, sizeof called, 1)) &&
+    uint8_t got[3] = {0}, called[1], sheet[GRID_SHEET_BYTES];
+    grid_open_sheet(sheet);
+    return report("found", grid_found(table, sizeof table, MACHINES, FILE_BYTES, names, sizeof names, GRID_WIDE, 1, counties,
+                                      sizeof counties)) &&
+           report("write", grid_write(table, sizeof table, 1, all, 0, file, FILE_BYTES, called, sizeof called, 1, sheet,
+                                      sizeof sheet, 1)) &&
            report("read", grid_read(table, sizeof table, 4, all, 0, sizeof got, got, sizeof got, called, sizeof called, 1)) &&
            memcmp(got, "1-0", 3) == 0;
 }

@@ -5,10 +5,10 @@ use crate::page::PAPER;
 use pictures::svg::{line, open, text, Paper};
 
 const WIDTH: f64 = 760.0;
-const HEIGHT: f64 = 560.0;
+const HEIGHT: f64 = 580.0;
 const LEFT: f64 = 74.0;
 const RIGHT: f64 = 24.0;
-const TOP: f64 = 52.0;
+const TOP: f64 = 72.0;
 const BOTTOM: f64 = 60.0;
 /// The scale goes down to ten to minus this.
 const DECADES: i32 = 18;
@@ -51,10 +51,12 @@ const SERIES: [(&str, &str, Figure); 6] = [
     ("voting", "dynamic voting", |columns| columns.voting.unavailable.write),
 ];
 
-pub fn svg(columns: &[Columns]) -> String {
+pub fn svg(columns: &[Columns], up: f64) -> String {
     let mut svg =
         open(WIDTH, HEIGHT, "Part of the time in which the file cannot be written", Paper::Page, LIGHT, DARK);
     text(&mut svg, LEFT, 30.0, "title", "start", "Part of the time in which the file cannot be written");
+    let below = format!("each machine up {up} of the time, a check after each change; lower is better");
+    text(&mut svg, LEFT, 52.0, "below", "start", &below);
     let most = columns.len();
     axes(&mut svg, most);
     for (class, _, figure) in SERIES {

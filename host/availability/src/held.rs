@@ -1,6 +1,6 @@
 //! A table that machines hold, and the calls that the model makes on it: the library's, the reference's, or both at once.
 
-use dyngrid::{raw, Refusal, Rows, Shape};
+use dyngrid::{raw, Refusal, Rows, Shape, Sheet};
 use reference::rows::Order;
 use reference::{Engine, Part, Row, Rules};
 
@@ -94,10 +94,17 @@ impl Second {
             Shape::Tall => raw::TALL,
         };
         let mut bytes = vec![0; rules.table_length(machines, FILE_LEN, 1)];
-        let founded = engine.found(&mut bytes, machines as u64, FILE_LEN as u64, &names, choice, 1);
+        let counties = vec![1; machines];
+        let founded =
+            engine.found(&mut bytes, machines as u64, FILE_LEN as u64, &names, choice, 1, &counties);
         assert_eq!(founded, machines as u64, "a founding of rising names is done");
         Second { engine, bytes }
     }
+}
+
+/// Nobody has a limit.
+fn open_sheet() -> Vec<u8> {
+    Sheet::open().as_bytes().to_vec()
 }
 
 /// The value of a result, or its refusal.
@@ -107,11 +114,12 @@ fn split(result: u64) -> Result<u32, Refusal> {
 
 impl Held for Second {
     fn check(&mut self, by: usize, up: Rows) -> Result<u32, Refusal> {
-        split(self.engine.check(&mut self.bytes, by as u64, up.bits()))
+        split(self.engine.check(&mut self.bytes, by as u64, up.bits(), &mut open_sheet()))
     }
 
     fn write(&mut self, by: usize, up: Rows) -> Result<u32, Refusal> {
-        split(self.engine.write(&mut self.bytes, by as u64, up.bits(), 0, &[1], &mut [0], FILE as u64))
+        let (by, up, file) = (by as u64, up.bits(), FILE as u64);
+        split(self.engine.write(&mut self.bytes, by, up, 0, &[1], &mut [0], file, &mut open_sheet(), 1))
     }
 
     fn read(&self, by: usize, up: Rows) -> Result<u32, Refusal> {

@@ -129,7 +129,7 @@ fn make(root: &Path, progress: &mut Progress) -> Result<String, String> {
     }
     let columns: Vec<Columns> = (1..=MOST_MACHINES).map(|machines| protocols.columns(machines, UP)).collect();
     let page = Page { protocols: &protocols, columns: &columns, up: UP, explored: MOST_EXPLORED, states };
-    for (name, text) in [("AVAILABILITY.md", page.text()?), ("availability.svg", chart::svg(&columns))] {
+    for (name, text) in [("AVAILABILITY.md", page.text()?), ("availability.svg", chart::svg(&columns, UP))] {
         let file = folder.join(name);
         std::fs::write(&file, text)
             .map_err(|problem| format!("cannot write {}: {problem}", file.display()))?;

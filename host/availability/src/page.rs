@@ -245,6 +245,7 @@ impl Page<'_> {
              It is the paper's, with what a relay does written out:\n\n\
              - Machines fail and are repaired independently, at rates λ while they are up and μ while they are down, with μ = {rate:.0} λ, so that each is\n\
              \x20 up μ / (λ + μ) = {} of the time. Nothing else fails, and a call takes no time.\n\
+             - All machines are of one county; lists of several bear less ([COUNTIES.md](COUNTIES.md)).\n\
              - After each event, and before the next, the machines that are up make a check. If it is done, they are the list in force. If it is\n\
              \x20 refused, the list stays until enough of its members are up again; machines outside the list can be up meanwhile, and are taken in then.\n\
              - After each check and each write the relay sends to the rows that were marked as stale, before the next event. So every row that the last\n\

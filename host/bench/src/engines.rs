@@ -20,14 +20,20 @@ pub struct Sizes {
     pub files: u64,
 }
 
+/// All writes are this club's.
+const CLUB: u64 = 1;
+
 /// Calls on a table's bytes, all with the same arguments for both engines.
 pub trait Calls {
     /// Founds a wide table.
-    fn found(&self, table: &mut [u8], sizes: Sizes, names: &[u8]) -> u64;
+    fn found(&self, table: &mut [u8], sizes: Sizes, names: &[u8], counties: &[u8]) -> u64;
     fn read(&self, table: &[u8], asked: Asked, buffer: &mut [u8], called: &mut [u8]) -> u64;
-    fn write(&self, table: &mut [u8], asked: Asked, patch: &[u8], called: &mut [u8]) -> u64;
+    /// By club 1.
+    fn write(&self, table: &mut [u8], asked: Asked, patch: &[u8], called: &mut [u8], sheet: &mut [u8])
+        -> u64;
     fn send(&self, table: &mut [u8], from: u64, to: u64, answering: u64, file: u64) -> u64;
-    fn check(&self, table: &mut [u8], coordinator: u64, answering: u64) -> u64;
+    fn check(&self, table: &mut [u8], coordinator: u64, answering: u64, sheet: &mut [u8]) -> u64;
+    /// In county 1.
     fn join(&self, table: &mut [u8], name: u16) -> u64;
     fn chart(&self, length: u64, mark: u64, list: &mut [u8]) -> u64;
     fn choice(&self, table: &[u8], coordinator: u64, kind: u64, set: &mut [u8]) -> u64;
@@ -38,7 +44,7 @@ pub struct Library;
 
 // SAFETY of the blocks below: each slice is live for the call, and Rust's borrows keep them apart.
 impl Calls for Library {
-    fn found(&self, table: &mut [u8], sizes: Sizes, names: &[u8]) -> u64 {
+    fn found(&self, table: &mut [u8], sizes: Sizes, names: &[u8], counties: &[u8]) -> u64 {
         let Sizes { capacity, file_len, files } = sizes;
         unsafe {
             raw::grid_found(
@@ -50,6 +56,8 @@ impl Calls for Library {
                 names.len(),
                 raw::WIDE,
                 files,
+                counties.as_ptr(),
+                counties.len(),
             )
         }
     }
@@ -75,7 +83,14 @@ impl Calls for Library {
         }
     }
 
-    fn write(&self, table: &mut [u8], asked: Asked, patch: &[u8], called: &mut [u8]) -> u64 {
+    fn write(
+        &self,
+        table: &mut [u8],
+        asked: Asked,
+        patch: &[u8],
+        called: &mut [u8],
+        sheet: &mut [u8],
+    ) -> u64 {
         let Asked { coordinator, answering, file, offset } = asked;
         unsafe {
             raw::grid_write(
@@ -89,6 +104,9 @@ impl Calls for Library {
                 called.as_mut_ptr(),
                 called.len(),
                 file,
+                sheet.as_mut_ptr(),
+                sheet.len(),
+                CLUB,
             )
         }
     }
@@ -97,12 +115,13 @@ impl Calls for Library {
         unsafe { raw::grid_send(table.as_mut_ptr(), table.len(), from, to, answering, file) }
     }
 
-    fn check(&self, table: &mut [u8], coordinator: u64, answering: u64) -> u64 {
-        unsafe { raw::grid_check(table.as_mut_ptr(), table.len(), coordinator, answering) }
+    fn check(&self, table: &mut [u8], coordinator: u64, answering: u64, sheet: &mut [u8]) -> u64 {
+        let (lent, length) = (sheet.as_mut_ptr(), sheet.len());
+        unsafe { raw::grid_check(table.as_mut_ptr(), table.len(), coordinator, answering, lent, length) }
     }
 
     fn join(&self, table: &mut [u8], name: u16) -> u64 {
-        unsafe { raw::grid_join(table.as_mut_ptr(), table.len(), name) }
+        unsafe { raw::grid_join(table.as_mut_ptr(), table.len(), name, 1) }
     }
 
     fn chart(&self, length: u64, mark: u64, list: &mut [u8]) -> u64 {
@@ -120,9 +139,9 @@ impl Calls for Library {
 }
 
 impl Calls for Engine {
-    fn found(&self, table: &mut [u8], sizes: Sizes, names: &[u8]) -> u64 {
+    fn found(&self, table: &mut [u8], sizes: Sizes, names: &[u8], counties: &[u8]) -> u64 {
         let Sizes { capacity, file_len, files } = sizes;
-        Engine::found(self, table, capacity, file_len, names, raw::WIDE, files)
+        Engine::found(self, table, capacity, file_len, names, raw::WIDE, files, counties)
     }
 
     fn read(&self, table: &[u8], asked: Asked, buffer: &mut [u8], called: &mut [u8]) -> u64 {
@@ -130,21 +149,28 @@ impl Calls for Engine {
         Engine::read(self, table, coordinator, answering, offset, buffer.len() as u64, buffer, called, file)
     }
 
-    fn write(&self, table: &mut [u8], asked: Asked, patch: &[u8], called: &mut [u8]) -> u64 {
+    fn write(
+        &self,
+        table: &mut [u8],
+        asked: Asked,
+        patch: &[u8],
+        called: &mut [u8],
+        sheet: &mut [u8],
+    ) -> u64 {
         let Asked { coordinator, answering, file, offset } = asked;
-        Engine::write(self, table, coordinator, answering, offset, patch, called, file)
+        Engine::write(self, table, coordinator, answering, offset, patch, called, file, sheet, CLUB)
     }
 
     fn send(&self, table: &mut [u8], from: u64, to: u64, answering: u64, file: u64) -> u64 {
         Engine::send(self, table, from, to, answering, file)
     }
 
-    fn check(&self, table: &mut [u8], coordinator: u64, answering: u64) -> u64 {
-        Engine::check(self, table, coordinator, answering)
+    fn check(&self, table: &mut [u8], coordinator: u64, answering: u64, sheet: &mut [u8]) -> u64 {
+        Engine::check(self, table, coordinator, answering, sheet)
     }
 
     fn join(&self, table: &mut [u8], name: u16) -> u64 {
-        Engine::join(self, table, name)
+        Engine::join(self, table, name, 1)
     }
 
     fn chart(&self, length: u64, mark: u64, list: &mut [u8]) -> u64 {

@@ -110,11 +110,13 @@ pub fn page(timings: &[Timing], load: &str, runs: usize, processes: usize) -> St
          - a joined row coordinates: the same table; it has no choice of its own, so that the call works on all that answered; all machines answer;\n\
          - 5 of 64 rows used: founded, with 59 unused rows to be found all zero; all five answer;\n\
          - tall: founded tall, all others wide; all machines answer;\n\
+         - four counties: founded with as many machines of each of four counties, all others of one; all machines answer;\n\
          - 8 files: a group, all others are of one file. The last file is read, written and sent. Every call looks over the copies of all files\n\
          \x20 once, to see that the table is well formed; then a read, write or send polls the copies of its file, a check those of all eight.\n\n\
          Row 1 coordinates, if nothing else is said. Before each send the receiver is made stale again, which is in the times of both. A send of the\n\
          whole file has a sender whose window does not reach back to the receiver's version; a refused send has a receiver that is not stale. A write of\n\
-         16 bytes fills the windows of the rows that it writes within a run's first 16 calls, wherever it begins. A check with a new list leaves out the\n\
+         16 bytes fills the windows of the rows that it writes within a run's first 16 calls, wherever it begins. Writes and checks are lent a sheet\n\
+         without limits, a write that is refused by 18 one whose ceilings are 0. A check with a new list leaves out the\n\
          last row and takes it in again by turns. A joining comes in the middle of the chain, and is undone before the next one, which is in the times\n\
          of both. A chart is of as many members as there are machines, in the published grid, and looks at no table; the reference puts its sets together\n\
          from columns. A choice is that of row 1, whose own list is of all machines. A move goes from form 2 up to form 3, or down, with the\n\

@@ -1,9 +1,9 @@
 //! The tables that the calls are timed on.
 
-use crate::tasks::{Task, EVERY_TASK};
+use crate::tasks::{self, Task, EVERY_TASK};
 use dyngrid::{raw, Rows};
 use reference::rows::{self, Order};
-use reference::{Engine, Grid, Layout, Quorum, Rules, Shape, Table, ROW_HEADER};
+use reference::{Counties, Engine, Grid, Layout, Quorum, Rules, Shape, Table, ROW_HEADER};
 
 /// A well-formed table, and the calls that are timed on it.
 pub struct State {
@@ -42,6 +42,8 @@ pub struct Size {
     pub capacity: usize,
     pub file_len: usize,
     pub files: usize,
+    /// The machines are of so many counties, by turns.
+    counties: usize,
 }
 
 const SIZES: [Size; 3] = [
@@ -87,6 +89,16 @@ const FULL_GROUP_TASKS: &[Task] = &[
     Task::CheckSame,
     Task::CheckNew,
 ];
+const COUNTY_TASKS: &[Task] = &[
+    Task::Found,
+    Task::Read(16),
+    Task::Write(16),
+    Task::Send,
+    Task::CheckSame,
+    Task::CheckNew,
+    Task::Choice(raw::READ),
+    Task::Choice(raw::WRITE),
+];
 const READ_AND_WRITE: &[Task] = &[Task::Read(16), Task::Write(16)];
 const READ_WRITE_AND_CHECK: &[Task] = &[Task::Read(16), Task::Write(16), Task::CheckSame];
 
@@ -110,6 +122,7 @@ pub fn all() -> Vec<State> {
         .collect();
     states.push(State { tasks: SPARSE_TASKS, ..founded(SPARSE) });
     states.extend(TALL_SIZES.map(tall));
+    states.extend(SIZES.map(four_counties));
     states.push(full_windows(SIZES[2], LONGEST));
     states.extend(GROUPS.into_iter().flat_map(|size| {
         let full = full_windows(size, RESULT);
@@ -126,11 +139,15 @@ pub fn all() -> Vec<State> {
 impl Size {
     /// All rows in use.
     const fn new(title: &'static str, used: usize, file_len: usize, files: usize) -> Size {
-        Size { title, used, capacity: used, file_len, files }
+        Size { title, used, capacity: used, file_len, files, counties: 1 }
     }
 
     pub fn names(&self) -> Vec<u8> {
         (1..=self.used).flat_map(name).collect()
+    }
+
+    pub fn counties(&self) -> Vec<u8> {
+        (0..self.used).map(|place| (place % self.counties) as u8 + 1).collect()
     }
 
     fn title(&self, state: &str) -> String {
@@ -172,10 +189,17 @@ fn tall(size: Size) -> State {
     State { title: size.title("tall"), tasks: READ_AND_WRITE, ..founded_as(size, raw::TALL) }
 }
 
+/// Founded with as many machines of each of four counties.
+fn four_counties(size: Size) -> State {
+    let size = Size { counties: 4, ..size };
+    State { title: size.title("four counties"), tasks: COUNTY_TASKS, ..founded(size) }
+}
+
 fn founded_as(size: Size, choice: u64) -> State {
     let mut table = vec![0; Table::length(size.capacity, size.file_len, size.files)];
     let (capacity, file_len, files) = (size.capacity as u64, size.file_len as u64, size.files as u64);
-    Engine::default().found(&mut table, capacity, file_len, &size.names(), choice, files);
+    let (names, counties) = (size.names(), size.counties());
+    Engine::default().found(&mut table, capacity, file_len, &names, choice, files, &counties);
     let answering = rows::first(size.used);
     let title = size.title("founded");
     State {
@@ -272,7 +296,7 @@ fn partial_list(size: Size) -> State {
     let columns = Grid::of(size.used).columns;
     let outside = (1..=size.used).rev().filter(|row| (row - 1) % columns != 0).take(size.used / 4);
     let list = outside.fold(state.answering, |list, row| list & !rows::only(row));
-    let result = Engine::default().check(&mut state.table, 1, list);
+    let result = Engine::default().check(&mut state.table, 1, list, &mut tasks::open_sheet());
     assert_eq!(result, 1, "the check was refused");
     State { title: size.title("list of three quarters"), answering: list, tasks: SOME_TASKS, ..state }
 }
@@ -283,8 +307,8 @@ fn few_answering(size: Size) -> State {
     let columns = Grid::of(size.used).columns;
     let quorum = (1..=size.used).filter(|row| (row - 1) % columns == 0 || *row > size.used - columns);
     let answering = quorum.fold(0, |set, row| set | rows::only(row));
-    let list = Rules::default().lay(Shape::Wide, rows::first(size.used));
-    let layout = Layout::of(list, &Order::first(size.used));
+    let list = Rules::default().lay(Shape::Wide, rows::first(size.used), &Counties::ONE);
+    let layout = Layout::of(list, &Order::first(size.used), &Counties::ONE);
     for quorum in [Quorum::Read, Quorum::Write] {
         let choice = layout.choice(quorum, u16::from_le_bytes(name(1)));
         assert!(layout.holds(quorum, answering) && !layout.holds(quorum, choice & answering));
@@ -304,7 +328,7 @@ fn joined(size: Size) -> State {
     let mut state = founded(listed);
     for rank in 1..=size.used / 4 {
         let name = u16::from_le_bytes(name(rank)) + 1;
-        let result = Engine::default().join(&mut state.table, name);
+        let result = Engine::default().join(&mut state.table, name, 1);
         assert_eq!(result, (listed.used + rank) as u64, "the joining was refused");
     }
     State { title: size.title("a quarter joined"), size, tasks: READ_WRITE_AND_CHECK, ..state }

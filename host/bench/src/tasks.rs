@@ -2,8 +2,8 @@
 
 use crate::engines::{Asked, Calls, Sizes};
 use crate::states::{self, State};
-use dyngrid::{raw, Form3Table, OlderForm, Rows, Table};
-use reference::{rows, Rules, CHART_PLACES, ROW_HEADER};
+use dyngrid::{raw, Form3Table, OlderForm, Rows, Sheet, Table};
+use reference::{rows, Row, Rules, CHART_PLACES, COUNTY, ROW_HEADER};
 use std::fmt;
 use std::hint::black_box;
 use std::ops::Range;
@@ -18,6 +18,8 @@ pub enum Task {
     /// So many bytes, or the whole file if it is shorter.
     Read(usize),
     Write(usize),
+    /// Of 16 bytes, by a club that is at its ceiling.
+    RefusedWrite,
     /// Of the whole file: the sender's window does not reach back to the receiver's version.
     Send,
     /// By window: so many patches are missing.
@@ -40,12 +42,13 @@ pub enum Task {
 const DOWN: OlderForm = OlderForm::Two;
 const UP: OlderForm = OlderForm::Three;
 
-pub const EVERY_TASK: [Task; 13] = [
+pub const EVERY_TASK: [Task; 14] = [
     Task::Found,
     Task::Read(16),
     Task::Read(WHOLE),
     Task::Write(16),
     Task::Write(WHOLE),
+    Task::RefusedWrite,
     Task::Send,
     Task::RefusedSend,
     Task::CheckSame,
@@ -64,6 +67,7 @@ impl fmt::Display for Task {
             Task::Read(length) => write!(f, "read, {length} bytes"),
             Task::Write(WHOLE) => f.write_str("write, whole file"),
             Task::Write(length) => write!(f, "write, {length} bytes"),
+            Task::RefusedWrite => f.write_str("write, refused by 18"),
             Task::Send => f.write_str("send, whole file"),
             Task::SendPatches(1) => f.write_str("send, 1 patch"),
             Task::SendPatches(patches) => write!(f, "send, {patches} patches"),
@@ -85,6 +89,7 @@ impl Task {
     fn refusal(self) -> u64 {
         match self {
             Task::RefusedSend => 10,
+            Task::RefusedWrite => 18,
             _ => 0,
         }
     }
@@ -95,9 +100,10 @@ impl Task {
         let behind = self.behind(state);
         let mut table = state.with_receiver(behind);
         let (all, but_one) = (answering, answering & !rows::only(size.used));
-        let names = size.names();
+        let (names, counties) = (size.names(), size.counties());
         let mut bytes = match self {
             Task::Read(length) | Task::Write(length) => vec![7; length.min(size.file_len)],
+            Task::RefusedWrite => vec![7; 16],
             Task::Chart => vec![7; 2 * CHART_PLACES],
             Task::Choice(_) => vec![7; 8],
             _ => Vec::new(),
@@ -122,26 +128,36 @@ impl Task {
         let newest = state.newest;
         let asked = Asked { coordinator, answering, file, offset: 0 };
         let mut called = [0];
+        // Of a sheet of zeros every ceiling is 0.
+        let mut sheet = if let Task::RefusedWrite = self { vec![0; 196] } else { open_sheet() };
         let mut result = 0;
         let started = Instant::now();
         for call in 0..calls {
             result = match self {
-                Task::Found => engine.found(black_box(&mut table), sizes, black_box(&names)),
+                Task::Found => {
+                    engine.found(black_box(&mut table), sizes, black_box(&names), black_box(&counties))
+                }
                 Task::Read(_) => {
                     engine.read(black_box(&table), asked, black_box(&mut bytes), black_box(&mut called))
                 }
-                Task::Write(_) => {
-                    engine.write(black_box(&mut table), asked, black_box(&bytes), black_box(&mut called))
-                }
+                Task::Write(_) | Task::RefusedWrite => engine.write(
+                    black_box(&mut table),
+                    asked,
+                    black_box(&bytes),
+                    black_box(&mut called),
+                    black_box(&mut sheet),
+                ),
                 Task::Send | Task::SendPatches(_) => {
                     states::make_stale(&mut table, receiver, newest - behind, newest);
                     engine.send(black_box(&mut table), 1, 2, 3, file)
                 }
                 Task::RefusedSend => engine.send(black_box(&mut table), 1, 2, 3, file),
-                Task::CheckSame => engine.check(black_box(&mut table), coordinator, all),
+                Task::CheckSame => {
+                    engine.check(black_box(&mut table), coordinator, all, black_box(&mut sheet))
+                }
                 Task::CheckNew => {
                     let set = if call % 2 == 0 { but_one } else { all };
-                    engine.check(black_box(&mut table), coordinator, set)
+                    engine.check(black_box(&mut table), coordinator, set, black_box(&mut sheet))
                 }
                 Task::Join => {
                     unjoin(&mut table, size.row_at(middle), size.row_at(next));
@@ -159,7 +175,7 @@ impl Task {
             assert!(black_box(result) >> 32 == self.refusal(), "{}: {self} has another refusal", state.title);
         }
         let time = started.elapsed();
-        (time, Left { table, bytes, called, result })
+        (time, Left { table, bytes, called, sheet, result })
     }
 
     /// How many writes the receiver of a send misses.
@@ -204,13 +220,19 @@ pub struct Carried {
 }
 
 /// What the calls of a task leave: the table, the other bytes that were lent, how many machines the last read or write
-/// called, and the last result.
+/// called, the sheet, and the last result.
 #[derive(PartialEq, Eq)]
 pub struct Left {
     table: Vec<u8>,
     bytes: Vec<u8>,
     called: [u8; 1],
+    sheet: Vec<u8>,
     result: u64,
+}
+
+/// The bytes of a sheet without limits.
+pub fn open_sheet() -> Vec<u8> {
+    Sheet::open().as_bytes().to_vec()
 }
 
 /// The rows of a table of one file, in form 3.
@@ -221,7 +243,7 @@ fn in_form_3(newest: &[u8]) -> Form3Table {
     let mut bytes = vec![0; Rules::OneFile.table_length(capacity, file_len, files)];
     older.write_header(&mut bytes, newest[3].into());
     for row in 1..=used {
-        older.write_row(&mut bytes, row, &table.row(newest, row));
+        older.write_row(&mut bytes, row, &Row { county: 0, ..table.row(newest, row) });
         older.write_part(&mut bytes, row, 1, &table.part(newest, row, 1));
         older.contents_mut(&mut bytes, row, 1).copy_from_slice(table.contents(newest, row, 1));
         *older.window_mut(&mut bytes, row, 1) = *table.window(newest, row, 1);
@@ -235,5 +257,6 @@ fn unjoin(table: &mut [u8], before: usize, joined: usize) {
         table[2] -= 1;
         table[before + 2] = table[joined + 2];
         table[joined..joined + 3].fill(0);
+        table[joined + COUNTY] = 0;
     }
 }

@@ -8,22 +8,27 @@ use std::sync::atomic::{AtomicPtr, AtomicU64, Ordering};
 
 /// A little above the longest table that a case can have, which is the longest list too: the second buffer of a move.
 const LONGEST_TABLE: usize = 2_710_000;
-const LONGEST_CALLED: usize = 16;
+/// A little above the longest list for the number called, and the longest one of counties.
+const LONGEST_SECOND: usize = 100;
+/// A little above the longest sheet, which is none.
+const LONGEST_SHEET: usize = 500;
 
 pub struct Archive {
     table: Guard,
     /// The other slice of a call: its names, buffer, patch, the list of a chart or a choice, or the second buffer of a move.
     list: Guard,
-    /// The list for the number of machines called.
-    called: Guard,
+    /// The list for the number of machines called, or the counties of a founding.
+    second: Guard,
+    sheet: Guard,
     pub edge: Edge,
 }
 
 impl Archive {
     pub fn new() -> Archive {
         raw::assert_interface();
-        let [table, list, called] = [LONGEST_TABLE, LONGEST_TABLE, LONGEST_CALLED].map(Guard::new);
-        Archive { table, list, called, edge: Edge::End }
+        let [table, list] = [LONGEST_TABLE; 2].map(Guard::new);
+        let [second, sheet] = [LONGEST_SECOND, LONGEST_SHEET].map(Guard::new);
+        Archive { table, list, second, sheet, edge: Edge::End }
     }
 
     /// Makes the call; an error says which lent memory it harmed.
@@ -39,37 +44,49 @@ impl Archive {
         };
         self.table.place(table, self.edge);
         self.list.place(lent, self.edge);
-        let called = call.called().unwrap_or_default();
-        self.called.place(called, self.edge);
+        let (called, counties) = (call.called(), call.counties());
+        let second = called.or(counties).unwrap_or_default();
+        self.second.place(second, self.edge);
+        let sheet = call.sheet().unwrap_or_default();
+        self.sheet.place(sheet, self.edge);
         CALL.store(std::ptr::from_ref(call).cast_mut(), Ordering::Relaxed);
-        let result = self.enter(table.len(), lent.len(), called.len(), call);
+        let result = self.enter(table.len(), lent.len(), second.len(), sheet.len(), call);
         CALL.store(std::ptr::null_mut(), Ordering::Relaxed);
 
         if !self.table.intact() {
             return Err("the archive wrote beside the table".into());
         }
-        if !self.list.intact() || !self.called.intact() {
+        if !self.list.intact() || !self.second.intact() || !self.sheet.intact() {
             return Err("the archive wrote beside a list".into());
         }
         let written = call.lent().is_some();
-        if !written && self.list.slice() != lent {
-            return Err("the archive altered names or patch".into());
+        if !written && self.list.slice() != lent || called.is_none() && self.second.slice() != second {
+            return Err("the archive altered names, counties or patch".into());
         }
         table.copy_from_slice(self.table.slice());
         let buffer = if written { self.list.slice().to_vec() } else { Vec::new() };
-        Ok(Answer { result, buffer, called: self.called.slice().to_vec() })
+        let called = if called.is_some() { self.second.slice().to_vec() } else { Vec::new() };
+        Ok(Answer { result, buffer, called, sheet: self.sheet.slice().to_vec() })
     }
 
-    fn enter(&mut self, table_len: usize, list_len: usize, called_len: usize, call: &Call) -> u64 {
+    fn enter(
+        &mut self,
+        table_len: usize,
+        list_len: usize,
+        second_len: usize,
+        sheet_len: usize,
+        call: &Call,
+    ) -> u64 {
         let table = lend(&mut self.table, table_len, self.edge);
         let list = lend(&mut self.list, list_len, self.edge);
-        let called = lend(&mut self.called, called_len, self.edge);
-        // SAFETY: table, list and called are three slices of these lengths in three mappings.
+        let second = lend(&mut self.second, second_len, self.edge);
+        let sheet = lend(&mut self.sheet, sheet_len, self.edge);
+        // SAFETY: table, list, second and sheet are four slices of these lengths in four mappings.
         unsafe {
             match *call {
-                Call::Found { capacity, file_len, choice, files, .. } => {
-                    raw::grid_found(table, table_len, capacity, file_len, list, list_len, choice, files)
-                }
+                Call::Found { capacity, file_len, choice, files, .. } => raw::grid_found(
+                    table, table_len, capacity, file_len, list, list_len, choice, files, second, second_len,
+                ),
                 Call::Read { coordinator, answering, offset, length, file, .. } => raw::grid_read(
                     table,
                     table_len,
@@ -79,11 +96,11 @@ impl Archive {
                     length,
                     list,
                     list_len,
-                    called,
-                    called_len,
+                    second,
+                    second_len,
                     file,
                 ),
-                Call::Write { coordinator, answering, offset, file, .. } => raw::grid_write(
+                Call::Write { coordinator, answering, offset, file, club, .. } => raw::grid_write(
                     table,
                     table_len,
                     coordinator,
@@ -91,17 +108,20 @@ impl Archive {
                     offset,
                     list,
                     list_len,
-                    called,
-                    called_len,
+                    second,
+                    second_len,
                     file,
+                    sheet,
+                    sheet_len,
+                    club,
                 ),
                 Call::Send { from, to, answering, file } => {
                     raw::grid_send(table, table_len, from, to, answering, file)
                 }
-                Call::Check { coordinator, answering } => {
-                    raw::grid_check(table, table_len, coordinator, answering)
+                Call::Check { coordinator, answering, .. } => {
+                    raw::grid_check(table, table_len, coordinator, answering, sheet, sheet_len)
                 }
-                Call::Join { name } => raw::grid_join(table, table_len, name),
+                Call::Join { name, county } => raw::grid_join(table, table_len, name, county),
                 Call::Chart { length, mark, .. } => raw::grid_chart(length, mark, list, list_len),
                 Call::Choice { coordinator, kind, .. } => {
                     raw::grid_choice(table, table_len, coordinator, kind, list, list_len)

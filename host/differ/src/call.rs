@@ -11,6 +11,7 @@ pub enum Call {
         names: Vec<u8>,
         choice: u64,
         files: u64,
+        counties: Vec<u8>,
     },
     Read {
         coordinator: u64,
@@ -28,6 +29,8 @@ pub enum Call {
         patch: Vec<u8>,
         called: Vec<u8>,
         file: u64,
+        sheet: Vec<u8>,
+        club: u64,
     },
     Send {
         from: u64,
@@ -38,9 +41,11 @@ pub enum Call {
     Check {
         coordinator: u64,
         answering: u64,
+        sheet: Vec<u8>,
     },
     Join {
         name: u16,
+        county: u64,
     },
     Chart {
         length: u64,
@@ -60,13 +65,15 @@ pub enum Call {
     },
 }
 
-/// What a call gave: its result, the bytes that its buffer, or the list of a chart or a choice, then holds (empty but for these), and
-/// those that the list for the number called holds (empty but for a read and a write).
-#[derive(Clone, Debug, PartialEq, Eq)]
+/// What a call gave: its result, the bytes that its buffer, or the list of a chart or a choice, then holds (empty but for these),
+/// those that the list for the number called holds (empty but for a read and a write), and those of the sheet (empty but for a write
+/// and a check).
+#[derive(Clone, Debug, Default, PartialEq, Eq)]
 pub struct Answer {
     pub result: u64,
     pub buffer: Vec<u8>,
     pub called: Vec<u8>,
+    pub sheet: Vec<u8>,
 }
 
 impl Call {
@@ -112,6 +119,30 @@ impl Call {
         }
     }
 
+    /// The sheet that a write or a check is lent.
+    pub fn sheet(&self) -> Option<&[u8]> {
+        match self {
+            Call::Write { sheet, .. } | Call::Check { sheet, .. } => Some(sheet),
+            _ => None,
+        }
+    }
+
+    /// Lends a write or a check another sheet.
+    pub fn lend(&mut self, lent: &[u8]) {
+        match self {
+            Call::Write { sheet, .. } | Call::Check { sheet, .. } => *sheet = lent.to_vec(),
+            _ => {}
+        }
+    }
+
+    /// The counties that a founding names.
+    pub fn counties(&self) -> Option<&[u8]> {
+        match self {
+            Call::Found { counties, .. } => Some(counties),
+            _ => None,
+        }
+    }
+
     /// What a done call may write besides the table and the number called.
     pub fn lent(&self) -> Option<&[u8]> {
         match self {
@@ -123,7 +154,7 @@ impl Call {
         }
     }
 
-    /// The rows that a call may look at, beyond names and links, if it looks at any: those that answered, or the coordinator of
+    /// The rows that a call may look at, beyond names, links and counties, if it looks at any: those that answered, or the coordinator of
     /// a choice. A joining looks at none; a move carries all of them over.
     pub fn seen(&self) -> Option<u64> {
         match *self {
@@ -163,51 +194,57 @@ impl Call {
     pub fn refer(&self, engine: Engine, table: &mut [u8]) -> Answer {
         let mut lent = self.lent().unwrap_or_default().to_vec();
         let mut number = self.called().unwrap_or_default().to_vec();
+        let mut sheet = self.sheet().unwrap_or_default().to_vec();
         let result = match self {
-            Call::Found { capacity, file_len, names, choice, files } => {
-                engine.found(table, *capacity, *file_len, names, *choice, *files)
+            Call::Found { capacity, file_len, names, choice, files, counties } => {
+                engine.found(table, *capacity, *file_len, names, *choice, *files, counties)
             }
             Call::Read { coordinator, answering, offset, length, file, .. } => {
                 engine.read(table, *coordinator, *answering, *offset, *length, &mut lent, &mut number, *file)
             }
-            Call::Write { coordinator, answering, offset, patch, file, .. } => {
-                engine.write(table, *coordinator, *answering, *offset, patch, &mut number, *file)
+            Call::Write { coordinator: c, answering, offset, patch, file, club, .. } => {
+                engine.write(table, *c, *answering, *offset, patch, &mut number, *file, &mut sheet, *club)
             }
             Call::Send { from, to, answering, file } => engine.send(table, *from, *to, *answering, *file),
-            Call::Check { coordinator, answering } => engine.check(table, *coordinator, *answering),
-            Call::Join { name } => engine.join(table, *name),
+            Call::Check { coordinator, answering, .. } => {
+                engine.check(table, *coordinator, *answering, &mut sheet)
+            }
+            Call::Join { name, county } => engine.join(table, *name, *county),
             Call::Chart { length, mark, .. } => engine.chart(*length, *mark, &mut lent),
             Call::Choice { coordinator, kind, .. } => engine.choice(table, *coordinator, *kind, &mut lent),
             Call::Move { form, .. } => engine.carry(table, *form, &mut lent),
         };
-        Answer { result, buffer: lent, called: number }
+        Answer { result, buffer: lent, called: number, sheet }
     }
 }
 
 impl fmt::Display for Call {
     fn fmt(&self, f: &mut fmt::Formatter) -> fmt::Result {
         match self {
-            Call::Found { capacity, file_len, names, choice, files } => {
+            Call::Found { capacity, file_len, names, choice, files, counties } => {
                 write!(f, "grid_found(capacity {capacity}, length {file_len}, names {}", names_shown(names))?;
-                write!(f, ", choice {choice}, files {files})")
+                let counties: Vec<String> = counties.iter().map(u8::to_string).collect();
+                write!(f, ", choice {choice}, files {files}, counties {{{}}})", counties.join(","))
             }
             Call::Read { coordinator, answering, offset, length, buffer, called, file } => {
                 write!(f, "grid_read(coordinator {coordinator}, answering {}", set_shown(*answering))?;
                 write!(f, ", offset {offset}, length {length}, buffer of {} bytes", buffer.len())?;
                 write!(f, ", called {}, file {file})", bytes_shown(called))
             }
-            Call::Write { coordinator, answering, offset, patch, called, file } => {
+            Call::Write { coordinator, answering, offset, patch, called, file, sheet, club } => {
                 write!(f, "grid_write(coordinator {coordinator}, answering {}", set_shown(*answering))?;
                 write!(f, ", offset {offset}, patch {}", bytes_shown(patch))?;
-                write!(f, ", called {}, file {file})", bytes_shown(called))
+                write!(f, ", called {}, file {file}", bytes_shown(called))?;
+                write!(f, ", sheet {}, club {club})", bytes_shown(sheet))
             }
             Call::Send { from, to, answering, file } => {
                 write!(f, "grid_send(from {from}, to {to}, answering {}, file {file})", set_shown(*answering))
             }
-            Call::Check { coordinator, answering } => {
-                write!(f, "grid_check(coordinator {coordinator}, answering {})", set_shown(*answering))
+            Call::Check { coordinator, answering, sheet } => {
+                write!(f, "grid_check(coordinator {coordinator}, answering {}", set_shown(*answering))?;
+                write!(f, ", sheet {})", bytes_shown(sheet))
             }
-            Call::Join { name } => write!(f, "grid_join(name {name})"),
+            Call::Join { name, county } => write!(f, "grid_join(name {name}, county {county})"),
             Call::Chart { length, mark, list } => {
                 write!(f, "grid_chart(length {length}, mark {mark}, list {})", bytes_shown(list))
             }

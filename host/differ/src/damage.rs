@@ -4,7 +4,8 @@ use crate::random::Random;
 use crate::tables::{self, Picture, Size};
 use reference::window::{LONGEST_PATCH, RECORD, RECORDS, WINDOW};
 use reference::{
-    rows, Rules, Shape, Table, FORM, HEADER, LIMIT, MAX_FILES, OLDEST, PART_HEADER, ROW_HEADER, TALL,
+    rows, Counties, Rules, Shape, Table, COUNTY, FORM, HEADER, LIMIT, MAX_COUNTIES, MAX_FILES, OLDEST,
+    PART_HEADER, ROW_HEADER, SEVERAL, TALL,
 };
 use std::ops::Deref;
 
@@ -48,9 +49,14 @@ pub enum Needs {
     UnusedParts,
     /// The scope's rules alone, and so many used rows.
     Scope(usize),
+    /// Counties, and so many used rows.
+    County(usize),
+    /// No counties.
+    NoCounties,
 }
 use Needs::{
-    FewerThan64, File, NoWindows, Nothing, Part, Parts, Rows, Scope, UnusedParts, UnusedRow, Windows,
+    County, FewerThan64, File, NoCounties, NoWindows, Nothing, Part, Parts, Rows, Scope, UnusedParts,
+    UnusedRow, Windows,
 };
 
 impl Needs {
@@ -61,6 +67,8 @@ impl Needs {
             NoWindows => !rules.has_windows(),
             Parts | Part | UnusedParts => rules.has_parts(),
             Scope(_) => rules == Rules::Published,
+            County(_) => rules.has_counties(),
+            NoCounties => !rules.has_counties(),
             Nothing | File | FewerThan64 | UnusedRow | Rows(_) => true,
         }
     }
@@ -75,7 +83,7 @@ impl Needs {
     }
 }
 
-pub const RULES: [(&str, Needs, Damage); 85] = [
+pub const RULES: [(&str, Needs, Damage); 99] = [
     ("empty", Nothing, |bytes, _, _| bytes.clear()),
     ("truncated", Nothing, |bytes, _, random| bytes.truncate(random.between(1, bytes.len() - 2))),
     ("a byte short", Nothing, |bytes, _, _| bytes.truncate(bytes.len() - 1)),
@@ -85,9 +93,10 @@ pub const RULES: [(&str, Needs, Damage); 85] = [
     ("form", Nothing, |bytes, _, random| bytes[0] = random.pick(&[0, FORM + 1, 6, 255])),
     ("form of other rows", Nothing, |bytes, table, random| {
         bytes[0] = random.pick(match table.rules {
-            Rules::Published | Rules::Windowless => &[3, 4],
-            Rules::OneFile => &[1, 2, 4],
-            Rules::Newest => &[1, 2, 3],
+            Rules::Published | Rules::Windowless => &[3, 4, 5],
+            Rules::OneFile => &[1, 2, 4, 5],
+            Rules::OneCounty => &[1, 2, 3, 5],
+            Rules::Newest => &[1, 2, 3, 4],
         });
     }),
     ("rows without windows", Windows, |bytes, table, _| {
@@ -107,7 +116,7 @@ pub const RULES: [(&str, Needs, Damage); 85] = [
     ("list in the new grid by the scope alone", Scope(5), |bytes, table, random| {
         put_marked(bytes, table, random, 5, 1);
     }),
-    ("tall list by the scope alone", Scope(2), |bytes, table, _| put_marks(bytes, table, TALL)),
+    ("tall list by the scope alone", Scope(2), |bytes, table, _| put_marks(bytes, table, Shape::Tall)),
     ("capacity 0", Nothing, |bytes, _, _| {
         bytes[1] = 0;
         bytes.truncate(HEADER);
@@ -224,10 +233,10 @@ pub const RULES: [(&str, Needs, Damage); 85] = [
         put(bytes, table, row, 24, &[random.pick(&[1, 2])]);
     }),
     ("grid mark of no grid", Nothing, |bytes, table, random| {
-        put(bytes, table, any_row(table, random), 24, &[random.pick(&[3, 4, 128, 130, 255])]);
+        put(bytes, table, any_row(table, random), 24, &[random.pick(&[4, 5, 128, 130, 131, 255])]);
     }),
     ("grid mark of no grid, list of five", Rows(5), |bytes, table, random| {
-        let mark = random.pick(&[3, 129, 255]);
+        let mark = random.pick(&[SEVERAL, 4, 129, 255]);
         put_marked(bytes, table, random, 5, mark);
     }),
     ("grid marks of one epoch", Rows(5), |bytes, table, random| {
@@ -242,26 +251,86 @@ pub const RULES: [(&str, Needs, Damage); 85] = [
         put(bytes, table, rows[2], 24, &[0]);
     }),
     ("grid mark of an empty list in a tall table", Nothing, |bytes, table, random| {
-        put_marks(bytes, table, TALL);
+        put_marks(bytes, table, Shape::Tall);
         let row = unlisted_row(bytes, table, random);
         put(bytes, table, row, 24, &[TALL]);
     }),
     ("grid mark 0 in a tall table", Nothing, |bytes, table, random| {
-        put_two_marks(bytes, table, random, TALL, 0);
+        put_one_county(bytes, table, random);
+        put_two_marks(bytes, table, random, Shape::Tall, 0);
     }),
     ("grid mark 1 in a tall table", Rows(6), |bytes, table, random| {
         let five = put_marked(bytes, table, random, 5, 1);
         let others = five.iter().fold(table.all_used(), |others, &row| others & !rows::only(row));
-        put_marks(bytes, table, TALL);
+        put_marks(bytes, table, Shape::Tall);
         five.iter().for_each(|&row| put(bytes, table, row, 24, &[1]));
         put_other_list(bytes, table, random.row(others), TALL);
     }),
     ("grid mark 2 in a wide table", Nothing, |bytes, table, random| {
-        put_two_marks(bytes, table, random, 0, TALL);
+        put_one_county(bytes, table, random);
+        put_two_marks(bytes, table, random, Shape::Wide, TALL);
+    }),
+    ("grid mark 2 of several counties in a wide table", County(2), |bytes, table, random| {
+        put_counties(bytes, table, random, table.all_used());
+        put_two_marks(bytes, table, random, Shape::Wide, TALL);
+    }),
+    ("grid mark 3 of several counties in a tall table", County(2), |bytes, table, random| {
+        put_counties(bytes, table, random, table.all_used());
+        put_two_marks(bytes, table, random, Shape::Tall, SEVERAL);
+    }),
+    ("grid mark 3 where there are no counties", NoCounties, |bytes, table, random| {
+        put_marked(bytes, table, random, 2, SEVERAL);
+    }),
+    ("grid mark 3 of one county", County(2), |bytes, table, random| {
+        let length = random.between(1, table.used.min(6)) as u32;
+        put_marked(bytes, table, random, length, SEVERAL);
+    }),
+    ("grid mark 3 of one county in a table of several", County(3), |bytes, table, random| {
+        let length = random.between(1, (table.used - 1).min(6)) as u32;
+        let members = put_marked(bytes, table, random, length, SEVERAL);
+        let others = members.iter().fold(table.all_used(), |others, &row| others & !rows::only(row));
+        let county = bytes[table.row_at(members[0]) + COUNTY];
+        let other = random.row(others);
+        put(bytes, table, other, COUNTY, &[county % MAX_COUNTIES as u8 + 1]);
+        put_marks(bytes, table, Shape::Wide);
+        members.iter().for_each(|&row| put(bytes, table, row, 24, &[SEVERAL]));
+    }),
+    ("grid mark 0 of several counties", County(2), |bytes, table, random| {
+        let length = random.between(2, table.used.min(7)) as u32;
+        put_split(bytes, table, random, length, 0);
+    }),
+    ("grid mark 0 of several counties, list of five", County(5), |bytes, table, random| {
+        put_split(bytes, table, random, 5, 0);
+    }),
+    ("grid mark 1 of several counties", County(5), |bytes, table, random| {
+        put_split(bytes, table, random, 5, 1);
+    }),
+    ("grid marks of one epoch, several counties", County(3), |bytes, table, random| {
+        let members = put_split(bytes, table, random, 3, SEVERAL);
+        put(bytes, table, members[0], 24, &[random.pick(&[0, 1, TALL])]);
+    }),
+    ("county 0", County(2), |bytes, table, random| {
+        put(bytes, table, any_row(table, random), COUNTY, &[0]);
+    }),
+    ("county above 8", County(2), |bytes, table, random| {
+        put(bytes, table, any_row(table, random), COUNTY, &[random.pick(&[9, 9, 16, 128, 255])]);
+    }),
+    ("county that the mark of a list does not know of", County(2), |bytes, table, random| {
+        let length = random.between(2, table.used.min(6)) as u32;
+        let members = put_marked(bytes, table, random, length, 0);
+        let county = bytes[table.row_at(members[0]) + COUNTY];
+        put(bytes, table, members[0], COUNTY, &[county % MAX_COUNTIES as u8 + 1]);
+    }),
+    ("county of a joined row", County(2), |bytes, table, random| {
+        let row = unlisted_row(bytes, table, random);
+        put(bytes, table, row, COUNTY, &[random.pick(&[0, 9, 255])]);
+    }),
+    ("row not zero where form 5 has the county", NoCounties, |bytes, table, random| {
+        put(bytes, table, any_row(table, random), COUNTY, &[random.pick(&[1, 2, 8, 9, 255])]);
     }),
     ("grid marks of one epoch in a tall table", Rows(3), |bytes, table, random| {
         let rows = put_marked(bytes, table, random, 3, TALL);
-        put_marks(bytes, table, TALL);
+        put_marks(bytes, table, Shape::Tall);
         put(bytes, table, rows[0], 24, &[0]);
     }),
     ("grid marks 1 and 2 of one epoch", Rows(5), |bytes, table, random| {
@@ -468,7 +537,7 @@ fn damaged_by(random: &mut Random, rules: Rules, rule: usize) -> Damaged {
 
 /// In half of the cases every row is used.
 fn size(random: &mut Random, needs: Needs) -> Size {
-    let least = if let Rows(least) | Scope(least) = needs { least } else { 2 };
+    let least = if let Rows(least) | Scope(least) | County(least) = needs { least } else { 2 };
     let most = if needs == FewerThan64 || needs.unused_row() { 63 } else { 64 };
     let used = random.pick(&[2, 3, 4, 5, 6, 7, 15, 40, 63, 64]).clamp(least, most);
     let capacity = match random.between(0, 3) {
@@ -566,17 +635,54 @@ fn put_oldest(bytes: &mut [u8], table: &Target, row: usize, oldest: u8) {
     bytes[oldest_at(table, row)] = oldest;
 }
 
-/// A byte of a head that is zero in every form; byte 25 is not in form 3.
+/// A byte of a head that is zero in its form; byte 25 is not in form 3, nor byte 26 in form 5.
 fn spare_byte(table: &Picture, random: &mut Random) -> usize {
-    random.between(if table.rules == Rules::OneFile { OLDEST + 1 } else { OLDEST }, ROW_HEADER - 1)
+    let any = random.between(OLDEST, ROW_HEADER - 1);
+    let byte = random.pick(&[OLDEST, COUNTY, COUNTY + 1, any]);
+    match table.rules {
+        Rules::OneFile => byte.max(COUNTY),
+        Rules::Newest if byte == COUNTY => COUNTY + 1,
+        _ => byte,
+    }
 }
 
-/// Gives a row the free epoch, and this list in the published grid, or in the tall one of a tall table.
+/// Gives a row the free epoch, and this list, which no founding lays in the new grid of five.
 fn put_list(bytes: &mut [u8], table: &Picture, row: usize, list: u64) {
-    let tall = list != 0 && table.shape() == Some(Shape::Tall);
+    let mark = plain_mark(bytes, table, table.shape().unwrap_or(Shape::Wide), list);
     put(bytes, table, row, 12, &FREE_EPOCH.to_le_bytes());
     put(bytes, table, row, 16, &list.to_le_bytes());
-    put(bytes, table, row, 24, &[if tall { TALL } else { 0 }]);
+    put(bytes, table, row, 24, &[mark]);
+}
+
+/// A grid mark that this list may have in a table of this shape: not 1.
+fn plain_mark(bytes: &[u8], table: &Picture, shape: Shape, list: u64) -> u8 {
+    let county = |row| Table::row(table, bytes, row).county.clamp(1, MAX_COUNTIES as u8);
+    match shape {
+        _ if list == 0 => 0,
+        Shape::Tall => TALL,
+        Shape::Wide if Counties::of((1..=table.used).map(county)).several(list) => SEVERAL,
+        Shape::Wide => 0,
+    }
+}
+
+/// Puts all rows into one county, if there are counties. The marks of lists stay.
+fn put_one_county(bytes: &mut [u8], table: &Picture, random: &mut Random) {
+    if table.rules.has_counties() {
+        let county = random.between(1, MAX_COUNTIES) as u8;
+        (1..=table.used).for_each(|row| put(bytes, table, row, COUNTY, &[county]));
+    }
+}
+
+/// Puts all rows into a few counties, so that the list of two members or more has several. The marks of lists stay.
+fn put_counties(bytes: &mut [u8], table: &Picture, random: &mut Random, list: u64) {
+    let one = random.between(1, MAX_COUNTIES) as u8;
+    let other = one % MAX_COUNTIES as u8 + 1;
+    for row in 1..=table.used {
+        put(bytes, table, row, COUNTY, &[random.pick(&[one, other, 4])]);
+    }
+    for (row, county) in rows::members(list).zip([one, other]) {
+        put(bytes, table, row, COUNTY, &[county]);
+    }
 }
 
 /// Gives a row the other free epoch, and the list of all rows with this mark.
@@ -586,26 +692,39 @@ fn put_other_list(bytes: &mut [u8], table: &Picture, row: usize, mark: u8) {
     put(bytes, table, row, 24, &[mark]);
 }
 
-/// Gives every list this mark, 0 or 2: the table is well formed with either.
-fn put_marks(bytes: &mut [u8], table: &Picture, mark: u8) {
+/// Gives every list a mark for this shape: the table is well formed with either.
+fn put_marks(bytes: &mut [u8], table: &Picture, shape: Shape) {
     for row in 1..=table.used {
-        let listed = !Table::row(table, bytes, row).list.is_empty();
-        put(bytes, table, row, 24, &[if listed { mark } else { 0 }]);
+        let mark = plain_mark(bytes, table, shape, Table::row(table, bytes, row).list.members);
+        put(bytes, table, row, 24, &[mark]);
     }
 }
 
-/// Gives every list this mark, and then a list of an epoch of its own the other one.
-fn put_two_marks(bytes: &mut [u8], table: &Picture, random: &mut Random, mark: u8, other: u8) {
+/// Gives the table this shape, and then a list of an epoch of its own, of all rows, this mark.
+fn put_two_marks(bytes: &mut [u8], table: &Picture, random: &mut Random, shape: Shape, other: u8) {
     let one = any_row(table, random);
     put_list(bytes, table, random.row(table.all_used() & !rows::only(one)), table.all_used());
-    put_marks(bytes, table, mark);
+    put_marks(bytes, table, shape);
     put_other_list(bytes, table, one, other);
 }
 
-/// Gives some rows of a table that is made wide, in no order, the list of them all with this mark.
+/// Gives some rows of a table that is made wide and one of one county, in no order, the list of them all with this mark.
 fn put_marked(bytes: &mut [u8], table: &Picture, random: &mut Random, length: u32, mark: u8) -> Vec<usize> {
-    put_marks(bytes, table, 0);
+    put_one_county(bytes, table, random);
     let list = tables::filled(random, table.all_used(), 0, length);
+    put_laid(bytes, table, random, list, mark)
+}
+
+/// The same of several counties.
+fn put_split(bytes: &mut [u8], table: &Picture, random: &mut Random, length: u32, mark: u8) -> Vec<usize> {
+    let list = tables::filled(random, table.all_used(), 0, length);
+    put_counties(bytes, table, random, list);
+    put_laid(bytes, table, random, list, mark)
+}
+
+/// Makes the table wide, and gives the members, in no order, this list with this mark.
+fn put_laid(bytes: &mut [u8], table: &Picture, random: &mut Random, list: u64, mark: u8) -> Vec<usize> {
+    put_marks(bytes, table, Shape::Wide);
     let mut members: Vec<usize> = rows::members(list).collect();
     random.shuffle(&mut members);
     for &row in &members {
@@ -670,7 +789,10 @@ mod tests {
 
     /// Damages a table by each rule whose name passes, mends what the rules are about, and finds it well formed.
     fn only_rule_broken(named: fn(&str) -> bool, mend: fn(&mut [u8], &Target)) -> usize {
-        let rules = RULES.iter().enumerate().filter(|(_, (name, ..))| named(name));
+        let rules = RULES
+            .iter()
+            .enumerate()
+            .filter(|(_, (name, needs, _))| named(name) && needs.allow(Rules::Newest));
         rules
             .map(|(rule, (name, ..))| {
                 for case in 0..200 {
@@ -689,9 +811,20 @@ mod tests {
         let named = |name: &str| name.starts_with("grid mark") || name.starts_with("form");
         let mended = only_rule_broken(named, |bytes, table| {
             bytes[0] = FORM;
-            (1..=table.used).for_each(|row| put(bytes, table, row, 24, &[0]));
+            put_marks(bytes, table, Shape::Wide);
         });
-        assert_eq!(mended, 15);
+        assert_eq!(mended, 23);
+    }
+
+    /// Where a county is wrong, nothing else is.
+    #[test]
+    fn a_wrong_county_is_the_only_rule_broken() {
+        let named = |name: &str| name.starts_with("county");
+        let mended = only_rule_broken(named, |bytes, table| {
+            (1..=table.used).for_each(|row| put(bytes, table, row, COUNTY, &[8]));
+            put_marks(bytes, table, Shape::Wide);
+        });
+        assert_eq!(mended, 4);
     }
 
     /// Where a window is wrong, nothing else is: with other windows the table is well formed.
@@ -720,7 +853,8 @@ mod tests {
             bytes[7..HEADER].fill(0);
             for row in 1..=table.used {
                 put(bytes, table, row, 3, &[0; 9]);
-                put(bytes, table, row, OLDEST, &[0; 7]);
+                put(bytes, table, row, OLDEST, &[0]);
+                put(bytes, table, row, COUNTY + 1, &[0; 5]);
                 let part = table.part_at(row, table.file);
                 bytes[part..part + PART_HEADER].fill(0);
                 table.window_mut(bytes, row, table.file).fill(0);
@@ -733,7 +867,8 @@ mod tests {
     #[test]
     fn tables_without_unused_rows_are_damaged_too() {
         for (rule, (name, needs, _)) in RULES.iter().enumerate() {
-            let rules = if needs.allow(Rules::Newest) { Rules::Newest } else { Rules::Published };
+            let allowed = Rules::ALL.into_iter().rev().find(|&rules| needs.allow(rules));
+            let rules = allowed.expect("a form that has the rule");
             let full = (0..200).filter(|&case| {
                 let Damaged { table, .. } = damaged_by(&mut Random::new(2, case), rules, rule);
                 table.used == table.capacity

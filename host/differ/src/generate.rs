@@ -4,9 +4,12 @@ use crate::call::Call;
 use crate::damage::{self, Damaged};
 use crate::ledger::Ledger;
 use crate::random::Random;
+use crate::sheets;
 use crate::tables::{self, Picture, Size};
 use reference::window::LONGEST_PATCH;
-use reference::{rows, Engine, Layout, Part, Quorum, Rules, Table, MAX_FILE, MAX_FILES, MAX_ROWS};
+use reference::{
+    rows, Engine, Layout, Part, Quorum, Rules, Sheet, Table, MAX_COUNTIES, MAX_FILE, MAX_FILES, MAX_ROWS,
+};
 use std::collections::VecDeque;
 
 /// What every chart is asked for: the lengths of lists of members, some beyond nine; grid marks; bytes of the list to fill.
@@ -45,6 +48,8 @@ pub struct Plan {
     moves: bool,
     /// The table as it was damaged.
     pub damage: Option<Damaged>,
+    /// The sheet that writes and checks are lent, as the last of them left it; none if each has one of its own.
+    sheet: Option<Vec<u8>>,
 }
 
 /// A row that misses some writes of a file, is marked by a check and then gets a send.
@@ -78,10 +83,7 @@ impl Straggler {
             return (short_write(random, table, file, all, false), false);
         };
         let others = all & !rows::only(row);
-        let check = |random: &mut Random, answering| Call::Check {
-            coordinator: random.row(others) as u64,
-            answering,
-        };
+        let check = |random: &mut Random, answering| checking(random.row(others), answering);
         if self.row.is_none() {
             self.row = Some(row);
             return (check(random, others), false);
@@ -105,8 +107,29 @@ fn short_write(random: &mut Random, table: &Picture, file: usize, answering: u64
     let any = random.between(1, LONGEST_PATCH);
     let length = if long { LONGEST_PATCH + 1 } else { random.pick(&[1, 31, 32, any]) };
     let offset = random.between(0, table.file_len - length) as u64;
-    let (coordinator, patch) = (random.row(answering) as u64, random.bytes(length));
-    Call::Write { coordinator, answering, offset, patch, called: vec![0xee], file: file as u64 }
+    let (coordinator, patch) = (random.row(answering), random.bytes(length));
+    writing(random, coordinator, answering, offset, patch, vec![0xee], file as u64)
+}
+
+/// A check; it is lent its sheet later.
+fn checking(coordinator: usize, answering: u64) -> Call {
+    Call::Check { coordinator: coordinator as u64, answering, sheet: Vec::new() }
+}
+
+/// A write by a club, mostly one of a few; it is lent its sheet later.
+fn writing(
+    random: &mut Random,
+    coordinator: usize,
+    answering: u64,
+    offset: u64,
+    patch: Vec<u8>,
+    called: Vec<u8>,
+    file: u64,
+) -> Call {
+    let any = random.between(1, 16) as u64;
+    let club = random.pick(&[1, 1, 2, 16, any]);
+    let (coordinator, sheet) = (coordinator as u64, Vec::new());
+    Call::Write { coordinator, answering, offset, patch, called, file, sheet, club }
 }
 
 impl Plan {
@@ -116,7 +139,8 @@ impl Plan {
             10..=11 => Plan::falling_behind(random),
             12..=13 => Plan::from_the_scope(random),
             14 => Plan::blocked(random),
-            15..=55 => Plan::unfounded(random),
+            15 => Plan::joined_by_a_county(random),
+            16..=55 => Plan::unfounded(random),
             56..=59 => Plan::older(random),
             60..=84 => Plan::damaged(random),
             _ => Plan::foundings(random),
@@ -126,14 +150,22 @@ impl Plan {
     /// A history after one founding on bytes that hold anything.
     pub fn founded(random: &mut Random) -> Plan {
         let size = Size::pick(random);
-        let choice = choice(random);
-        Plan::founded_as(random, size, choice)
+        let (choice, counties) = (choice(random), tables::counties(random, size.used));
+        let mut plan = Plan::founded_as(random, size, choice, counties);
+        // Tight in half of the histories; few lend each call another.
+        if random.chance(1, 2) {
+            plan.sheet = Some(sheets::right(random, false).bytes().to_vec());
+        } else if random.chance(1, 5) {
+            plan.sheet = None;
+        }
+        plan
     }
 
-    fn founded_as(random: &mut Random, size: Size, choice: u64) -> Plan {
+    fn founded_as(random: &mut Random, size: Size, choice: u64, counties: Vec<u8>) -> Plan {
         let length = Table::length(size.capacity, size.file_len, size.files);
         let start = if random.chance(1, 2) { vec![0; length] } else { random.bytes(length) };
-        let opening = founding(random, size, choice);
+        let opening = founding(random, size, choice, counties);
+        let sheet = Some(Sheet::OPEN.bytes().to_vec());
         let up = random.subset(rows::first(size.used), 4, 5);
         Plan {
             start,
@@ -146,40 +178,57 @@ impl Plan {
             straggler: None,
             moves: false,
             damage: None,
+            sheet,
         }
     }
 
     /// A founded history that begins with a row that falls behind.
     pub fn falling_behind(random: &mut Random) -> Plan {
-        // Four machines and more bear the loss of one.
+        // Four machines and more of one county bear the loss of one.
         let used = random.between(4, 9);
         let (capacity, file_len) = (random.between(used, 10), random.pick(&[33, 40, 64]));
         let size = Size { used, capacity, file_len, files: random.pick(&[1, 2, 3, 8]) };
-        let choice = choice(random);
-        let mut plan = Plan::founded_as(random, size, choice);
+        let (choice, counties) = (choice(random), tables::one_county(random, used));
+        let mut plan = Plan::founded_as(random, size, choice, counties);
         let straggler = Straggler::pick(random, size.files);
         plan.calls = straggler.writes + straggler.missed + 4 + random.between(0, 20);
         plan.straggler = Some(straggler);
         plan
     }
 
-    /// A founded history on four machines in which one file keeps the last two from being checked, until it is sent. Row 4 misses
+    /// A founded history on four machines of one county in which one file keeps the last two from being checked, until it is sent. Row 4 misses
     /// the first write of the file and row 3 the second; then rows 2 and 1 go away.
     pub fn blocked(random: &mut Random) -> Plan {
         let size = Size { used: 4, capacity: random.between(4, 6), ..Size::pick(random) };
-        let choice = choice(random);
-        let mut plan = Plan::founded_as(random, size, choice);
+        let (choice, counties) = (choice(random), tables::one_county(random, 4));
+        let mut plan = Plan::founded_as(random, size, choice, counties);
         let file = random.between(1, size.files) as u64;
         let set = |rows: &[usize]| rows.iter().fold(0, |set, &row| set | rows::only(row));
         let write = |random: &mut Random, answering| {
             let patch = random.bytes(1);
-            Call::Write { coordinator: 1, answering, offset: 0, patch, called: vec![0xee], file }
+            writing(random, 1, answering, 0, patch, vec![0xee], file)
         };
         let (last, all) = (set(&[3, 4]), set(&[1, 3, 4]));
         let [first, second] = [set(&[1, 2, 3]), set(&[1, 2, 4])].map(|set| write(random, set));
-        let check = |coordinator, answering| Call::Check { coordinator, answering };
         let send = Call::Send { from: 1, to: 3, answering: all, file };
-        plan.opening.extend([first, second, check(1, all), check(3, last), send, check(3, last)]);
+        plan.opening.extend([first, second, checking(1, all), checking(3, last), send, checking(3, last)]);
+        plan.calls += plan.opening.len();
+        plan
+    }
+
+    /// A founded history of one county into which machines of another one join, until a check takes them in.
+    pub fn joined_by_a_county(random: &mut Random) -> Plan {
+        let (used, joining) = (random.between(1, 6), random.between(1, 6));
+        let size = Size { used, capacity: used + joining + random.between(0, 2), ..Size::pick(random) };
+        let (choice, counties) = (choice(random), tables::one_county(random, used));
+        let other = u64::from(counties[0]) % MAX_COUNTIES as u64 + 1;
+        let mut plan = Plan::founded_as(random, size, choice, counties);
+        let Some(Call::Found { names, .. }) = plan.opening.front() else { unreachable!("it is founded") };
+        let free = tables::names_beside(random, names, joining);
+        plan.opening.extend(free.into_iter().map(|name| Call::Join { name, county: other }));
+        let answering = rows::first(used + joining);
+        plan.opening.push_back(checking(random.row(answering), answering));
+        plan.up = answering;
         plan.calls += plan.opening.len();
         plan
     }
@@ -189,7 +238,8 @@ impl Plan {
     pub fn from_the_scope(random: &mut Random) -> Plan {
         let size = Size { used: random.pick(&[5, 5, 5, 6, 7, 9]), files: 1, ..Size::pick(random) };
         let size = Size { capacity: size.capacity.max(size.used), ..size };
-        let mut plan = Plan::founded_as(random, size, 0);
+        let counties = tables::counties(random, size.used);
+        let mut plan = Plan::founded_as(random, size, 0, counties);
         let engine = Engine { rules: Rules::Published, ..Engine::default() };
         plan.start = random.bytes(engine.rules.table_length(size.capacity, size.file_len, 1));
         plan.ledger = Ledger::published();
@@ -210,6 +260,7 @@ impl Plan {
                 plan.ledger
                     .hear(&call, &answer)
                     .expect("reference and book agree by the scope's rules alone");
+                plan.left(&call, &answer.sheet);
                 plan.start = table;
             }
         }
@@ -235,12 +286,13 @@ impl Plan {
             straggler: None,
             moves: false,
             damage: None,
+            sheet: None,
         }
     }
 
     /// A few calls on a well-formed table of an older form, half of them only moves.
     fn older(random: &mut Random) -> Plan {
-        let rules = random.pick(&[Rules::Published, Rules::Windowless, Rules::OneFile]);
+        let rules = random.pick(&[Rules::Published, Rules::Windowless, Rules::OneFile, Rules::OneCounty]);
         let size = Size::pick(random);
         let start = tables::well_formed_by(random, size, rules);
         let known = Picture::of_any_form(&start);
@@ -255,6 +307,7 @@ impl Plan {
             straggler: None,
             moves: random.chance(1, 2),
             damage: None,
+            sheet: None,
         }
     }
 
@@ -275,6 +328,7 @@ impl Plan {
             straggler: None,
             moves: rules != Rules::Newest,
             damage: Some(damaged),
+            sheet: None,
         }
     }
 
@@ -307,8 +361,8 @@ impl Plan {
             nine,
         ]);
         let length = if random.chance(1, 3) { wrong } else { length };
-        let choice = choice(random);
-        let opening = founding(random, size, choice);
+        let (choice, counties) = (choice(random), tables::counties(random, size.used));
+        let opening = founding(random, size, choice, counties);
         let start = random.bytes(length);
         Plan {
             start,
@@ -321,6 +375,7 @@ impl Plan {
             straggler: None,
             moves: false,
             damage: None,
+            sheet: None,
         }
     }
 
@@ -398,6 +453,7 @@ impl Plan {
             straggler: None,
             moves: false,
             damage: None,
+            sheet: None,
         }
     }
 
@@ -416,6 +472,35 @@ impl Plan {
 
     /// The next call on a table that now holds these bytes.
     pub fn next(&mut self, random: &mut Random, bytes: &[u8]) -> Call {
+        let mut call = self.pick_next(random, bytes);
+        self.lend(random, &mut call);
+        call
+    }
+
+    /// What a call left of its sheet.
+    pub fn left(&mut self, call: &Call, sheet: &[u8]) {
+        if self.sheet.is_some() && self.sheet.as_deref() == call.sheet() {
+            self.sheet = Some(sheet.to_vec());
+        }
+    }
+
+    /// Lends a write or a check its sheet: that of the history, or one of its own, or now and then none that is right.
+    fn lend(&self, random: &mut Random, call: &mut Call) {
+        if call.sheet().is_none() {
+            return;
+        }
+        let (wrong, other) = if self.sheet.is_some() { (80, 80) } else { (12, 1) };
+        if random.chance(1, wrong) {
+            call.lend(&sheets::broken(random));
+            return;
+        }
+        match &self.sheet {
+            Some(sheet) if !random.chance(1, other) => call.lend(sheet),
+            _ => call.lend(&sheets::right(random, true).bytes()),
+        }
+    }
+
+    fn pick_next(&mut self, random: &mut Random, bytes: &[u8]) -> Call {
         if let Some(call) = self.opening.pop_front() {
             return call;
         }
@@ -456,7 +541,7 @@ fn choice(random: &mut Random) -> u64 {
     random.pick(&[0, 0, 1])
 }
 
-fn founding(random: &mut Random, size: Size, choice: u64) -> Call {
+fn founding(random: &mut Random, size: Size, choice: u64, counties: Vec<u8>) -> Call {
     let names = tables::names(random, size.used);
     Call::Found {
         capacity: size.capacity as u64,
@@ -464,7 +549,29 @@ fn founding(random: &mut Random, size: Size, choice: u64) -> Call {
         names: tables::names_in_bytes(&names),
         choice,
         files: size.files as u64,
+        counties,
     }
+}
+
+/// Counties that are none, or too few or too many of them.
+fn spoil_counties(random: &mut Random, counties: &mut Vec<u8>) {
+    let wrong = random.pick(&[0, 9, 16, 128, 255]);
+    match random.between(0, 5) {
+        0 => counties.clear(),
+        1 => drop(counties.pop()),
+        2 => counties.push(1),
+        3 => counties.resize(random.between(0, MAX_ROWS + 1), 1),
+        _ if counties.is_empty() => counties.push(wrong),
+        _ => {
+            let place = random.between(0, counties.len() - 1);
+            counties[place] = wrong;
+        }
+    }
+}
+
+/// A number that is no county; some agree with one in their low bits.
+fn no_county(random: &mut Random) -> u64 {
+    random.pick(&[0, 9, 255, 256, 257, 264, 1 << 32, (1 << 32) + 1, 1 << 63, u64::MAX])
 }
 
 /// No choice but 0 and 1 is one; some of the others agree with these in their low bits.
@@ -480,8 +587,9 @@ fn bad_founding(random: &mut Random, size: Size) -> Call {
     let mut half_a_name = None;
     let mut choice = choice(random);
     let mut files = size.files as u64;
+    let mut counties = tables::counties(random, size.used);
     for _ in 0..random.between(1, 2) {
-        match random.between(0, 12) {
+        match random.between(0, 15) {
             0 => names.clear(),
             1 => names.insert(0, 0),
             2 => names.extend(names.last().copied()),
@@ -493,12 +601,13 @@ fn bad_founding(random: &mut Random, size: Size) -> Call {
             8 => half_a_name = Some(random.byte()),
             9 => choice = any_choice(random),
             10..=11 => files = any_files(random, files),
+            12..=14 => spoil_counties(random, &mut counties),
             _ => {}
         }
     }
     let mut names = tables::names_in_bytes(&names);
     names.extend(half_a_name);
-    Call::Found { capacity, file_len, names, choice, files }
+    Call::Found { capacity, file_len, names, choice, files, counties }
 }
 
 /// Another number of files; most are none that a group can have.
@@ -549,14 +658,20 @@ fn fitting(random: &mut Random, table: &Picture, up: u64) -> Call {
             let answering = answering(random, table, up, coordinator, Quorum::Write);
             let (offset, length) = patch_range(random, table);
             let (patch, called) = (random.bytes(length), called(random));
-            Call::Write { coordinator: coordinator as u64, answering, offset, patch, called, file }
+            writing(random, coordinator, answering, offset, patch, called, file)
         }
         62..=78 => send(random, table, up),
         79..=92 => {
             let answering = answering(random, table, up, coordinator, Quorum::Write);
-            Call::Check { coordinator: coordinator as u64, answering }
+            checking(coordinator, answering)
         }
-        93..=97 => Call::Join { name: joining_name(random, table) },
+        93..=97 => {
+            let known = table.row(random.between(1, table.used)).county;
+            let any = random.between(1, MAX_COUNTIES) as u64;
+            let county =
+                if random.chance(1, 8) { no_county(random) } else { random.pick(&[known.into(), any]) };
+            Call::Join { name: joining_name(random, table), county }
+        }
         98 => chart(random),
         99..=104 => {
             let unlisted = if unlisted != 0 { unlisted } else { table.unlisted() };
@@ -566,21 +681,22 @@ fn fitting(random: &mut Random, table: &Picture, up: u64) -> Call {
         105..=106 => moving(random, table, false),
         _ => {
             let used = random.between(1, table.capacity);
-            let choice = choice(random);
+            let (choice, counties) = (choice(random), tables::counties(random, used));
             let Table { capacity, file_len, files, .. } = **table;
-            founding(random, Size { used, capacity, file_len, files }, choice)
+            founding(random, Size { used, capacity, file_len, files }, choice, counties)
         }
     }
 }
 
-/// Who answers the coordinator: by turns all, those up, a quorum and a little less, and rows without a list.
+/// Who answers the coordinator: by turns all, those up, a quorum and a little less, some counties, and rows without a list.
 fn answering(random: &mut Random, table: &Picture, up: u64, coordinator: usize, quorum: Quorum) -> u64 {
     let own = table.row(coordinator);
     let in_force = table.newest(table.all_used());
     let newest = in_force.members;
     let unlisted = table.unlisted();
-    let choice = |list, name| Layout::of(list, &table.chain).choice(quorum, name);
-    let set = match random.between(0, if unlisted == 0 { 9 } else { 11 }) {
+    let choice = |list, name| Layout::of(list, &table.chain, &table.counties).choice(quorum, name);
+    let county = random.pick(&table.parts());
+    let set = match random.between(0, if unlisted == 0 { 11 } else { 13 }) {
         0 => table.all_used(),
         1..=3 => up,
         4 => up ^ rows::only(random.between(1, table.used)),
@@ -589,7 +705,10 @@ fn answering(random: &mut Random, table: &Picture, up: u64, coordinator: usize, 
         7 => newest & !rows::only(random.row(newest)),
         8 => choice(own.list, own.name) | random.subset(up, 1, 4),
         9 => choice(in_force, random.byte().into()) & !rows::only(random.between(1, 64)),
-        10 => unlisted,
+        10 if table.several(newest) => newest & !county,
+        11 if table.several(newest) => newest & !random.subset(county, 1, 2),
+        10 | 11 => up,
+        12 => unlisted,
         _ => newest | random.subset(unlisted, 1, 2),
     };
     let with_coordinator = if random.chance(29, 30) { set | rows::only(coordinator) } else { set };
@@ -695,7 +814,7 @@ fn moving(random: &mut Random, table: &Picture, taken: bool) -> Call {
         _ if random.chance(1, 5) => random.pick(&MOVE_FORMS),
         Rules::Published | Rules::Windowless => 3,
         Rules::OneFile => random.pick(&[1, 2]),
-        Rules::Newest => random.pick(&[1, 2, 3, 4]),
+        Rules::OneCounty | Rules::Newest => random.pick(&[1, 2, 3, 4, 5]),
     };
     let Table { used, capacity, file_len, files, .. } = **table;
     let right = length_in(form, Size { used, capacity, file_len, files });
@@ -718,11 +837,12 @@ fn unpublished(random: &mut Random, size: Size, rules: Rules) -> Vec<u8> {
 fn spoil(random: &mut Random, call: &mut Call, table: &Picture) {
     let (used, longest) = (table.used as u64, table.file_len as u64);
     match call {
-        Call::Found { capacity, file_len, names, choice, files } => match random.between(0, 4) {
+        Call::Found { capacity, file_len, names, choice, files, counties } => match random.between(0, 5) {
             0 => *capacity = edge(random, MAX_ROWS as u64, *capacity),
             1 => *file_len = edge(random, MAX_FILE as u64, *file_len),
             2 => *choice = any_choice(random),
             3 => *files = any_files(random, *files),
+            4 => spoil_counties(random, counties),
             _ => names.push(random.byte()),
         },
         Call::Read { coordinator, answering, offset, length, buffer, file, .. } => match random.between(0, 6)
@@ -738,11 +858,12 @@ fn spoil(random: &mut Random, call: &mut Call, table: &Picture) {
             5 => *file = absent_file(random, table.files),
             _ => resize(random, buffer, table.file_len),
         },
-        Call::Write { coordinator, answering, offset, patch, file, .. } => match random.between(0, 4) {
+        Call::Write { coordinator, answering, offset, patch, file, club, .. } => match random.between(0, 5) {
             0 => *coordinator = edge(random, used, *coordinator),
             1 => *answering = bad_set(random, table),
             2 => *offset = edge(random, longest, *offset),
             3 => *file = absent_file(random, table.files),
+            4 => *club = random.pick(&[0, 17, 255, 256, 257, 1 << 32, (1 << 32) + 1, u64::MAX]),
             _ => resize(random, patch, table.file_len),
         },
         Call::Send { from, to, answering, file } => match random.between(0, 4) {
@@ -752,16 +873,17 @@ fn spoil(random: &mut Random, call: &mut Call, table: &Picture) {
             3 => *file = absent_file(random, table.files),
             _ => *to = *from,
         },
-        Call::Check { coordinator, answering } => match random.between(0, 1) {
+        Call::Check { coordinator, answering, .. } => match random.between(0, 1) {
             0 => *coordinator = edge(random, used, *coordinator),
             _ => *answering = bad_set(random, table),
         },
-        Call::Join { name } => {
-            *name = random.pick(&[0, 1, 65_535, *name ^ 1, *name ^ 0x100, table.row(1).name])
-        }
+        Call::Join { name, county } => match random.between(0, 2) {
+            0 => *county = no_county(random),
+            _ => *name = random.pick(&[0, 1, 65_535, *name ^ 1, *name ^ 0x100, table.row(1).name]),
+        },
         Call::Chart { length, mark, list } => match random.between(0, 2) {
             0 => *length = edge(random, 9, *length),
-            1 => *mark = edge(random, 2, *mark),
+            1 => *mark = edge(random, 3, *mark),
             _ => list.truncate(random.between(0, 129)),
         },
         Call::Choice { coordinator, kind, set } => match random.between(0, 2) {
@@ -856,12 +978,12 @@ mod tests {
             }
             // Eight forms, and four buffers for each. By the scope alone a table has no other lists.
             let expected = match (form, published) {
-                (0 | 5.., _) | (1, false) => vec![(1, 32)],
+                (0 | 6.., _) | (1, false) => vec![(1, 32)],
                 (1 | 2, true) => vec![(0, 1), (12, 31)],
                 (2 | 3, false) => vec![(0, 1), (12, 27), (15, 4)],
                 (3, true) => vec![(0, 2), (12, 30)],
-                (4, true) => vec![(12, 32)],
-                (4, false) => vec![(12, 28), (15, 4)],
+                (4 | 5, true) => vec![(12, 32)],
+                (4 | 5, false) => vec![(12, 28), (15, 4)],
             };
             assert_eq!(answers.into_iter().collect::<Vec<_>>(), expected, "form {form}");
         }

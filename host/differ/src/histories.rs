@@ -8,7 +8,8 @@ use crate::ledger::Ledger;
 use crate::random::Random;
 use crate::tables::{self, names_in_bytes, Picture};
 use crate::trial::{Case, Trial};
-use reference::{rows, Engine, Rules, Table, TALL};
+use reference::sheet::Line;
+use reference::{rows, Engine, Rules, Sheet, Table, SEVERAL, TALL};
 
 fn set(members: &[usize]) -> u64 {
     members.iter().fold(0, |set, &row| set | rows::only(row))
@@ -25,7 +26,16 @@ fn found(capacity: usize, names: &[u16], file_len: usize, choice: u64) -> Call {
 
 fn found_group(capacity: usize, names: &[u16], file_len: usize, choice: u64, files: usize) -> Call {
     let (capacity, file_len, files) = (capacity as u64, file_len as u64, files as u64);
-    Call::Found { capacity, file_len, names: names_in_bytes(names), choice, files }
+    let counties = vec![1; names.len()];
+    Call::Found { capacity, file_len, names: names_in_bytes(names), choice, files, counties }
+}
+
+/// The founding with these counties.
+fn in_counties(mut founding: Call, of: &[u8]) -> Call {
+    if let Call::Found { counties, .. } = &mut founding {
+        *counties = of.to_vec();
+    }
+    founding
 }
 
 /// Of the first file, as are the calls below.
@@ -36,7 +46,7 @@ fn read(coordinator: u64, answering: &[usize]) -> Call {
 
 fn write(coordinator: u64, answering: &[usize]) -> Call {
     let (answering, patch, called) = (set(answering), vec![b'a'], vec![0xee]);
-    Call::Write { coordinator, answering, offset: 0, patch, called, file: 1 }
+    Call::Write { coordinator, answering, offset: 0, patch, called, file: 1, sheet: open(), club: 1 }
 }
 
 fn send(from: u64, to: u64, answering: &[usize]) -> Call {
@@ -50,11 +60,20 @@ fn of(file: u64, mut call: Call) -> Call {
 }
 
 fn check(coordinator: u64, answering: &[usize]) -> Call {
-    Call::Check { coordinator, answering: set(answering) }
+    Call::Check { coordinator, answering: set(answering), sheet: open() }
+}
+
+/// A sheet that turns nobody down.
+fn open() -> Vec<u8> {
+    Sheet::OPEN.bytes().to_vec()
 }
 
 fn join(name: u16) -> Call {
-    Call::Join { name }
+    join_in(name, 1)
+}
+
+fn join_in(name: u16, county: u64) -> Call {
+    Call::Join { name, county }
 }
 
 fn blank(capacity: usize, file_len: usize) -> Case {
@@ -510,6 +529,218 @@ fn foundings_are_refused_for_another_number_of_files() {
     }
 }
 
+/// Founds machines 10, 20, .. in these counties, with two rows to spare, and makes the calls. Gives the grid marks that are left.
+fn expect_counties(counties: &[u8], choice: u64, calls: &[(Call, u64, u64)]) -> Vec<u8> {
+    let names: Vec<u16> = (1..=counties.len() as u16).map(|rank| 10 * rank).collect();
+    let capacity = names.len() + 2;
+    let founding = (in_counties(found(capacity, &names, 4, choice), counties), 0, names.len() as u64);
+    expect_from(&blank(capacity, 4), &[&[founding], calls].concat())
+}
+
+/// Three of county 1, columns {1, 3} and {2}, and one of county 2; above one row of two, in a tall table one column.
+#[test]
+fn counties_1_1_1_2() {
+    let wide = [
+        (read(1, &[1, 2, 3]), 6, 0),
+        (read(1, &[1, 3, 4]), 6, 0),
+        (read(1, &[1, 2, 4]), 0, 0),
+        (write(1, &[1, 2, 4]), 0, 1),
+        (write(2, &[2, 3, 4]), 0, 2),
+        (check(1, &[1, 2, 3]), 6, 0),
+        (check(1, &[1, 2, 4]), 0, 1),
+        // Two of county 1 in one row, and row 4: all are needed.
+        (read(1, &[1, 4]), 6, 0),
+        (read(1, &[1, 2, 4]), 0, 2),
+    ];
+    assert_eq!(expect_counties(&[1, 1, 1, 2], WIDE_TABLE, &wide), [SEVERAL; 4]);
+    let tall = [
+        (read(4, &[4]), 0, 0),
+        (read(1, &[1, 2]), 0, 0),
+        (read(1, &[1, 3]), 6, 0),
+        (write(1, &[1, 2, 3]), 6, 0),
+        (write(1, &[1, 2, 4]), 0, 1),
+        (read(4, &[4]), 0, 1),
+    ];
+    assert_eq!(expect_counties(&[1, 1, 1, 2], TALL_TABLE, &tall), [TALL; 4]);
+}
+
+/// Wide, all four are needed to read; tall, any one of them is enough.
+#[test]
+fn counties_1_1_2_2() {
+    let all = [1, 2, 3, 4];
+    let but = |away: usize| all.into_iter().filter(|&row| row != away).collect::<Vec<usize>>();
+    for away in all {
+        let (answering, by) = (but(away), but(away)[0] as u64);
+        let refused = [(read(by, &answering), 6, 0), (check(by, &answering), 6, 0)];
+        let done = [(write(by, &all), 0, 1), (read(by, &all), 0, 1)];
+        expect_counties(&[1, 1, 2, 2], WIDE_TABLE, &[refused, done].concat());
+        let tall =
+            [(write(by, &answering), 6, 0), (write(by, &all), 0, 1), (read(away as u64, &[away]), 0, 1)];
+        expect_counties(&[1, 1, 2, 2], TALL_TABLE, &tall);
+    }
+}
+
+/// Columns {1, 3, 5} and {2, 4} of five counties, or of the machines of a county, with row 6 in another one.
+#[test]
+fn five_on_either_level() {
+    let reads = [(read(1, &[1, 2]), 0, 0), (read(1, &[1, 3, 5]), 6, 0)];
+    let writes =
+        [(write(1, &[1, 2, 3]), 6, 0), (write(1, &[1, 2, 4]), 0, 1), (write(1, &[1, 2, 3, 5]), 0, 2)];
+    let calls = [&reads[..], &writes].concat();
+    let with_6 = |calls: &[(Call, u64, u64)]| {
+        let mut calls = calls.to_vec();
+        for (call, ..) in &mut calls {
+            if let Call::Read { answering, .. } | Call::Write { answering, .. } = call {
+                *answering |= set(&[6]);
+            }
+        }
+        calls
+    };
+    let six = [3, 3, 3, 3, 3, 1];
+    assert_eq!(expect_counties(&[2, 4, 5, 6, 8], WIDE_TABLE, &calls), [SEVERAL; 5]);
+    assert_eq!(expect_counties(&[2, 4, 5, 6, 8], TALL_TABLE, &calls), [TALL; 5]);
+    assert_eq!(expect_counties(&six, WIDE_TABLE, &with_6(&calls)), [SEVERAL; 6]);
+    let without_6: Vec<(Call, u64, u64)> = calls.into_iter().map(|(call, ..)| (call, 6, 0)).collect();
+    expect_counties(&six, WIDE_TABLE, &without_6);
+    // In a tall table either county is enough to read.
+    assert_eq!(expect_counties(&six, TALL_TABLE, &[&reads[..], &with_6(&writes)].concat()), [TALL; 6]);
+    expect_counties(&six, TALL_TABLE, &[(read(6, &[6]), 0, 0), (read(6, &[1, 3, 5, 6]), 0, 0)]);
+}
+
+/// Counties 1, 2 and 7 lie above in columns {1, 7} and {2}, whatever the names: rows {3, 2} and {1}.
+#[test]
+fn counties_lie_in_rising_order() {
+    let calls = [
+        (read(2, &[2, 3]), 6, 0),
+        (read(1, &[1, 2]), 0, 0),
+        (write(1, &[1, 3]), 0, 1),
+        (write(1, &[1, 2]), 0, 2),
+    ];
+    expect_counties(&[2, 7, 1], WIDE_TABLE, &calls);
+}
+
+/// A machine of a second county joins four and is checked in; with it off, nothing goes, and it cannot be removed.
+#[test]
+fn a_machine_of_another_county_joins() {
+    let four = [1, 2, 3, 4];
+    let joined = [(join_in(25, 2), 0, 5), (read(1, &four), 0, 0), (check(1, &[1, 2, 3]), 0, 1)];
+    assert_eq!(expect_counties(&[1; 4], WIDE_TABLE, &joined), [0; 5]);
+    let taken_in = [
+        (join_in(25, 2), 0, 5),
+        (check(1, &[1, 2, 3, 4, 5]), 0, 1),
+        (read(1, &four), 6, 0),
+        (write(1, &four), 6, 0),
+        (check(1, &four), 6, 0),
+        (read(1, &[1, 2, 5]), 0, 0),
+        (write(1, &[1, 2, 3, 5]), 0, 1),
+    ];
+    assert_eq!(expect_counties(&[1; 4], WIDE_TABLE, &taken_in), [SEVERAL; 5]);
+    // Five again, and all of one county.
+    let of_one = [(join_in(25, 3), 0, 5), (check(1, &[1, 2, 3, 4, 5]), 0, 1), (read(1, &four), 0, 0)];
+    assert_eq!(expect_counties(&[3; 4], WIDE_TABLE, &of_one), [1; 5]);
+}
+
+/// Which machines are called: in counties 1, 1, 1, 2 a write by an even name has all four, a read three.
+#[test]
+fn machines_called_in_counties() {
+    let mut archive = Archive::new();
+    let mut trial = Trial::new(&mut archive, Engine::default(), &blank(4, 4));
+    let founding = found(4, &[10, 21, 30, 40], 4, WIDE_TABLE);
+    trial.step(&in_counties(founding, &[1, 1, 1, 2])).expect("no difference");
+    let all = [1, 2, 3, 4];
+    for (call, called) in [(write(1, &all), 4), (read(1, &all), 3), (write(2, &all), 3), (read(2, &all), 3)] {
+        let step = trial.step(&call).unwrap_or_else(|what| panic!("{call}: {what}"));
+        assert_eq!((step.result >> 32, step.called), (0, Some(called)), "{call}");
+    }
+}
+
+#[test]
+fn foundings_and_joinings_are_refused_for_their_counties_last() {
+    let names = [1, 2, 3];
+    for counties in [&[][..], &[1, 1], &[1, 1, 1, 1], &[0, 1, 1], &[1, 9, 1], &[1, 1, 255]] {
+        let with = |founding| in_counties(founding, counties);
+        let calls = [
+            (with(found(4, &[2, 1, 3], 4, WIDE_TABLE)), 11, 0),
+            (with(found(4, &names, 4, 2)), 11, 0),
+            (with(found(2, &names, 4, WIDE_TABLE)), 12, 0),
+            (with(found(4, &names, 5, WIDE_TABLE)), 12, 0),
+            (with(found(4, &names, 4, WIDE_TABLE)), 20, 0),
+            (with(found(4, &names, 4, TALL_TABLE)), 20, 0),
+            (in_counties(found(4, &names, 4, WIDE_TABLE), &[8, 1, 8]), 0, 3),
+        ];
+        expect_from(&blank(4, 4), &calls);
+    }
+    let wrong = [0, 9, 255, 256, 257, 1 << 32, (1 << 32) + 1, u64::MAX];
+    let refused = wrong.map(|county| [(join_in(10, county), 13, 0), (join_in(15, county), 20, 0)]);
+    let joined = [(join_in(15, 8), 0, 3), (join_in(16, 1), 0, 4)];
+    let full = wrong.map(|county| [(join_in(0, county), 13, 0), (join_in(17, county), 14, 0)]);
+    expect_counties(&[1, 2], WIDE_TABLE, &[refused.as_flattened(), &joined, full.as_flattened()].concat());
+}
+
+/// The call with this sheet, a write by this club.
+fn lent(mut call: Call, sheet: &[u8], by: u64) -> Call {
+    call.lend(sheet);
+    if let Call::Write { club, .. } = &mut call {
+        *club = by;
+    }
+    call
+}
+
+/// Founds four machines and makes the calls, a write by its club; each is lent what the one before left of a sheet on which clubs 1 and 2
+/// have two and three assured, and ceilings of three and five, and share one.
+fn expect_shares(calls: &[(Call, u64, u64)]) {
+    let mut sheet = Sheet { lines: [Line::default(); 16], total: 6 };
+    sheet.lines[0] = Line { assured: 2, ceiling: 3, count: 0 };
+    sheet.lines[1] = Line { assured: 3, ceiling: 5, count: 0 };
+    let mut archive = Archive::new();
+    let mut trial = Trial::new(&mut archive, Engine::default(), &blank(4, 4));
+    trial.step(&found(4, &[10, 20, 30, 40], 4, WIDE_TABLE)).expect("no difference");
+    let mut left = sheet.bytes().to_vec();
+    for (call, by, refusal) in calls {
+        let step =
+            trial.step(&lent(call.clone(), &left, *by)).unwrap_or_else(|what| panic!("{call}: {what}"));
+        assert_eq!((step.result >> 32, step.summed.is_some()), (*refusal, true), "{call} by {by}");
+        left = trial.sheet().to_vec();
+    }
+}
+
+#[test]
+fn clubs_take_their_own_and_then_what_they_share() {
+    let all = [1, 2, 3, 4];
+    let by = |club, refusal| (write(1, &all), club, refusal);
+    let taken = [by(1, 0), by(1, 0), by(1, 0), by(1, 18), by(2, 0), by(2, 0), by(2, 0), by(2, 19)];
+    expect_shares(
+        &[&taken[..], &[by(3, 18), by(0, 18), by(17, 18), by(257, 18), by((1 << 32) + 1, 18)]].concat(),
+    );
+    // Whatever club 2 took, club 1 has its two.
+    let flood = [by(2, 0), by(2, 0), by(2, 0), by(2, 0), by(2, 19), by(1, 0), by(1, 0), by(1, 19)];
+    expect_shares(&flood);
+    // A check of the list in force leaves the counts; one that changes it sets them to 0, and a refused one does not.
+    let checks = [(check(1, &all), 0, 0), (check(1, &[1]), 0, 6), by(2, 19), (check(1, &[1, 2, 3]), 0, 0)];
+    let anew = [(write(1, &[1, 2, 3]), 2, 0), (write(1, &[1]), 9, 6), (write(1, &[1, 2, 3]), 9, 18)];
+    expect_shares(&[&flood[..], &checks, &anew].concat());
+}
+
+#[test]
+fn a_wrong_sheet_is_refused_first() {
+    let all = [1, 2, 3, 4];
+    let right = open();
+    let mut high = right.clone();
+    high[195] = 1;
+    for sheet in [&[][..], &right[..195], &[&right[..], &[0]].concat(), &high] {
+        let wrong = |call| (lent(call, sheet, 1), 1, 0);
+        let calls = [
+            wrong(write(1, &all)),
+            wrong(write(5, &all)),
+            wrong(check(1, &all)),
+            wrong(check(1, &[1, 2, 3])),
+            wrong(check(1, &[2])),
+            (check(1, &all), 0, 0),
+        ];
+        expect(&[10, 20, 30, 40], &calls);
+    }
+}
+
 #[test]
 fn joinings_are_refused_for_the_name_first() {
     expect_in(
@@ -603,7 +834,8 @@ fn row_4_behind(archive: &mut Archive, patches: &[usize]) -> (Vec<u8>, Ledger) {
     for (number, &length) in (1..).zip(patches) {
         let (coordinator, answering, offset) = (1, set(&[1, 2, 3]), number % 8);
         let patch = vec![number as u8; length];
-        make(&Call::Write { coordinator, answering, offset, patch, called: vec![0], file: 1 });
+        let (called, sheet) = (vec![0], open());
+        make(&Call::Write { coordinator, answering, offset, patch, called, file: 1, sheet, club: 1 });
     }
     make(&check(1, &[1, 2, 3, 4]));
     trial.into_state()
@@ -691,8 +923,9 @@ fn every_length_of_range_buffer_patch_and_number_called() {
             for called in [0, 1, 2, 3].map(|length| vec![0xc5; length]) {
                 let patch = vec![0x5a; length as usize];
                 for file in [1, 2, 3] {
-                    let (patch, called) = (patch.clone(), called.clone());
-                    let write = Call::Write { coordinator, answering, offset, patch, called, file };
+                    let (patch, called, sheet, club) = (patch.clone(), called.clone(), open(), 1);
+                    let write =
+                        Call::Write { coordinator, answering, offset, patch, called, file, sheet, club };
                     trial.step(&write).expect("no difference");
                 }
                 for (buffer_len, file) in (0..8).flat_map(|length| [(length, 1), (length, 2), (length, 3)]) {
@@ -756,10 +989,10 @@ struct Explorer {
 impl Explorer {
     /// Founds the machines in a table of so many rows, and tries all histories of `depth` calls; gives how many calls were
     /// made.
-    fn explore(capacity: usize, names: &[u16], choice: u64, files: usize, depth: u8) -> u64 {
+    fn explore(capacity: usize, files: usize, founding: &Call, depth: u8) -> u64 {
         let mut archive = Archive::new();
         let mut trial = Trial::new(&mut archive, Engine::default(), &blank_group(capacity, 1, files));
-        trial.step(&found_group(capacity, names, 1, choice, files)).expect("no difference");
+        trial.step(founding).expect("no difference");
         let (table, ledger) = trial.into_state();
         Explorer::explore_from(&table, &ledger, depth)
     }
@@ -784,14 +1017,14 @@ impl Explorer {
     }
 }
 
-/// Every read, write and send of each file, every check and choice, and joinings in every gap between names; a write lays down the
-/// byte `mark`.
+/// Every read, write and send of each file, every check and choice, and joinings in every gap between names, in the county of the row
+/// before, and behind all in another one; a write lays down the byte `mark`.
 fn every_call(table: &[u8], mark: u8) -> Vec<Call> {
     let table = Picture::of(table).expect("a founded history");
     let mut calls = Vec::new();
     for answering in 1..=table.all_used() {
         let first = rows::members(answering).next().unwrap_or(1) as u64;
-        calls.push(Call::Check { coordinator: first, answering });
+        calls.push(Call::Check { coordinator: first, answering, sheet: open() });
         for (row, file) in
             rows::members(answering).flat_map(|row| files_of(&table).map(move |file| (row, file)))
         {
@@ -799,7 +1032,8 @@ fn every_call(table: &[u8], mark: u8) -> Vec<Call> {
             let (buffer, patch, called) = (vec![0], vec![mark], vec![0xee]);
             let copied = called.clone();
             calls.push(Call::Read { coordinator, answering, offset, length, buffer, called, file });
-            calls.push(Call::Write { coordinator, answering, offset, patch, called: copied, file });
+            let (called, sheet, club) = (copied, open(), 1);
+            calls.push(Call::Write { coordinator, answering, offset, patch, called, file, sheet, club });
         }
     }
     for coordinator in 1..=table.used as u64 {
@@ -814,7 +1048,9 @@ fn every_call(table: &[u8], mark: u8) -> Vec<Call> {
     // The name 0, or the one below all, or the one above a name; it may be in use.
     let lowest = table.row(table.at(0)).name;
     calls.extend([0, lowest - 1].map(join));
-    calls.extend(table.rows.iter().map(|row| join(row.name + 1)));
+    calls.extend(table.rows.iter().map(|row| join_in(row.name + 1, row.county.into())));
+    let last = table.row(table.at(table.used - 1));
+    calls.push(join_in(last.name + 1, u64::from(last.county) % 8 + 1));
     calls
 }
 
@@ -832,7 +1068,8 @@ fn explore_all(few: &[Machines]) {
 
 fn explore_groups(files: usize, few: &[Machines]) {
     for &(capacity, names, choice, depth) in few {
-        let calls = Explorer::explore(capacity, names, choice, files, depth);
+        let founding = found_group(capacity, names, 1, choice, files);
+        let calls = Explorer::explore(capacity, files, &founding, depth);
         let machines = names.len();
         println!(
             "{machines} machines, {capacity} rows, choice {choice}, {files} files, {depth} calls deep: {calls} calls"
@@ -887,6 +1124,31 @@ fn all_short_histories_of_two_files() {
         ],
     );
     explore_groups(3, &[(2, &[5, 6], WIDE_TABLE, 4), (3, &[31, 500, 501], WIDE_TABLE, 3)]);
+}
+
+#[test]
+fn all_short_histories_of_several_counties() {
+    for (counties, choice, depth) in [
+        (&[2, 1][..], WIDE_TABLE, 6),
+        (&[2, 1], TALL_TABLE, 6),
+        (&[3, 1, 1], WIDE_TABLE, 4),
+        (&[2, 7, 1], TALL_TABLE, 4),
+        (&[1, 2, 1, 1], WIDE_TABLE, 3),
+        (&[4, 3, 2, 1], WIDE_TABLE, 3),
+        (&[1, 2, 1, 2], TALL_TABLE, 3),
+        (&[5, 4, 3, 2, 1], WIDE_TABLE, 2),
+        (&[2, 2, 1, 2, 2, 2], WIDE_TABLE, 2),
+    ] {
+        let names = &[10, 21, 35, 64, 70, 81][..counties.len()];
+        let founding = in_counties(found(names.len(), names, 1, choice), counties);
+        let calls = Explorer::explore(names.len(), 1, &founding, depth);
+        println!("counties {counties:?}, choice {choice}, {depth} calls deep: {calls} calls");
+        assert!(calls > 0);
+    }
+    // One of another county joins.
+    let calls = Explorer::explore(4, 1, &found(4, &[10, 21, 35], 1, WIDE_TABLE), 3);
+    println!("3 machines and one of another county, 3 calls deep: {calls} calls");
+    assert!(calls > 0);
 }
 
 #[test]

@@ -1,7 +1,7 @@
 //! Keeps the plain books of a history's files beside it, and compares the answers with them.
 
 use crate::call::{result_shown, set_shown, Answer, Call};
-use reference::{rows, Book, Quorum, Rules, Shape, MAX_FILES};
+use reference::{rows, Book, Counties, Quorum, Rules, Shape, Sheet, MAX_FILES};
 
 /// Closed until a founding is done.
 #[derive(Clone, Debug, Default)]
@@ -10,12 +10,26 @@ pub struct Ledger {
     rules: Rules,
     /// The book of file q at place q - 1. Each is fed every check and joining, and the writes and sends of its file.
     books: Vec<Book>,
+    /// The writes done since the last changing check, or founding, and the sheet that they and the checks were lent.
+    since: u64,
+    sheet: OneSheet,
+}
+
+/// The sheet that every write and check since the founding was lent, if it was one.
+#[derive(Clone, Debug, Default, PartialEq, Eq)]
+enum OneSheet {
+    /// None was made yet.
+    #[default]
+    Unlent,
+    /// As the last one left it; its counts were 0 at the founding.
+    As(Vec<u8>),
+    Others,
 }
 
 impl Ledger {
     /// For calls made before there were requests.
     pub fn published() -> Ledger {
-        Ledger { rules: Rules::Published, books: Vec::new() }
+        Ledger { rules: Rules::Published, ..Ledger::default() }
     }
 
     /// From now on lists are laid as now; the list in force keeps its grid.
@@ -32,12 +46,20 @@ impl Ledger {
     /// Takes in a call and its answer; an error says how the books differ.
     pub fn hear(&mut self, call: &Call, answer: &Answer) -> Result<(), String> {
         let done = answer.result >> 32 == 0;
-        if let (Call::Found { file_len, names, choice, files, .. }, true) = (call, done) {
+        if let (Call::Found { file_len, names, choice, files, counties, .. }, true) = (call, done) {
             let names: Vec<u16> =
                 names.chunks(2).map(|name| u16::from_le_bytes([name[0], name[1]])).collect();
             let shape = Shape::chosen(*choice).ok_or("a founding with another choice was done")?;
-            let book = Book::open(self.rules, *file_len as usize, &names, shape);
+            // Before there were counties, all machines were in one.
+            let one = vec![1; names.len()];
+            let counties = if self.rules.has_counties() { counties } else { &one };
+            if counties.len() != names.len() || !counties.iter().all(|county| (1..=8).contains(county)) {
+                return Err("a founding with other counties was done".into());
+            }
+            let counties = Counties::of(counties.iter().copied());
+            let book = Book::open(self.rules, *file_len as usize, &names, shape, counties);
             self.books = vec![book; (*files).min(MAX_FILES as u64) as usize];
+            (self.since, self.sheet) = (0, OneSheet::Unlent);
         }
         let Some(first) = self.books.first() else { return Ok(()) };
         match call {
@@ -45,7 +67,7 @@ impl Ledger {
                 let lent_fit = *length == buffer.len() as u64 && called.len() == 1;
                 let place = self.passing(*file, *coordinator, *answering, *offset, *length);
                 let place = place.filter(|_| lent_fit);
-                self.answered(Quorum::Read, place, *coordinator, *answering, answer)?;
+                self.answered(Quorum::Read, place, *coordinator, *answering, None, answer)?;
                 if !done {
                     return Ok(());
                 }
@@ -61,13 +83,16 @@ impl Ledger {
                     return Err("the book has other bytes in the range read".into());
                 }
             }
-            Call::Write { coordinator, answering, offset, patch, called, file } => {
+            Call::Write { coordinator, answering, offset, patch, called, file, sheet, club } => {
                 let place = self.passing(*file, *coordinator, *answering, *offset, patch.len() as u64);
-                let place = place.filter(|_| called.len() == 1);
-                self.answered(Quorum::Write, place, *coordinator, *answering, answer)?;
+                let sheet = Sheet::judge(sheet);
+                let place = place.filter(|_| called.len() == 1 && sheet.is_some());
+                let share = sheet.and_then(|sheet| sheet.refusal(*club));
+                self.answered(Quorum::Write, place, *coordinator, *answering, share, answer)?;
                 if done {
                     let place = place.ok_or("a write that does not pass its questions was done")?;
                     self.books[place].write(*coordinator as usize, *answering, *offset as usize, patch);
+                    self.since += 1;
                 }
             }
             Call::Choice { coordinator, kind, .. } if done => {
@@ -85,18 +110,50 @@ impl Ledger {
                 self.books[place].send(*from as usize, *to as usize);
             }
             Call::Check { answering, .. } if done => {
+                if first.is_changed_by(*answering) {
+                    self.since = 0;
+                }
                 self.books.iter_mut().for_each(|book| book.check(*answering));
             }
-            Call::Join { name } if done => {
+            Call::Join { name, county } if done => {
                 let rows = first.rows() + 1;
-                self.books.iter_mut().for_each(|book| book.join(*name));
+                if !(1..=8).contains(county) {
+                    return Err("a joining from no county was done".into());
+                }
+                self.books.iter_mut().for_each(|book| book.join(*name, *county as u8));
                 if answer.result != rows as u64 {
                     return Err(format!("{}, but the book has {rows} rows", result_shown(answer.result)));
                 }
             }
             _ => {}
         }
+        self.follow(call, answer)
+    }
+
+    /// If their counts were 0 at the founding and each write and check since was lent this one sheet, the clubs' counts sum to the
+    /// writes done since the last changing check, or founding.
+    fn follow(&mut self, call: &Call, answer: &Answer) -> Result<(), String> {
+        let Some(lent) = call.sheet() else { return Ok(()) };
+        let writes = |bytes: &[u8]| Sheet::judge(bytes).map(|sheet| sheet.writes());
+        let is_one = match &self.sheet {
+            OneSheet::Unlent => writes(lent) == Some(0),
+            OneSheet::As(left) => left == lent,
+            OneSheet::Others => false,
+        };
+        self.sheet = if is_one { OneSheet::As(answer.sheet.clone()) } else { OneSheet::Others };
+        if is_one && writes(&answer.sheet) != Some(self.since) {
+            let counted = writes(&answer.sheet);
+            return Err(format!(
+                "the counts sum to {counted:?}, but by the book there are {} writes",
+                self.since
+            ));
+        }
         Ok(())
+    }
+
+    /// The writes that the one sheet counts, if it is one.
+    pub fn summed(&self) -> Option<u64> {
+        matches!(self.sheet, OneSheet::As(_)).then_some(self.since)
     }
 
     /// The place of a file's book, if there is such a file.
@@ -116,19 +173,24 @@ impl Ledger {
         self.place(file).filter(|&place| passes(&self.books[place], coordinator, answering, offset, length))
     }
 
-    /// A read or write that passes questions 1 to 5 and 16, and so has a book at a place, is done or refused as that book says; any
-    /// other one calls nobody.
+    /// A read or write that passes questions 1 to 5 and 16, and so has a book at a place, is done or refused as that book says, or by the
+    /// number that its share of the writes asks for; any other one calls nobody.
     fn answered(
         &self,
         quorum: Quorum,
         place: Option<usize>,
         coordinator: u64,
         answering: u64,
+        share: Option<u32>,
         answer: &Answer,
     ) -> Result<(), String> {
         let Some(place) = place else { return number_called(0, answer) };
         let book = &self.books[place];
-        agree(book.refusal(quorum, answering), answer.result)?;
+        let refusal = match book.refusal(quorum, answering) {
+            0 => share.unwrap_or(0),
+            by_the_book => by_the_book,
+        };
+        agree(refusal, answer.result)?;
         number_called(book.called(quorum, coordinator as usize, answering), answer)
     }
 }
@@ -185,6 +247,7 @@ mod tests {
                 if ledger.hear(&call, &answer).is_err() {
                     return true;
                 }
+                plan.left(&call, &answer.sheet);
                 made += 1;
             }
             if made >= calls {
@@ -202,10 +265,11 @@ mod tests {
     /// Good rows of a founded history hold the same bytes, so the book cannot tell which of them was read; no history
     /// leads to two marks in one epoch, or to two shapes in one table; the book keeps no charts, and does not look at a list
     /// for the number called that has another length than one byte, nor in which order a write's file, range and that list are
-    /// asked for, nor at the list of a choice that was refused; it lists no sends; a send goes whole where a window is
-    /// shorter than it should be; and no history has moves.
+    /// asked for, or a county or a sheet and what comes before it, nor at the list of a choice that was refused, nor at the sheet of a
+    /// check that changes nothing; it lists no sends; a send goes whole where a window is shorter than it should be; no history comes
+    /// to a version of 1,000,000; and none has moves.
     #[test]
-    fn the_book_alone_finds_all_blunders_but_twenty() {
+    fn the_book_alone_finds_all_other_blunders() {
         let hidden = [
             Blunder::HighestGood,
             Blunder::MarksOfEpoch,
@@ -227,6 +291,12 @@ mod tests {
             Blunder::WindowsLeft,
             Blunder::MovableListsOnly,
             Blunder::FileAfterRange,
+            Blunder::CountiesFirst,
+            Blunder::CountyBeforeRoom,
+            Blunder::SeveralCharted,
+            Blunder::SheetAfterRows,
+            Blunder::SheetOfChangesOnly,
+            Blunder::LimitBeforeClub,
         ];
         for blunder in Blunder::ALL {
             let is_hidden = hidden.contains(&blunder);

@@ -9,9 +9,11 @@ mod guard;
 #[cfg(test)]
 mod histories;
 mod ledger;
+mod log;
 mod random;
 mod relay;
 mod report;
+mod sheets;
 mod shrink;
 mod tables;
 mod trial;
@@ -111,7 +113,10 @@ impl Run {
             let call = plan.next(&mut random, trial.table());
             case.calls.push(call.clone());
             match trial.step(&call) {
-                Ok(step) => self.counts.add(&call, step),
+                Ok(step) => {
+                    self.counts.add(&call, step);
+                    plan.left(&call, trial.sheet());
+                }
                 Err(what) => {
                     let failure = Failure { call: case.calls.len() - 1, what };
                     return Some(Failed { number, case, failure });
@@ -132,6 +137,11 @@ impl Run {
             number += 1;
         }
         None
+    }
+
+    /// A failing case as a log for `gridctl replay`, or what of it a log cannot tell.
+    pub fn log(&self, case: &Case) -> Result<String, &'static str> {
+        log::failing(case, self.reference)
     }
 
     /// The case cut down to few and short calls that still fail.

@@ -108,13 +108,19 @@ fn compare(seed: u64, options: &Options) -> bool {
     let [tables, sends] = run.counts.looked();
     let [like, unlike] = run.counts.sent_by_window();
     let [others, alone] = run.counts.on_files();
+    let [unmoved, moved] = run.counts.moved_counties();
+    let [shares, sums] = run.counts.sheets();
     println!(
         "differ: {calls} calls ({} by the scope's rules alone too, {} decided by a grid mark, {own} by an own choice, {all} not, \
-         {} through a relay too, {alone} by the rules of form 3), {} twins and {others} with other files, {like} sends by window like whole ones, {unlike} not, {tables} tables with {sends} sends by the wrapper in {:.1} s, no difference (seed {seed})",
+         {} through a relay too, {alone} file by file, {} by the rules of form 4), {} twins, {others} with other files and {} with \
+         another county, {moved} of which answered otherwise, {shares} writes with other shares, {sums} sums of a sheet, {like} sends by window like whole ones, {unlike} not, {tables} tables with \
+         {sends} sends by the wrapper in {:.1} s, no difference (seed {seed})",
         run.counts.published(),
         run.counts.decided(),
         run.counts.relayed(),
+        run.counts.former(),
         run.counts.twins(),
+        unmoved + moved,
         started.elapsed().as_secs_f64()
     );
     true
@@ -140,6 +146,10 @@ fn show(run: &mut Run, failed: &Failed, blunder: Option<Mistake>) {
     println!("  table: {}", differ::bytes_shown(&case.table));
     for call in &case.calls {
         println!("  {call}");
+    }
+    match run.log(&case) {
+        Ok(log) => println!("as a log, for gridctl replay:\n{log}"),
+        Err(what) => println!("a log for gridctl replay cannot tell it: {what}"),
     }
     let with_blunder = blunder.map_or(String::new(), |blunder| format!(" --blunder {}", blunder.name()));
     println!("repeat: differ --seed {} --case {}{with_blunder}", run.seed, failed.number);

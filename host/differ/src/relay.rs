@@ -5,7 +5,7 @@
 use crate::archive::Archive;
 use crate::call::{result_shown, Answer, Call};
 use dyngrid::{File, Rows, Table};
-use reference::{HEADER, ROW_HEADER, TALL};
+use reference::{Counties, Rules, Shape, COUNTY, HEADER, ROW_HEADER, TALL};
 
 /// Where a row keeps its link, its list and the mark of the list's grid.
 const LINK: usize = 2;
@@ -21,10 +21,13 @@ pub enum Slip {
     ShippedLate,
     /// Rows are shipped after a founding and a joining only.
     NothingShipped,
+    /// Rows that did not answer stand in the table as if they were of county 1.
+    CountyForgotten,
 }
 
 impl Slip {
-    pub const ALL: [Slip; 3] = [Slip::FullFiller, Slip::ShippedLate, Slip::NothingShipped];
+    pub const ALL: [Slip; 4] =
+        [Slip::FullFiller, Slip::ShippedLate, Slip::NothingShipped, Slip::CountyForgotten];
 
     /// Its name on a command line.
     pub fn name(self) -> &'static str {
@@ -32,13 +35,14 @@ impl Slip {
             Slip::FullFiller => "full-filler",
             Slip::ShippedLate => "shipped-late",
             Slip::NothingShipped => "nothing-shipped",
+            Slip::CountyForgotten => "county-forgotten",
         }
     }
 }
 
 pub struct Relay {
     slip: Option<Slip>,
-    /// Header, names and links.
+    /// Header, names, links and counties.
     frame: Table,
     /// What each machine holds: row i at place i - 1.
     machines: Vec<Vec<u8>>,
@@ -94,8 +98,15 @@ impl Relay {
             self.machines[row - 1] = bytes;
         }
         let mut bytes = before.as_bytes().to_vec();
-        if self.slip == Some(Slip::FullFiller) {
-            self.fill(&mut bytes, self.frame.rows() - asked);
+        let others = self.frame.rows() - asked;
+        match self.slip {
+            Some(Slip::FullFiller) => self.fill(&mut bytes, others),
+            Some(Slip::CountyForgotten) => {
+                others.iter().for_each(|row| self.row_of(&mut bytes, row)[COUNTY] = 1);
+            }
+            _ => {}
+        }
+        if self.slip.is_some() {
             before = Table::from_bytes(bytes.clone()).unwrap_or(before);
         }
         agree(&archive.call(&mut bytes, call)?, answer)?;
@@ -134,15 +145,21 @@ impl Relay {
 
     /// Gives these rows the list of all used rows, as a founding would lay it.
     fn fill(&self, bytes: &mut [u8], rows: Rows) {
-        let stride = self.machines[0].len();
         let tall = self.machines.iter().any(|row| row[GRID_MARK] == TALL);
-        let all = self.frame.rows();
-        let mark = if tall { TALL } else { u8::from(all.len() == 5) };
+        let all = self.frame.rows().bits();
+        let counties = Counties::of(self.machines.iter().map(|row| row[COUNTY]));
+        let shape = if tall { Shape::Tall } else { Shape::Wide };
+        let list = Rules::Newest.lay(shape, all, &counties);
         for row in rows {
-            let row = &mut bytes[HEADER + (row - 1) * stride..][..stride];
-            row[LIST].copy_from_slice(&all.bits().to_le_bytes());
-            row[GRID_MARK] = mark;
+            let row = self.row_of(bytes, row);
+            row[LIST].copy_from_slice(&all.to_le_bytes());
+            row[GRID_MARK] = list.mark;
         }
+    }
+
+    fn row_of<'a>(&self, bytes: &'a mut [u8], row: usize) -> &'a mut [u8] {
+        let stride = self.machines[0].len();
+        &mut bytes[HEADER + (row - 1) * stride..][..stride]
     }
 
     /// Are the frame and the rows on the machines those of the one table? The links of the machines may be old. What is on
@@ -159,6 +176,7 @@ impl Relay {
         for (row, (machine, expected)) in (1..).zip(self.machines.iter().zip(rows.chunks(stride))) {
             let frame = self.frame.row_bytes(row).unwrap_or_default();
             let same = frame[..=LINK] == expected[..=LINK]
+                && frame[COUNTY] == expected[COUNTY]
                 && machine[..LINK] == expected[..LINK]
                 && machine[LINK + 1..] == expected[LINK + 1..];
             if !same {
@@ -222,12 +240,14 @@ mod tests {
         let mut archive = Archive::new();
         let mut whole = vec![0; reference::Table::length(5, 4, 2)];
         let names = names_in_bytes(&[10, 20, 30, 40]);
-        let found = Call::Found { capacity: 5, file_len: 4, names, choice: 0, files: 2 };
+        let counties = vec![1, 1, 2, 1];
+        let found = Call::Found { capacity: 5, file_len: 4, names, choice: 0, files: 2, counties };
         archive.call(&mut whole, &found).expect("no stray write");
         let founded = whole.clone();
         let called = vec![0];
         let (coordinator, answering, offset, patch, file) = (4, 0b1111, 1, vec![7, 8], 2);
-        let write = Call::Write { coordinator, answering, offset, patch, called, file };
+        let (sheet, club) = (reference::Sheet::OPEN.bytes().to_vec(), 1);
+        let write = Call::Write { coordinator, answering, offset, patch, called, file, sheet, club };
         let answer = archive.call(&mut whole, &write).expect("no stray write");
         let mut relayed = |answer: &Answer, whole: &[u8]| {
             let mut relay = Relay::open(&founded, None).expect("founded");
@@ -240,6 +260,7 @@ mod tests {
             assert!(!relayed(&answer, &altered), "byte {at}");
         }
         assert!(!relayed(&Answer { result: answer.result + 1, ..answer.clone() }, &whole));
-        assert!(!relayed(&Answer { called: vec![4], ..answer }, &whole));
+        let called = answer.called.iter().map(|count| count ^ 1).collect();
+        assert!(!relayed(&Answer { called, ..answer }, &whole));
     }
 }

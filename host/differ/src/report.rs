@@ -3,9 +3,10 @@
 use crate::call::Call;
 use crate::damage::{self, Damaged};
 use crate::generate::MOVE_FORMS;
+use crate::sheets;
 use crate::tables::Picture;
 use reference::window::RECORDS;
-use reference::{Quorum, Rules, Shape, MAX_FILES};
+use reference::{Quorum, Rules, Shape, Sheet, MAX_COUNTIES, MAX_FILES, SEVERAL};
 use std::collections::{BTreeMap, BTreeSet};
 use std::fmt;
 use std::ops::RangeInclusive;
@@ -50,16 +51,41 @@ pub struct Counts {
     absent: [[u64; ABSENT.len()]; KINDS],
     /// For each kind of call and number of files, how often it was made again with other parts of other files.
     other_files: [[u64; MAX_FILES]; KINDS],
-    /// For each kind of call, how often it was made by the rules of form 3 on each file alone, in tables of one file and of several.
+    /// For each kind of call, how often it was made on each file alone, in tables of one file and of several; of one county by the rules
+    /// of form 3.
     alone: [[u64; GROUPS.len()]; KINDS],
     /// How many checks were of each of `CHECKS`.
     checks: [u64; CHECKS.len()],
+    /// For each kind of call, how often it was done on a table of each number of counties.
+    counties: [[u64; MAX_COUNTIES]; KINDS],
+    /// How often each of `NO_COUNTIES` was refused by 20.
+    no_counties: [u64; NO_COUNTIES.len()],
+    /// For each kind of call, for each shape and for each of `OTHERWISE`, how often a list of several counties judged it that would have
+    /// judged otherwise if it were laid so.
+    otherwise: [[[u64; OTHERWISE.len()]; SHAPES.len()]; KINDS],
+    /// For each kind of call, how often a list of one county judged it in a table of several.
+    at_home: [u64; KINDS],
+    /// How many checks took in a row of a county that the list before had no member of.
+    newcomers: u64,
+    /// For each kind of call, how often the rules of form 4 judged it too, on a table of one county.
+    former: [u64; KINDS],
+    /// For each kind of call, how often it was made again with a row that did not answer in another county, and gave the same, and how
+    /// often it did not.
+    moved_counties: [[u64; 2]; KINDS],
     /// For each form, each of `MOVE_FORMS` and each of `BUFFERS`, how many moves of well-formed tables were so.
     moved: [[[u64; BUFFERS.len()]; MOVE_FORMS.len()]; Rules::ALL.len()],
     /// For each of `WAYS`, how many tables went that way and were moved on.
     went_on: [u64; WAYS.len()],
     /// For each form, how many moves to form 1 were of tables with one alone of `UNPUBLISHED`.
     unpublished: [[u64; UNPUBLISHED.len()]; Rules::ALL.len()],
+    /// How many writes met each of `SHARES`.
+    shares: [u64; SHARES.len()],
+    /// How many writes, and how many checks, were refused by 1 for a sheet with each rule of one broken alone.
+    wrong_sheets: [[u64; sheets::RULES.len()]; SHEETED.len()],
+    /// How many writes were made again with other lines of the sheet.
+    other_sheets: u64,
+    /// How many times the counts of one sheet were the writes done since the last changing check, 0 of them and more.
+    summed: [u64; 2],
     /// How many well-formed tables were looked at through the wrapper, and how many sends would be done there.
     looked: u64,
     sends: u64,
@@ -166,11 +192,11 @@ const CHECKS: [Known<Checked>; 5] = [
     ),
 ];
 
-/// The kinds of calls that name a file: read, write, send; those that files have a part in; and those that are made by the rules of
-/// form 3 too.
+/// The kinds of calls that name a file: read, write, send; those that files have a part in; and those that are made on each file alone
+/// too.
 const NAMING: RangeInclusive<usize> = 1..=3;
 const ON_FILES: [usize; 7] = [0, 1, 2, 3, 4, 5, 7];
-const BY_FORM_3: [usize; 6] = [1, 2, 3, 4, 5, 7];
+const ALONE: [usize; 6] = [1, 2, 3, 4, 5, 7];
 
 /// The files that a group does not have and that must be named, by their number and how many there are.
 const ABSENT: [Known<(u64, usize)>; 4] = [
@@ -179,6 +205,73 @@ const ABSENT: [Known<(u64, usize)>; 4] = [
     ("file 9", |(file, _)| file == MAX_FILES as u64 + 1),
     ("file 2^32 + 1", |(file, _)| file == (1 << 32) + 1),
 ];
+
+/// A call of this kind that must come, and how it is known.
+type KnownCall = (usize, &'static str, fn(&Call) -> bool);
+
+/// The foundings and joinings that must be refused by 20.
+const NO_COUNTIES: [KnownCall; 11] = [
+    (0, "founding with a county less than names", |call| surplus(call) == Some(-1)),
+    (0, "founding with a county more than names", |call| surplus(call) == Some(1)),
+    (0, "founding without counties", |call| call.counties() == Some(&[])),
+    (0, "founding with county 0", |call| call.counties().is_some_and(|counties| counties.contains(&0))),
+    (0, "founding with county 9", |call| call.counties().is_some_and(|counties| counties.contains(&9))),
+    (0, "founding with county 255", |call| call.counties().is_some_and(|counties| counties.contains(&255))),
+    (5, "joining from county 0", |call| matches!(call, Call::Join { county: 0, .. })),
+    (5, "joining from county 9", |call| matches!(call, Call::Join { county: 9, .. })),
+    (5, "joining from county 257", |call| matches!(call, Call::Join { county: 257, .. })),
+    (5, "joining from county 2^32 + 1", |call| matches!(call, Call::Join { county: 0x1_0000_0001, .. })),
+    (5, "joining from county 2^64 - 1", |call| matches!(call, Call::Join { county: u64::MAX, .. })),
+];
+
+/// How many counties a founding names beyond its machines.
+fn surplus(call: &Call) -> Option<isize> {
+    match call {
+        Call::Found { names, counties, .. } => Some(counties.len() as isize - names.len() as isize / 2),
+        _ => None,
+    }
+}
+
+/// How a list of several counties could be laid wrongly.
+pub const OTHERWISE: [&str; 4] = [
+    "in one grid",
+    "with five machines of a county in the published grid",
+    "with five counties in the published grid",
+    "with its counties in chain order",
+];
+const SHAPES: [&str; 2] = ["wide", "tall"];
+
+/// A write with this answer that must come, by its right sheet and its club.
+type Share = (&'static str, u32, fn(&Sheet, u64) -> bool);
+
+const SHARES: [Share; 11] = [
+    ("below its assured number, nothing left to share", 0, |sheet, club| {
+        sheet.remainder() == 0 && sheet.line(club).is_some_and(|line| line.count < line.assured)
+    }),
+    ("at its assured number", 0, |sheet, club| {
+        sheet.line(club).is_some_and(|line| line.count == line.assured && line.assured > 0)
+    }),
+    ("with the last that is left to share", 0, |sheet, club| {
+        sheet.remainder() == 1 && sheet.line(club).is_some_and(|line| line.count >= line.assured)
+    }),
+    ("one below its ceiling", 0, |sheet, club| {
+        sheet.line(club).is_some_and(|line| line.count + 1 == line.ceiling)
+    }),
+    ("at its ceiling, something left to share", 18, |sheet, club| {
+        sheet.remainder() > 0 && sheet.line(club).is_some_and(|line| line.count == line.ceiling)
+    }),
+    ("at its ceiling, nothing left to share", 18, |sheet, club| {
+        sheet.remainder() == 0 && sheet.line(club).is_some_and(|line| line.count == line.ceiling)
+    }),
+    ("of club 0", 18, |_, club| club == 0),
+    ("of club 17", 18, |_, club| club == 17),
+    ("of club 257", 18, |_, club| club == 257),
+    ("of club 2^32 + 1", 18, |_, club| club == (1 << 32) + 1),
+    ("with nothing left to share", 19, |sheet, _| sheet.remainder() == 0),
+];
+
+/// The kinds of calls that are lent a sheet: write and check.
+const SHEETED: [usize; 2] = [2, 4];
 
 /// How many files a table has that its files are asked of alone.
 const GROUPS: [&str; 2] = ["of one", "of several"];
@@ -219,12 +312,12 @@ fn fill(patches: usize) -> usize {
 
 /// The answers that each kind of call can give, 0 for done, in the order of `Call::KINDS`.
 const POSSIBLE: [&[u32]; KINDS] = [
-    &[0, 11, 12],
+    &[0, 11, 12, 20],
     &[0, 1, 2, 3, 4, 5, 6, 7, 16],
-    &[0, 1, 2, 3, 4, 5, 6, 7, 8, 16],
+    &[0, 1, 2, 3, 4, 5, 6, 7, 8, 16, 18, 19],
     &[0, 1, 2, 3, 9, 10, 16],
     &[0, 1, 2, 3, 6, 7, 8],
-    &[0, 1, 13, 14],
+    &[0, 1, 13, 14, 20],
     &[0, 5, 17],
     &[0, 1, 2, 4, 5],
     &[0, 1, 12, 15],
@@ -242,6 +335,9 @@ const PUBLISHED: RangeInclusive<usize> = 1..=4;
 /// The kinds of calls that the grid of a list decides: read, write, check, choice.
 const BY_GRID: [usize; 4] = [1, 2, 4, 7];
 
+/// The kinds of calls that the rules of form 4 judge too: all but a chart.
+const BY_FORM_4: [usize; 8] = [0, 1, 2, 3, 4, 5, 7, 8];
+
 /// The kinds of calls that say how many machines were called: read and write.
 const CALLING: [usize; 2] = [1, 2];
 /// The kinds of calls that are lent a list of one length: those, and a choice. Each of these refusals must come with each
@@ -252,26 +348,33 @@ const LENT: [(usize, &[u32], &[usize], usize); 3] = [
     (7, &[1, 2, 4, 5], &[0, 7, 8, 9], 8),
 ];
 /// The answers that both a call that stayed with its own choice and one that did not can give.
-const EITHER: [u32; 2] = [0, 8];
+const EITHER: [u32; 4] = [0, 8, 18, 19];
 
 /// The lists that can lie in two grids, by grid mark.
-const MARKS: [&str; 3] = ["a five in the published grid", "a five in the new grid", "a tall list"];
+const MARKS: [&str; 4] = [
+    "a five in the published grid",
+    "a five in the new grid",
+    "a tall list",
+    "a list of several counties in a wide table",
+];
 
 /// The choices that can be told, by kind and by the grid mark of the own list, or none.
-const CHOICES: [&str; 8] = [
+const CHOICES: [&str; 10] = [
     "read over a list in the published grid",
     "read over a list in the new grid",
     "read over a tall list",
+    "read over a list of several counties in a wide table",
     "read over an empty list",
     "write over a list in the published grid",
     "write over a list in the new grid",
     "write over a tall list",
+    "write over a list of several counties in a wide table",
     "write over an empty list",
 ];
 
 /// The place in `CHOICES` of one over a list with this mark, or over an empty one.
 pub fn choice_told(quorum: Quorum, mark: Option<u8>) -> usize {
-    4 * usize::from(quorum == Quorum::Write) + mark.map_or(3, usize::from)
+    5 * usize::from(quorum == Quorum::Write) + mark.map_or(4, usize::from)
 }
 
 /// The kinds of tables that a call is made on.
@@ -280,10 +383,14 @@ pub enum Ground {
     Malformed,
     /// Every row has a list, and all lie in the published grid.
     Published,
-    /// Every row has a list, and some lie in the new grid of five.
+    /// Every row has a list of one county, and some lie in the new grid of five.
     Marked,
-    /// Every row has a list, and all are tall.
+    /// Every row has a list, none of them tall, and some are of several counties.
+    Several,
+    /// Every row has a list of one county, and all are tall.
     Tall,
+    /// Every row has a list, all are tall, and some are of several counties.
+    TallSeveral,
     /// Some rows have a list, none of them tall, and some have none.
     Mixed,
     /// Some rows have a list, all of them tall, and some have none.
@@ -293,11 +400,13 @@ pub enum Ground {
 }
 
 impl Ground {
-    pub const ALL: [Ground; 7] = [
+    pub const ALL: [Ground; 9] = [
         Ground::Malformed,
         Ground::Published,
         Ground::Marked,
+        Ground::Several,
         Ground::Tall,
+        Ground::TallSeveral,
         Ground::Mixed,
         Ground::TallMixed,
         Ground::Unlisted,
@@ -307,9 +416,12 @@ impl Ground {
     pub fn of(table: Option<&Picture>) -> Ground {
         let Some(table) = table else { return Ground::Malformed };
         let Some(shape) = table.shape() else { return Ground::Unlisted };
+        let mut lists = table.rows.iter().map(|row| row.list);
         match (shape, table.unlisted()) {
-            (Shape::Wide, 0) if table.rows.iter().all(|row| row.list.mark == 0) => Ground::Published,
+            (Shape::Wide, 0) if lists.clone().all(|list| list.mark == 0) => Ground::Published,
+            (Shape::Wide, 0) if lists.any(|list| list.mark == SEVERAL) => Ground::Several,
             (Shape::Wide, 0) => Ground::Marked,
+            (Shape::Tall, 0) if lists.any(|list| table.several(list.members)) => Ground::TallSeveral,
             (Shape::Tall, 0) => Ground::Tall,
             (Shape::Wide, _) => Ground::Mixed,
             (Shape::Tall, _) => Ground::TallMixed,
@@ -321,7 +433,9 @@ impl Ground {
             Ground::Malformed => "malformed table",
             Ground::Published => "table whose rows all have a list in the published grid",
             Ground::Marked => "table whose rows all have a list, some in the new grid",
+            Ground::Several => "table whose rows all have a list, some of several counties",
             Ground::Tall => "table whose rows all have a tall list",
+            Ground::TallSeveral => "table whose rows all have a tall list, some of several counties",
             Ground::Mixed => "table with and without lists",
             Ground::TallMixed => "table with and without tall lists",
             Ground::Unlisted => "table without a list",
@@ -359,11 +473,34 @@ pub struct Step {
     pub moved: Option<Moved>,
     /// How many files the table has, if it is well formed.
     pub files: Option<usize>,
-    /// The same, if the call was made again with other parts of other files, or by the rules of form 3 on one file alone.
+    /// The same, if the call was made again with other parts of other files, or on one file alone.
     pub other_files: Option<usize>,
     pub alone: Option<usize>,
     /// What the files had to do with a check.
     pub checked: Option<Checked>,
+    /// How many counties the table has, if it is well formed.
+    pub counties: Option<usize>,
+    /// What the counties had to do with a list that judged the call, or that a check laid.
+    pub judged: Option<Judged>,
+    /// Did a check take in a row of a county that the list before had no member of?
+    pub newcomer: bool,
+    /// Was the call judged by the rules of form 4 too, on a table of one county?
+    pub former: bool,
+    /// Did the call give the same with a row that did not answer in another county? None if it was not asked.
+    pub moved_county: Option<bool>,
+    /// Was the call made again with other lines of the sheet?
+    pub other_sheet: bool,
+    /// The writes done since the last changing check, if they were compared with the counts of one sheet.
+    pub summed: Option<u64>,
+}
+
+/// What the counties had to do with a list that judged a call.
+#[derive(Clone, Copy, Debug, PartialEq, Eq)]
+pub enum Judged {
+    /// It is of one county in a table of several.
+    AtHome,
+    /// It is of several, in a table of this shape, and would have judged otherwise if it were laid as these of `OTHERWISE`.
+    Several(Shape, [bool; OTHERWISE.len()]),
 }
 
 impl Step {
@@ -388,6 +525,13 @@ impl Step {
             other_files: None,
             alone: None,
             checked: None,
+            counties: None,
+            judged: None,
+            newcomer: false,
+            former: false,
+            moved_county: None,
+            other_sheet: false,
+            summed: None,
         }
     }
 }
@@ -414,9 +558,20 @@ impl Default for Counts {
             other_files: Default::default(),
             alone: Default::default(),
             checks: Default::default(),
+            counties: Default::default(),
+            no_counties: Default::default(),
+            otherwise: Default::default(),
+            at_home: Default::default(),
+            newcomers: 0,
+            former: Default::default(),
+            moved_counties: Default::default(),
             moved: Default::default(),
             went_on: Default::default(),
             unpublished: Default::default(),
+            shares: Default::default(),
+            wrong_sheets: Default::default(),
+            other_sheets: 0,
+            summed: Default::default(),
             looked: 0,
             sends: 0,
         }
@@ -461,6 +616,8 @@ impl Counts {
             }
         }
         self.add_files(call, answer, &step);
+        self.add_counties(call, answer, &step);
+        self.add_sheet(call, answer, &step);
         self.looked += u64::from(step.sends.is_some());
         self.sends += step.sends.unwrap_or(0) as u64;
         self.grounds[call.kind()][step.ground as usize] += 1;
@@ -500,15 +657,73 @@ impl Counts {
         }
     }
 
+    /// What the counties had to do with a call.
+    fn add_counties(&mut self, call: &Call, answer: u32, step: &Step) {
+        let kind = call.kind();
+        let founded = call.counties().map(|counties| BTreeSet::from_iter(counties).len());
+        if let (0, Some(place)) = (answer, founded.or(step.counties).and_then(|count| count.checked_sub(1))) {
+            self.counties[kind][place] += 1;
+        }
+        for ((of, _, is_such), count) in NO_COUNTIES.iter().zip(&mut self.no_counties) {
+            *count += u64::from(answer == 20 && *of == kind && is_such(call));
+        }
+        match step.judged {
+            Some(Judged::AtHome) => self.at_home[kind] += 1,
+            Some(Judged::Several(shape, otherwise)) => {
+                let counts = &mut self.otherwise[kind][usize::from(shape == Shape::Tall)];
+                counts.iter_mut().zip(otherwise).for_each(|(count, such)| *count += u64::from(such));
+            }
+            None => {}
+        }
+        self.newcomers += u64::from(step.newcomer);
+        self.former[kind] += u64::from(step.former);
+        if let Some(same) = step.moved_county {
+            self.moved_counties[kind][usize::from(!same)] += 1;
+        }
+    }
+
+    /// What its sheet had to do with a call.
+    fn add_sheet(&mut self, call: &Call, answer: u32, step: &Step) {
+        let Some(bytes) = call.sheet() else { return };
+        if let (Call::Write { club, .. }, Some(sheet)) = (call, Sheet::judge(bytes)) {
+            for ((_, of, is_such), count) in SHARES.iter().zip(&mut self.shares) {
+                *count += u64::from(*of == answer && is_such(&sheet, *club));
+            }
+        }
+        let place = SHEETED.iter().position(|&kind| kind == call.kind());
+        if let (1, Some(place), Some(rule)) = (answer, place, sheets::only_broken(bytes)) {
+            self.wrong_sheets[place][rule] += u64::from(step.ground != Ground::Malformed);
+        }
+        self.other_sheets += u64::from(step.other_sheet);
+        if let Some(writes) = step.summed {
+            self.summed[usize::from(writes > 0)] += 1;
+        }
+    }
+
     /// A case began with this table.
     pub fn add_damage(&mut self, damaged: &Damaged) {
         self.damages[damaged.table.rules as usize][damaged.rule] += 1;
         self.damaged_last[damaged.rule] += u64::from(damaged.in_last_file());
     }
 
-    /// How often other parts of other files were tried, and how often the rules of form 3 on each file alone.
+    /// How often other parts of other files were tried, and how often each file alone.
     pub fn on_files(&self) -> [u64; 2] {
         [self.other_files.iter().flatten().sum(), self.alone.iter().flatten().sum()]
+    }
+
+    /// How many writes were made again with other lines of the sheet, and how often the counts of one sheet were summed.
+    pub fn sheets(&self) -> [u64; 2] {
+        [self.other_sheets, self.summed.iter().sum()]
+    }
+
+    /// How often the rules of form 4 judged a call too.
+    pub fn former(&self) -> u64 {
+        self.former.iter().sum()
+    }
+
+    /// How often a call gave the same with a row that did not answer in another county, and how often it did not.
+    pub fn moved_counties(&self) -> [u64; 2] {
+        [0, 1].map(|other| self.moved_counties.iter().map(|counts| counts[other]).sum())
     }
 
     /// How many sends went by window and left what a whole one would have, and how many did not.
@@ -602,6 +817,8 @@ impl Counts {
         missing
             .extend(never.map(|((from, to), _)| format!("table that moved from form {from} to {to} and on")));
         self.missing_files(&mut missing);
+        self.missing_counties(&mut missing);
+        self.missing_sheets(&mut missing);
         let untold = CHOICES.into_iter().zip(self.chosen).filter(|&(_, count)| count == 0);
         missing.extend(untold.map(|(choice, _)| format!("choice of a {choice}")));
         let not_relayed = Call::KINDS.into_iter().zip(self.relayed).filter(|&(_, count)| count == 0);
@@ -644,13 +861,57 @@ impl Counts {
             missing
                 .extend(never.map(|(files, _)| format!("{name} among {files} files with other other files")));
         }
-        for (kind, name) in BY_FORM_3.map(|kind| (kind, Call::KINDS[kind])) {
+        for (kind, name) in ALONE.map(|kind| (kind, Call::KINDS[kind])) {
             let never = GROUPS.iter().zip(self.alone[kind]).filter(|&(_, count)| count == 0);
-            missing
-                .extend(never.map(|(files, _)| format!("{name} by the rules of form 3 on a file {files}")));
+            missing.extend(never.map(|(files, _)| format!("{name} on a file {files} alone")));
         }
         let never = CHECKS.iter().zip(self.checks).filter(|&(_, count)| count == 0);
         missing.extend(never.map(|((check, _), _)| format!("check {check}")));
+    }
+
+    /// What never came of counties.
+    fn missing_counties(&self, missing: &mut Vec<String>) {
+        for (kind, name) in ON_FILES.map(|kind| (kind, Call::KINDS[kind])) {
+            let never = (1..).zip(self.counties[kind]).filter(|&(_, count)| count == 0);
+            missing.extend(never.map(|(counties, _)| format!("{name} on a table of {counties} counties")));
+        }
+        let never = NO_COUNTIES.iter().zip(self.no_counties).filter(|&(_, count)| count == 0);
+        missing.extend(never.map(|((_, call, _), _)| format!("{call} refused by 20")));
+        for (kind, name) in BY_GRID.map(|kind| (kind, Call::KINDS[kind])) {
+            for (shape, counts) in SHAPES.iter().zip(self.otherwise[kind]) {
+                let never = OTHERWISE.iter().zip(counts).filter(|&(_, count)| count == 0);
+                missing.extend(never.map(|(laid, _)| format!("{name} on a {shape} table not laid {laid}")));
+            }
+            if self.at_home[kind] == 0 {
+                missing.push(format!("{name} by a list of one county in a table of several"));
+            }
+            if self.moved_counties[kind][1] == 0 {
+                missing.push(format!("{name} that another county of a row that did not answer alters"));
+            }
+        }
+        if self.newcomers == 0 {
+            missing.push("check that takes in a row of a new county".into());
+        }
+        let never = BY_FORM_4.into_iter().filter(|&kind| self.former[kind] == 0);
+        missing.extend(never.map(|kind| format!("{} by the rules of form 4", Call::KINDS[kind])));
+    }
+
+    /// What never came of sheets.
+    fn missing_sheets(&self, missing: &mut Vec<String>) {
+        let never = SHARES.iter().zip(self.shares).filter(|&(_, count)| count == 0);
+        missing.extend(never.map(|((share, answer, _), _)| format!("write {answer} {share}")));
+        for (kind, counts) in SHEETED.iter().zip(self.wrong_sheets) {
+            let never = sheets::RULES.iter().zip(counts).filter(|&(_, count)| count == 0);
+            missing.extend(
+                never.map(|((rule, _), _)| format!("{} with a sheet with {rule}", Call::KINDS[*kind])),
+            );
+        }
+        if self.other_sheets == 0 {
+            missing.push("write with other lines of the sheet".into());
+        }
+        if self.summed.contains(&0) {
+            missing.push("counts of one sheet summed, 0 and more".into());
+        }
     }
 
     /// How often a read or write stayed with its own choice, and how often it did not, where that can be told.
@@ -702,10 +963,19 @@ impl fmt::Display for Counts {
 #[cfg(test)]
 mod tests {
     use super::*;
+    use crate::random::Random;
+    use reference::sheet::Line;
 
     fn calls() -> [Call; KINDS] {
         [
-            Call::Found { capacity: 1, file_len: 1, names: vec![1, 0], choice: 0, files: 1 },
+            Call::Found {
+                capacity: 1,
+                file_len: 1,
+                names: vec![1, 0],
+                choice: 0,
+                files: 1,
+                counties: vec![1],
+            },
             Call::Read {
                 coordinator: 1,
                 answering: 1,
@@ -715,10 +985,19 @@ mod tests {
                 called: vec![0],
                 file: 1,
             },
-            Call::Write { coordinator: 1, answering: 1, offset: 0, patch: vec![0], called: vec![0], file: 1 },
+            Call::Write {
+                coordinator: 1,
+                answering: 1,
+                offset: 0,
+                patch: vec![0],
+                called: vec![0],
+                file: 1,
+                sheet: Sheet::OPEN.bytes().to_vec(),
+                club: 1,
+            },
             Call::Send { from: 1, to: 2, answering: 3, file: 1 },
-            Call::Check { coordinator: 1, answering: 1 },
-            Call::Join { name: 1 },
+            Call::Check { coordinator: 1, answering: 1, sheet: Sheet::OPEN.bytes().to_vec() },
+            Call::Join { name: 1, county: 1 },
             Call::Chart { length: 1, mark: 0, list: vec![0; 128] },
             Call::Choice { coordinator: 1, kind: 0, set: vec![0; 8] },
             Call::Move { form: 3, to: vec![0; 8], taken: false },
@@ -738,7 +1017,7 @@ mod tests {
                     *files = number as u64;
                 }
                 let other_files = call.file().map(|_| number);
-                let alone = BY_FORM_3.contains(&call.kind()).then_some(number);
+                let alone = ALONE.contains(&call.kind()).then_some(number);
                 let step = Step { files: Some(number), other_files, alone, ..step(0) };
                 call.rename_file(number as u64);
                 counts.add(&call, step);
@@ -769,12 +1048,102 @@ mod tests {
         counts.add(&calls()[4], Step { checked, ..step(0) });
     }
 
+    /// Tables of each number of counties, calls refused by 20, lists that would have judged otherwise, and other rules and counties.
+    fn every_kind_of_county(counts: &mut Counts) {
+        for mut call in ON_FILES.map(|kind| calls()[kind].clone()) {
+            for number in 1..=MAX_COUNTIES {
+                if let Call::Found { counties, .. } = &mut call {
+                    *counties = (1..=number as u8).chain([1]).collect();
+                }
+                counts.add(&call, Step { counties: Some(number), ..step(0) });
+            }
+        }
+        for (kind, answer) in [(0, 11), (0, 20), (5, 14), (5, 20)] {
+            counts.add(&calls()[kind], step(answer));
+        }
+        let missing_before = counts.missing().len();
+        for wrong in [&[][..], &[1, 1], &[0], &[9], &[255]] {
+            let mut call = calls()[0].clone();
+            if let Call::Found { counties, .. } = &mut call {
+                *counties = wrong.to_vec();
+            }
+            counts.add(&call, step(11));
+            counts.add(&call, step(20));
+        }
+        for county in [0, 9, 257, (1 << 32) + 1, u64::MAX] {
+            counts.add(&Call::Join { name: 1, county }, step(14));
+            counts.add(&Call::Join { name: 1, county }, step(20));
+        }
+        assert_eq!(counts.missing().len(), missing_before - NO_COUNTIES.len());
+        for call in BY_GRID.map(|kind| calls()[kind].clone()) {
+            for (shape, place) in [Shape::Wide, Shape::Tall]
+                .into_iter()
+                .flat_map(|shape| (0..4).map(move |place| (shape, place)))
+            {
+                let missing_before = counts.missing().len();
+                let mut otherwise = [false; OTHERWISE.len()];
+                otherwise[place] = true;
+                counts.add(&call, Step { judged: Some(Judged::Several(shape, otherwise)), ..step(0) });
+                assert_eq!(counts.missing().len(), missing_before - 1);
+            }
+            counts.add(&call, Step { judged: Some(Judged::AtHome), moved_county: Some(true), ..step(0) });
+            let missing_before = counts.missing().len();
+            counts.add(&call, Step { moved_county: Some(false), ..step(0) });
+            assert_eq!(counts.missing().len(), missing_before - 1);
+        }
+        counts.add(&calls()[4], Step { newcomer: true, ..step(0) });
+        BY_FORM_4.into_iter().for_each(|kind| counts.add(&calls()[kind], Step { former: true, ..step(0) }));
+    }
+
+    /// Writes with every share, and writes and checks with each rule of a sheet broken.
+    fn every_kind_of_sheet(counts: &mut Counts) {
+        for (kind, answer) in [(2, 18), (2, 19), (2, 1), (4, 1)] {
+            counts.add(&calls()[kind], step(answer));
+        }
+        let mut lines = [Line::default(); 16];
+        lines[0] = Line { assured: 2, ceiling: 4, count: 0 };
+        let missing_before = counts.missing().len();
+        for (number, left, by, answer) in [
+            (1, 0, 1, 0),
+            (2, 1, 1, 0),
+            (3, 1, 1, 0),
+            (4, 1, 1, 18),
+            (4, 0, 1, 18),
+            (0, 1, 0, 18),
+            (0, 1, 17, 18),
+            (0, 1, 257, 18),
+            (0, 1, (1 << 32) + 1, 18),
+            (2, 0, 1, 19),
+        ] {
+            lines[0].count = number;
+            let lent = Sheet { lines, total: 2 + lines[0].beyond() + left };
+            assert!(Sheet::judge(&lent.bytes()).is_some());
+            let mut call = calls()[2].clone();
+            call.lend(&lent.bytes());
+            if let Call::Write { club, .. } = &mut call {
+                *club = by;
+            }
+            counts.add(&call, step(answer));
+        }
+        assert_eq!(counts.missing().len(), missing_before - SHARES.len());
+        let mut random = Random::new(15, 0);
+        for broken in (0..400).map(|_| sheets::broken(&mut random)) {
+            for mut call in SHEETED.map(|kind| calls()[kind].clone()) {
+                call.lend(&broken);
+                counts.add(&call, step(1));
+            }
+        }
+        assert_eq!(counts.missing().len(), missing_before - SHARES.len() - 2 * sheets::RULES.len());
+        counts.add(&calls()[2], Step { other_sheet: true, summed: Some(0), ..step(0) });
+        counts.add(&calls()[2], Step { summed: Some(1), ..step(0) });
+    }
+
     #[test]
     fn every_answer_table_and_size_must_come() {
         let mut counts = Counts::default();
         let answers: usize = POSSIBLE.iter().map(|answers| answers.len()).sum();
-        let called = (6 * 3 + 2) + (6 * 3 - 1 + 4);
-        let choices = (4 * 4 - 1) + 8;
+        let called = (6 * 3 + 2) + (6 * 3 - 1 + 8);
+        let choices = (4 * 4 - 1) + CHOICES.len();
         let (relayed, listed) = (KINDS + 1, 1);
         let windows = (7 + 6) + 4 * 3;
         let rules_of = |rules: Rules| {
@@ -783,18 +1152,23 @@ mod tests {
                 .map(move |rule| (rules, rule))
         };
         let broken: Vec<(Rules, usize)> = Rules::ALL.into_iter().flat_map(rules_of).collect();
-        let moves = 4 * 8 * 3 + 3 * 2 + 4;
+        let moves = 5 * 8 * 3 + 4 * 2 + 4;
         let last: Vec<usize> =
             (0..damage::RULES.len()).filter(|&rule| damage::RULES[rule].1.of_a_file()).collect();
         let files = last.len() + 7 * 8 + 3 * (8 + 4 + 7) + 6 * 2 + 5;
-        let of_tables = answers + 6 * 64 + 7 * Ground::ALL.len() + 4 + 12;
+        let counties = 7 * MAX_COUNTIES + NO_COUNTIES.len() + 4 * (2 * 4 + 2) + 1 + 8;
+        let of_tables = answers + 6 * 64 + 7 * Ground::ALL.len() + 4 + 16;
+        let of_forms = broken.len() + moves;
+        let sheets = SHARES.len() + 2 * sheets::RULES.len() + 2;
         assert_eq!(
             counts.missing().len(),
-            of_tables + called + choices + relayed + listed + windows + broken.len() + moves + files
+            of_tables + called + choices + relayed + listed + windows + of_forms + files + counties + sheets
         );
         broken.into_iter().for_each(|(rules, rule)| counts.damages[rules as usize][rule] += 1);
         last.into_iter().for_each(|rule| counts.damaged_last[rule] += 1);
         every_kind_of_group(&mut counts);
+        every_kind_of_county(&mut counts);
+        every_kind_of_sheet(&mut counts);
         for from in Rules::ALL {
             for (form, (_, over)) in
                 MOVE_FORMS.into_iter().flat_map(|form| BUFFERS.map(|buffer| (form, buffer)))
@@ -844,7 +1218,7 @@ mod tests {
         }
         for (quorum, mark) in [Quorum::Read, Quorum::Write]
             .into_iter()
-            .flat_map(|quorum| [Some(0), Some(1), Some(2), None].map(|mark| (quorum, mark)))
+            .flat_map(|quorum| [Some(0), Some(1), Some(2), Some(3), None].map(|mark| (quorum, mark)))
         {
             counts.add(&calls()[7], Step { chosen: Some(choice_told(quorum, mark)), ..step(0) });
         }
@@ -855,7 +1229,7 @@ mod tests {
                 }
             }
         }
-        assert_eq!(counts.stayed(), [3, 3]);
+        assert_eq!(counts.stayed(), [5, 5]);
         for (call, possible) in calls().iter().zip(POSSIBLE) {
             for &answer in possible {
                 counts.add(call, step(answer));
@@ -881,11 +1255,11 @@ mod tests {
         }
         assert_eq!((counts.missing(), counts.published()), (decided.as_flattened().to_vec(), 4));
         for kind in BY_GRID {
-            for mark in [0, 1, 2] {
+            for mark in [0, 1, 2, 3] {
                 counts.add(&calls()[kind], Step { decided: Some(mark), ..step(0) });
             }
         }
-        assert_eq!((counts.missing(), counts.decided()), (vec![], 12));
+        assert_eq!((counts.missing(), counts.decided()), (vec![], 16));
         assert_eq!(counts.impossible(), ["found 1", "chart 1"]);
     }
 
@@ -913,7 +1287,7 @@ mod tests {
     fn every_refusal_has_a_column() {
         let shown = Counts::default().to_string();
         let heads: Vec<&str> = shown.lines().next().expect("a line of heads").split_whitespace().collect();
-        assert_eq!(heads.join(" "), "done 1 2 3 4 5 6 7 8 9 10 11 12 13 14 15 16 17");
+        assert_eq!(heads.join(" "), "done 1 2 3 4 5 6 7 8 9 10 11 12 13 14 15 16 17 18 19 20");
         assert_eq!(shown.lines().count(), 1 + KINDS);
     }
 }

@@ -3,7 +3,7 @@
 use crate::call::Call;
 use crate::ledger::Ledger;
 use crate::trial::{Case, Failure};
-use reference::{rows, Table, MAX_FILE, MAX_FILES, MAX_ROWS};
+use reference::{rows, Sheet, Table, MAX_FILE, MAX_FILES, MAX_ROWS};
 
 /// Tries shorter cases as long as one of them fails.
 pub struct Shrinker<'a> {
@@ -99,13 +99,14 @@ fn on_fewer_machines(case: &Case, count: usize) -> Option<Case> {
     let mut fewer = case.clone();
     let joinings = case.calls.iter().filter(|call| matches!(call, Call::Join { .. })).count();
     let rows = (count + joinings).min(MAX_ROWS);
-    let Some(Call::Found { capacity, file_len, names, files, .. }) = fewer.calls.first_mut() else {
+    let Some(Call::Found { capacity, file_len, names, files, counties, .. }) = fewer.calls.first_mut() else {
         return None;
     };
     if 2 * count >= names.len() || *file_len > MAX_FILE as u64 || *files > MAX_FILES as u64 {
         return None;
     }
     names.truncate(2 * count);
+    counties.truncate(count);
     *capacity = rows as u64;
     fewer.table = vec![0; Table::length(rows, *file_len as usize, *files as usize)];
     fewer.ledger = Ledger::default();
@@ -136,7 +137,9 @@ fn with_fewer_files(case: &Case, count: usize) -> Option<Case> {
 /// Plainer calls, each one step away.
 fn plainer(call: &Call) -> Vec<Call> {
     match call {
-        Call::Found { choice: 0, .. } | Call::Join { .. } => Vec::new(),
+        Call::Join { name, county } => {
+            fewer_counties(&[*county]).map(|plain| Call::Join { name: *name, county: plain[0] }).collect()
+        }
         Call::Chart { length, mark, list } => {
             let plain = vec![0xff; list.len()];
             let with = |list| Call::Chart { length: *length, mark: *mark, list };
@@ -163,9 +166,21 @@ fn plainer(call: &Call) -> Vec<Call> {
                 vec![Call::Move { form: *form, to: plain, taken: *taken }]
             }
         }
-        Call::Found { capacity, file_len, names, files, .. } => {
-            let (capacity, file_len, names, files) = (*capacity, *file_len, names.clone(), *files);
-            vec![Call::Found { capacity, file_len, names, choice: 0, files }]
+        Call::Found { capacity, file_len, names, choice, files, counties } => {
+            let with = |choice, counties: &[u8]| Call::Found {
+                capacity: *capacity,
+                file_len: *file_len,
+                names: names.clone(),
+                choice,
+                files: *files,
+                counties: counties.to_vec(),
+            };
+            let mut calls: Vec<Call> =
+                fewer_counties(counties).map(|counties| with(*choice, &counties)).collect();
+            if *choice != 0 {
+                calls.push(with(0, counties));
+            }
+            calls
         }
         Call::Read { coordinator, answering, offset, length, buffer, called, file } => {
             let with = |answering, offset, length, buffer: &[u8]| Call::Read {
@@ -187,7 +202,7 @@ fn plainer(call: &Call) -> Vec<Call> {
             }
             calls
         }
-        Call::Write { coordinator, answering, offset, patch, called, file } => {
+        Call::Write { coordinator, answering, offset, patch, called, file, sheet, club } => {
             let with = |answering, offset, patch: &[u8]| Call::Write {
                 coordinator: *coordinator,
                 answering,
@@ -195,6 +210,8 @@ fn plainer(call: &Call) -> Vec<Call> {
                 patch: patch.to_vec(),
                 called: called.clone(),
                 file: *file,
+                sheet: sheet.clone(),
+                club: *club,
             };
             let mut calls: Vec<Call> = fewer(*answering).map(|set| with(set, *offset, patch)).collect();
             if patch.len() > 1 {
@@ -203,16 +220,37 @@ fn plainer(call: &Call) -> Vec<Call> {
             if *offset > 0 {
                 calls.push(with(*answering, 0, patch));
             }
+            calls.extend(with_open_sheet(call));
             calls
         }
         Call::Send { from, to, answering, file } => {
             let with = |answering| Call::Send { from: *from, to: *to, answering, file: *file };
             fewer(*answering).map(with).collect()
         }
-        Call::Check { coordinator, answering } => {
-            fewer(*answering).map(|answering| Call::Check { coordinator: *coordinator, answering }).collect()
+        Call::Check { coordinator, answering, sheet } => {
+            let with = |answering| Call::Check { coordinator: *coordinator, answering, sheet: sheet.clone() };
+            fewer(*answering).map(with).chain(with_open_sheet(call)).collect()
         }
     }
+}
+
+/// The call with the sheet that turns nobody down, if it has another.
+fn with_open_sheet(call: &Call) -> Option<Call> {
+    let (mut opened, open) = (call.clone(), Sheet::OPEN.bytes());
+    opened.lend(&open);
+    (opened != *call).then_some(opened)
+}
+
+/// All in county 1, or else each in turn, if they are not.
+fn fewer_counties<T: Copy + PartialEq + From<u8>>(counties: &[T]) -> impl Iterator<Item = Vec<T>> + '_ {
+    let one = T::from(1);
+    let others = (0..counties.len()).filter(move |&place| counties[place] != one);
+    let all = counties.iter().any(|&county| county != one).then(|| vec![one; counties.len()]);
+    all.into_iter().chain(others.map(move |place| {
+        let mut fewer = counties.to_vec();
+        fewer[place] = one;
+        fewer
+    }))
 }
 
 /// The set without each of its members in turn.

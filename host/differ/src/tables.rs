@@ -1,10 +1,12 @@
-//! Random well-formed tables that no founding leads to, and tables that differ only in rows that did not answer, or only within
-//! other files.
+//! Random well-formed tables that no founding leads to, and tables that differ only in rows that did not answer, only within other
+//! files, or only in the county of a row that did not answer.
 
 use crate::random::Random;
 use reference::rows;
 use reference::window::{self, LONGEST_PATCH, RECORD, RECORDS, WINDOW};
-use reference::{Laid, Part, Row, Rules, Shape, Table, LIMIT, MAX_FILE, TALL};
+use reference::{
+    Counties, Laid, Part, Row, Rules, Shape, Table, COUNTY, LIMIT, MAX_COUNTIES, MAX_FILE, SEVERAL, TALL,
+};
 use std::ops::Deref;
 
 /// A well-formed table with its used rows, kept apart from its bytes.
@@ -78,6 +80,16 @@ impl Picture {
         self.rows.iter().find(|row| !row.list.is_empty()).map(|row| row.list.shape())
     }
 
+    /// The rows of each county that has any.
+    pub fn parts(&self) -> Vec<u64> {
+        self.counties.parts(self.all_used()).collect()
+    }
+
+    /// Are the members of the set in more than one county?
+    pub fn several(&self, set: u64) -> bool {
+        self.counties.several(set)
+    }
+
     /// The row at a place of the chain; places count from 0.
     pub fn at(&self, place: usize) -> usize {
         self.chain[place].into()
@@ -147,19 +159,57 @@ pub fn names(random: &mut Random, count: usize) -> Vec<u16> {
         let start = random.pick(&[1, 100, 65_536 - count]);
         return (start..start + count).map(|name| name as u16).collect();
     }
-    let mut names = Vec::new();
-    while names.len() < count {
+    let mut names = names_beside(random, &[], count);
+    names.sort_unstable();
+    names
+}
+
+/// So many names that are none of these, which are given in bytes.
+pub fn names_beside(random: &mut Random, taken: &[u8], count: usize) -> Vec<u16> {
+    let mut names: Vec<u16> = taken.chunks(2).map(|name| u16::from_le_bytes([name[0], name[1]])).collect();
+    let before = names.len();
+    while names.len() < before + count {
         let name = random.between(1, 65_535) as u16;
         if !names.contains(&name) {
             names.push(name);
         }
     }
-    names.sort_unstable();
-    names
+    names.split_off(before)
 }
 
 pub fn names_in_bytes(names: &[u16]) -> Vec<u8> {
     names.iter().flat_map(|name| name.to_le_bytes()).collect()
+}
+
+/// A county for each of so many machines, in their order. Often there are one, two or five of them, and five of one; they rise with
+/// the machines, fall or neither.
+pub fn counties(random: &mut Random, count: usize) -> Vec<u8> {
+    let any = random.between(1, MAX_COUNTIES);
+    let mut numbers: Vec<u8> = (1..=MAX_COUNTIES as u8).collect();
+    random.shuffle(&mut numbers);
+    numbers.truncate(random.pick(&[1, 1, 1, 2, 2, 5, 5, any]));
+    // Each county has one machine if there are enough of them; then one after the other is filled up.
+    let mut counties: Vec<u8> = numbers.iter().copied().take(count).collect();
+    for &county in &numbers {
+        for _ in 1..random.pick(&[1, 2, 3, 4, 5, 5, 5, 6]) {
+            counties.push(county);
+        }
+    }
+    while counties.len() < count {
+        counties.push(random.pick(&numbers));
+    }
+    counties.truncate(count);
+    match random.between(0, 3) {
+        0 => counties.sort_unstable(),
+        1 => counties.sort_unstable_by(|one, next| next.cmp(one)),
+        _ => random.shuffle(&mut counties),
+    }
+    counties
+}
+
+/// Any county for all of so many machines.
+pub fn one_county(random: &mut Random, count: usize) -> Vec<u8> {
+    vec![random.between(1, MAX_COUNTIES) as u8; count]
 }
 
 /// A well-formed table of this form.
@@ -173,7 +223,14 @@ pub fn well_formed(random: &mut Random, size: Size) -> Vec<u8> {
     well_formed_by(random, size, Rules::Newest)
 }
 
-/// The same of any form, with a list in the published grid in each row.
+/// The same of one county.
+#[cfg(test)]
+pub fn well_formed_in_one_county(random: &mut Random, size: Size) -> Vec<u8> {
+    let lists = Lists { one_county: true, ..any_lists(random) };
+    made(random, size, Rules::Newest, lists)
+}
+
+/// The same of any form, of one county and with a list in the published grid in each row.
 pub fn published(random: &mut Random, size: Size, rules: Rules) -> Vec<u8> {
     made(random, size, rules, PUBLISHED)
 }
@@ -186,15 +243,17 @@ struct Lists {
     unlisted: u64,
     /// May a list of five lie in the new grid?
     marked: bool,
+    /// Are all rows in one county?
+    one_county: bool,
 }
 
 /// As the scope alone lays them.
-const PUBLISHED: Lists = Lists { shape: Shape::Wide, unlisted: 0, marked: false };
+const PUBLISHED: Lists = Lists { shape: Shape::Wide, unlisted: 0, marked: false, one_county: true };
 
 /// In half of the tables some rows, or all, have an empty list. A third of the tables are tall.
 fn any_lists(random: &mut Random) -> Lists {
     let unlisted = random.pick(&[0, 0, 0, 0, 1, 3, 6, 10]);
-    Lists { shape: shape(random), unlisted, marked: true }
+    Lists { shape: shape(random), unlisted, marked: true, one_county: false }
 }
 
 fn made(random: &mut Random, size: Size, rules: Rules, lists: Lists) -> Vec<u8> {
@@ -205,7 +264,12 @@ fn made(random: &mut Random, size: Size, rules: Rules, lists: Lists) -> Vec<u8> 
     let table = Table::new(rules, capacity, used, file_len, files, chain.iter().copied().collect());
     let mut bytes = vec![0; rules.table_length(capacity, file_len, files)];
     table.write_header(&mut bytes, chain[0]);
-    for (row, state) in (1..).zip(used_rows(random, &chain, lists)) {
+    let counties = match rules.has_counties() {
+        true if lists.one_county => one_county(random, used),
+        true => counties(random, used),
+        false => vec![0; used],
+    };
+    for (row, state) in (1..).zip(used_rows(random, &chain, lists, &counties)) {
         table.write_row(&mut bytes, row, &state);
     }
     // All files may have stale parts, or one of them, or none.
@@ -270,13 +334,16 @@ pub fn alone(bytes: &[u8], file: usize, rules: Rules) -> Vec<u8> {
 }
 
 /// One file of a well-formed table as a table of another form, whose rules allow its lists: the heads with the parts of that file.
-/// Windows stay where both forms have them; elsewhere they are left out, or empty.
+/// Windows stay where both forms have them; elsewhere they are left out, or empty. Counties stay, too; elsewhere they are left out,
+/// or all rows are in county 1.
 pub fn alone_of(own: &Table, bytes: &[u8], file: usize, rules: Rules) -> Vec<u8> {
     let table = Table::new(rules, own.capacity, own.used, own.file_len, 1, own.chain);
     let mut alone = vec![0; rules.table_length(own.capacity, own.file_len, 1)];
     table.write_header(&mut alone, own.chain[0].into());
     for row in 1..=own.used {
-        table.write_row(&mut alone, row, &own.row(bytes, row));
+        let head = own.row(bytes, row);
+        let county = if rules.has_counties() { head.county.max(1) } else { 0 };
+        table.write_row(&mut alone, row, &Row { county, ..head });
         let mut part = own.part(bytes, row, file);
         if own.rules.has_windows() && rules.has_windows() {
             *table.window_mut(&mut alone, row, 1) = *own.window(bytes, row, file);
@@ -289,15 +356,25 @@ pub fn alone_of(own: &Table, bytes: &[u8], file: usize, rules: Rules) -> Vec<u8>
     alone
 }
 
-fn used_rows(random: &mut Random, chain: &[usize], lists: Lists) -> Vec<Row> {
+/// A table of one county as it is in form 4.
+pub fn former(table: &Table, bytes: &[u8]) -> Vec<u8> {
+    let mut former = bytes.to_vec();
+    former[0] = Rules::OneCounty.form();
+    (1..=usize::from(bytes[2])).for_each(|row| former[table.row_at(row) + COUNTY] = 0);
+    former
+}
+
+/// County 0 stands for none.
+fn used_rows(random: &mut Random, chain: &[usize], lists: Lists, counties: &[u8]) -> Vec<Row> {
     let count = chain.len();
     let names = names(random, count);
-    let epochs = epochs(random, count, lists);
+    let grouped = Counties::of(counties.iter().map(|&county| county.max(1)));
+    let epochs = epochs(random, count, lists, &grouped);
     let row = |row: usize| {
         let place = chain.iter().position(|&member| member == row).expect("every row is in the chain");
         let (epoch, list) = epochs[row - 1];
         let next = chain.get(place + 1).copied().unwrap_or(0);
-        Row { epoch, ..Row::new(names[place], next, list) }
+        Row { epoch, ..Row::new(names[place], next, list, counties[row - 1]) }
     };
     (1..=count).map(row).collect()
 }
@@ -335,17 +412,24 @@ fn put_behind(random: &mut Random, parts: &mut [Part]) {
 /// An epoch number that only rows with an empty list have in a generated table.
 const LONE_EPOCH: u32 = 900_000;
 
-/// For each row its epoch number and the list of that epoch; rows with an empty list have any epoch number.
-fn epochs(random: &mut Random, count: usize, lists: Lists) -> Vec<(u32, Laid)> {
-    let kinds = random.pick(&[1, 1, 2, 4]);
+/// For each row its epoch number and the list of that epoch; rows with an empty list have any epoch number. At times the rows of each
+/// county have an epoch of their own.
+fn epochs(random: &mut Random, count: usize, lists: Lists, counties: &Counties) -> Vec<(u32, Laid)> {
+    let parts: Vec<u64> = counties.parts(rows::first(count)).collect();
+    let apart = parts.len() > 1 && random.chance(1, 3);
+    let kinds = if apart { parts.len() } else { random.pick(&[1, 1, 2, 4]) };
     let lowest = random.pick(&[0, 0, 0, LIMIT - kinds as u32, LIMIT + 1 - kinds as u32]);
     let outside = random.pick(&[0, 5, 9, 10]);
-    let epoch_of: Vec<u32> = (0..count).map(|_| lowest + random.between(0, kinds - 1) as u32).collect();
+    let mut kind_of = |row| match parts.iter().position(|&part| rows::has(part, row)) {
+        Some(place) if apart => place,
+        _ => random.between(0, kinds - 1),
+    };
+    let epoch_of: Vec<u32> = (1..=count).map(|row| lowest + kind_of(row) as u32).collect();
     let list_of: Vec<Laid> = (0..kinds as u32)
         .map(|kind| {
             let own = (1..).zip(&epoch_of).filter(|(_, &epoch)| epoch == lowest + kind);
             let own = own.fold(0, |list, (row, _)| list | rows::only(row));
-            let laid = list(random, rows::first(count), own, outside, lists.shape);
+            let laid = list(random, rows::first(count), own, outside, lists.shape, counties);
             Laid { mark: if lists.marked { laid.mark } else { 0 }, ..laid }
         })
         .collect();
@@ -364,8 +448,11 @@ fn shape(random: &mut Random) -> Shape {
 }
 
 /// A list that has at least its own rows, and each other one with a chance of so many tenths; often of a length that can
-/// lie in two grids, if that can be. Five in a wide table lie in either grid.
-fn list(random: &mut Random, among: u64, own: u64, tenths: u64, shape: Shape) -> Laid {
+/// lie in two grids, if that can be. Half of the lists stay within the counties of their own rows. Five of one county lie in either grid
+/// in a wide table.
+fn list(random: &mut Random, among: u64, own: u64, tenths: u64, shape: Shape, counties: &Counties) -> Laid {
+    let home = counties.parts(among).filter(|part| part & own != 0).fold(0, |home, part| home | part);
+    let among = if random.chance(1, 2) { home } else { among };
     let length = match shape {
         Shape::Wide => 5,
         Shape::Tall => random.pick(&[2, 5, 6, 11]),
@@ -376,8 +463,9 @@ fn list(random: &mut Random, among: u64, own: u64, tenths: u64, shape: Shape) ->
         own | random.subset(among, tenths, 10)
     };
     let mark = match shape {
-        Shape::Wide => u8::from(members.count_ones() == 5 && random.chance(1, 2)),
         Shape::Tall => TALL,
+        Shape::Wide if counties.several(members) => SEVERAL,
+        Shape::Wide => u8::from(members.count_ones() == 5 && random.chance(1, 2)),
     };
     Laid { members, mark }
 }
@@ -391,7 +479,7 @@ pub fn filled(random: &mut Random, among: u64, own: u64, length: u32) -> u64 {
     members
 }
 
-/// The same table with other bytes in the rows that did not answer; header, names and links stay. Its shape too, unless
+/// The same table with other bytes in the rows that did not answer; header, names, links and counties stay. Its shape too, unless
 /// no row that answered has a list.
 pub fn twin(random: &mut Random, bytes: &[u8], table: &Table, answering: u64) -> Vec<u8> {
     let mut twin = bytes.to_vec();
@@ -408,12 +496,30 @@ pub fn twin(random: &mut Random, bytes: &[u8], table: &Table, answering: u64) ->
             (state.epoch, state.list) = (random.pick(&[0, any, LONE_EPOCH, LIMIT]), Laid::EMPTY);
         } else {
             state.epoch = free.next().expect("more epochs than rows");
-            state.list = list(random, table.all_used(), rows::only(row), 5, shape);
+            state.list = list(random, table.all_used(), rows::only(row), 5, shape, &table.counties);
         }
         table.write_row(&mut twin, row, &state);
         (1..=table.files).for_each(|file| put_any_part(random, table, &mut twin, row, file));
     }
     twin
+}
+
+/// The same table with a row that did not answer in another county, if it is well formed so.
+pub fn twin_of_another_county(
+    random: &mut Random,
+    bytes: &[u8],
+    table: &Table,
+    answering: u64,
+) -> Option<Vec<u8>> {
+    let others = Some(table.all_used() & !answering).filter(|&others| others != 0)?;
+    let at = table.row_at(random.row(others)) + COUNTY;
+    let mut numbers: Vec<u8> = (1..=MAX_COUNTIES as u8).filter(|&county| county != bytes[at]).collect();
+    random.shuffle(&mut numbers);
+    numbers.into_iter().find_map(|county| {
+        let mut twin = bytes.to_vec();
+        twin[at] = county;
+        Table::decode(&twin).map(|_| twin)
+    })
 }
 
 /// The same table with other bytes in every part of every other file; header and heads stay.
@@ -482,14 +588,15 @@ mod tests {
         assert!(long > 10 && stale.into_iter().all(|count| count > 50), "{long} {stale:?}");
     }
 
-    /// None, one or both in a wide table, and so among the rows of a twin that did not answer; and tall ones by themselves.
+    /// None, one or both of one county in a wide table, with and without those of several counties, and so among the rows of a twin that
+    /// did not answer; and tall ones by themselves.
     #[test]
     fn fives_of_every_mark_are_made() {
         let marks = |table: &Picture, set| {
             let fives = rows::members(set).map(|row| table.row(row).list);
             fives.filter(|list| list.members.count_ones() == 5).fold(0, |marks, list| marks | 1 << list.mark)
         };
-        let (mut made, mut twins) = ([0; 8], [0; 8]);
+        let (mut made, mut twins) = ([0; 16], [0; 16]);
         for case in 0..4_000 {
             let mut random = Random::new(1, case);
             let size = Size::pick(&mut random);
@@ -502,9 +609,61 @@ mod tests {
             twins[marks(&twin, twin.all_used() & !answering)] += 1;
         }
         for counts in [made, twins] {
-            assert!(counts[..5].iter().all(|&count| count > 100), "{made:?} {twins:?}");
-            assert_eq!(counts[5..], [0; 3]);
+            let wide = [0, 1, 2, 8].into_iter().all(|marks| counts[marks] > 100);
+            assert!(wide && counts[4] > 100 && [3, 9, 10, 11].into_iter().all(|marks| counts[marks] > 0));
+            assert!(counts[5..8].iter().chain(&counts[12..]).all(|&count| count == 0), "{made:?} {twins:?}");
         }
+    }
+
+    /// Tables of every number of counties; lists of one in tables of several; five on either level; counties that rise with the chain,
+    /// fall or neither.
+    #[test]
+    fn counties_of_every_kind_are_made() {
+        let (mut counties, mut below, mut above, mut home, mut orders) = ([0; 9], 0, 0, 0, [0; 3]);
+        for case in 0..4_000 {
+            let mut random = Random::new(1, case);
+            let size = Size::pick(&mut random);
+            let table = Picture::of(&well_formed(&mut random, size)).expect("well formed");
+            let parts = table.parts();
+            counties[parts.len()] += 1;
+            let lists = table.rows.iter().map(|row| row.list.members).filter(|&list| list != 0);
+            let lists: Vec<Vec<u64>> = lists.map(|list| table.counties.parts(list).collect()).collect();
+            let five = |parts: &Vec<u64>| parts.len() > 1 && parts.iter().any(|part| part.count_ones() == 5);
+            below += usize::from(lists.iter().any(five));
+            above += usize::from(lists.iter().any(|parts| parts.len() == 5));
+            home += usize::from(parts.len() > 1 && lists.iter().any(|parts| parts.len() == 1));
+            if parts.len() > 2 {
+                let in_order: Vec<u8> = table.chain.iter().map(|&row| table.row(row.into()).county).collect();
+                let falls = in_order.iter().rev().is_sorted();
+                orders[if in_order.is_sorted() { 0 } else { 1 + usize::from(falls) }] += 1;
+            }
+        }
+        assert!(counties[0] == 0 && counties[1..].iter().all(|&count| count > 10), "{counties:?}");
+        assert!([below, above, home].into_iter().all(|count| count > 100), "{below} {above} {home}");
+        assert!(orders[0] > 10 && orders[1] > 100 && orders[2] > 10, "{orders:?}");
+    }
+
+    #[test]
+    fn twins_keep_their_counties_or_differ_in_one() {
+        let mut others = 0;
+        for case in 0..2_000 {
+            let mut random = Random::new(7, case);
+            let size = Size::pick(&mut random);
+            let bytes = well_formed(&mut random, size);
+            let table = Picture::of(&bytes).expect("well formed");
+            let answering = random.next() & table.all_used();
+            let twin = Picture::of(&twin(&mut random, &bytes, &table, answering)).expect("well formed");
+            assert_eq!(twin.counties, table.counties);
+            let Some(other) = twin_of_another_county(&mut random, &bytes, &table, answering) else {
+                continue;
+            };
+            let differ: Vec<usize> = (0..bytes.len()).filter(|&at| other[at] != bytes[at]).collect();
+            let mut places = (1..=table.used).map(|row| (row, table.row_at(row) + COUNTY));
+            assert!(matches!(differ[..], [at] if places
+                .any(|(row, place)| place == at && !rows::has(answering, row))));
+            others += 1;
+        }
+        assert!(others > 200, "{others}");
     }
 
     /// Windows of every length, in records in any order; patches of every length that has a rule.
@@ -561,20 +720,25 @@ mod tests {
         for case in 0..500 {
             let mut random = Random::new(1, case);
             let size = Size::pick(&mut random);
-            let mut bytes = well_formed(&mut random, size);
+            let mut bytes = well_formed_in_one_county(&mut random, size);
             let file = random.between(1, size.files);
             let one_file = alone(&bytes, file, Rules::OneFile);
             let (table, group) = (Picture::of_any_form(&one_file), Picture::of(&bytes));
             let (table, group) = (table.expect("well formed"), group.expect("well formed"));
-            assert_eq!((table.rules, &table.rows), (Rules::OneFile, &group.rows));
+            assert_eq!((table.rules, table.used), (Rules::OneFile, group.used));
             for row in 1..=table.used {
+                assert_eq!(*table.row(row), Row { county: 0, ..*group.row(row) });
                 assert_eq!(table.part(row, 1), group.part(row, file));
                 assert_eq!(table.contents(&one_file, row, 1), group.contents(&bytes, row, file));
                 assert_eq!(table.window(&one_file, row, 1), group.window(&bytes, row, file));
             }
             assert_eq!(alone(&one_file, 1, Rules::OneFile), one_file);
             let back = alone(&one_file, 1, Rules::Newest);
-            assert_eq!(back == bytes, size.files == 1);
+            let returned = Picture::of(&back).expect("well formed");
+            assert!(returned.rows.iter().all(|row| row.county == 1));
+            assert_eq!(former(&returned, &back) == former(&group, &bytes), size.files == 1);
+            let former = Picture::of_any_form(&former(&group, &bytes)).expect("well formed");
+            assert_eq!((former.rules, former.rows), (Rules::OneCounty, table.rows.clone()));
             let older = alone(&one_file, 1, Rules::Windowless);
             assert!(Picture::of_any_form(&older).is_some() && older.len() < one_file.len());
             (1..=size.used).for_each(|row| drop(put_window(&mut random, &group, &mut bytes, row, file, 0)));
@@ -623,7 +787,8 @@ mod tests {
             }
         }
         for ground in Ground::ALL.into_iter().filter(|&ground| ground != Ground::Malformed) {
-            assert!(grounds.iter().filter(|&&made| made == ground).count() > 100, "{ground:?}");
+            let count = grounds.iter().filter(|&&made| made == ground).count();
+            assert!(count > 50, "{ground:?} {count}");
         }
         assert!(lone > 100 && shared > 100 && stale > 100, "{lone} {shared} {stale}");
     }

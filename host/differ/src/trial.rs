@@ -6,10 +6,13 @@ use crate::guard::Edge;
 use crate::ledger::Ledger;
 use crate::random::Random;
 use crate::relay::{Relay, Slip};
-use crate::report::{choice_told, Added, Checked, Ground, Moved, Sent, Step};
+use crate::report::{choice_told, Added, Checked, Ground, Judged, Moved, Sent, Step, OTHERWISE};
+use crate::sheets;
 use crate::tables::{self, Picture};
 use crate::wrapper;
-use reference::{rows, Engine, Grid, Laid, Layout, Part, Quorum, Rules, Shape, Table, FORM, HEADER, TALL};
+use reference::sheet;
+use reference::{lay_in_chain_order, rows, Counties, Engine, Grid, Laid, Layout, Part, Quorum, Rules};
+use reference::{Shape, Sheet, Table, COUNTY, FORM, HEADER, SEVERAL, TALL};
 
 /// Tables that have more bytes of contents have no twin, and are not looked at through the wrapper: both take their time.
 const LONGEST: usize = 4_000;
@@ -45,6 +48,8 @@ pub struct Trial<'a> {
     /// Makes every call of a founded history a second time.
     relay: Option<Relay>,
     slip: Option<Slip>,
+    /// The sheet as the last write or check left it.
+    sheet: Vec<u8>,
     /// How many tables there were to look at through the wrapper.
     tables: usize,
 }
@@ -66,7 +71,7 @@ impl<'a> Trial<'a> {
 
     /// Goes on where a history stopped.
     pub fn resume(archive: &'a mut Archive, reference: Engine, table: Vec<u8>, ledger: Ledger) -> Trial<'a> {
-        Trial { archive, reference, table, ledger, relay: None, slip: None, tables: 0 }
+        Trial { archive, reference, table, ledger, relay: None, slip: None, sheet: Vec::new(), tables: 0 }
     }
 
     /// Lets the relay make a mistake.
@@ -76,6 +81,11 @@ impl<'a> Trial<'a> {
 
     pub fn table(&self) -> &[u8] {
         &self.table
+    }
+
+    /// The sheet as the last write or check left it.
+    pub fn sheet(&self) -> &[u8] {
+        &self.sheet
     }
 
     /// What a history leaves behind.
@@ -103,7 +113,13 @@ impl<'a> Trial<'a> {
         let published = self.ask_published(call, &answer, &before, judged.as_ref(), sent)?;
         frame(call, &answer, judged.as_ref(), &before, &self.table)?;
         called_frame(call, &answer, judged.as_ref())?;
+        sheet_frame(call, &answer, before != self.table)?;
+        wrapper::look_at_sheet(call.sheet())?;
+        if call.sheet().is_some() {
+            self.sheet.clone_from(&answer.sheet);
+        }
         let chosen = choice_frame(call, &answer, judged.as_ref())?;
+        let former = self.ask_former(call, &answer, &before, judged.as_ref())?;
         let checked = judged.as_ref().and_then(|table| checked(call, &answer, table, &self.table));
         let mut step = Step {
             published,
@@ -114,17 +130,25 @@ impl<'a> Trial<'a> {
             added,
             moved,
             checked,
+            former,
             ..Step::of(answer.result, ground)
         };
         if let Some(table) = &judged {
             step.files = Some(table.files);
-            step.decided = deciding_mark(call, &answer, table);
+            step.counties = Some(table.parts().len());
+            let deciding = Deciding::of(call, &answer, table);
+            step.decided = deciding.as_ref().and_then(|deciding| deciding.mark(table));
+            step.judged = deciding.as_ref().and_then(|deciding| deciding.counties(table));
+            step.newcomer = takes_in_a_county(call, &answer, table);
             step.stayed = step.called.and_then(|called| stayed(call, called, table));
             step.alone = self.ask_alone(call, &answer, &before, table)?;
             step.twin_of = self.ask_twin(call, &answer, &before, table)?;
             step.other_files = self.ask_twin_within_others(call, &answer, &before, table)?;
+            step.moved_county = self.ask_twin_of_another_county(call, &answer, &before, table)?;
+            step.other_sheet = self.ask_with_another_sheet(call, &answer, &before)?;
         }
         self.ledger.hear(call, &answer)?;
+        step.summed = self.ledger.summed().filter(|_| call.sheet().is_some());
         step.relayed = self.relay.is_some();
         if let Some(relay) = &mut self.relay {
             relay.call(self.archive, call, &answer, &self.table)?;
@@ -181,7 +205,7 @@ impl<'a> Trial<'a> {
             Rules::OneFile => {
                 tables::alone(&tables::alone_of(table, before, 1, Rules::Windowless), 1, Rules::OneFile)
             }
-            Rules::Newest => return Err("a move from form 4 was done".into()),
+            Rules::OneCounty | Rules::Newest => return Err("a move from form 4 or 5 was done".into()),
             _ => before.to_vec(),
         };
         let expected = tables::alone_of(table, before, 1, rules);
@@ -205,9 +229,9 @@ impl<'a> Trial<'a> {
         compare(answer, &self.table, &expected, &expected_table)
     }
 
-    /// A table of one file whose rows all have a list in the published grid gives, without its windows, what the scope's rules alone
-    /// make of it, unless a check lays a list of five. Where no founding leads, a send by window leaves other contents. Says whether
-    /// they were asked.
+    /// A table of one file whose rows all have a list in the published grid gives, without its windows and counties, what the scope's
+    /// rules alone make of it, unless a check lays a list of five or of several counties. Where no founding leads, a send by window
+    /// leaves other contents. Says whether they were asked.
     fn ask_published(
         &self,
         call: &Call,
@@ -220,8 +244,8 @@ impl<'a> Trial<'a> {
         let of_the_scope = call.answering().is_some()
             && Ground::of(Some(table)) == Ground::Published
             && call.file().is_none_or(|file| file == 1);
-        let by_five = matches!(call, Call::Check { answering, .. } if answering.count_ones() == 5);
-        if !of_the_scope || by_five && self.table != before {
+        let anew = matches!(*call, Call::Check { answering, .. } if answering.count_ones() == 5 || table.several(answering));
+        if !of_the_scope || anew && self.table != before {
             return Ok(false);
         }
         let engine = Engine { rules: Rules::Published, ..self.reference };
@@ -244,9 +268,9 @@ impl<'a> Trial<'a> {
         left.map_or_else(|| expected.to_vec(), |table| tables::alone_of(table, &self.table, file, rules))
     }
 
-    /// The heads of a group and the parts of one file are a table of form 3: by its rules it gives a read, write or send of that file
-    /// the same answer and rows; so does each file for a joining and a choice, and for a check unless another file has it refused by 7.
-    /// Says how many files the group has, if they were asked.
+    /// The heads of a group of one county and the parts of one file are a table of form 3: by its rules it gives a read, write or send of
+    /// that file the same answer and rows; so does each file for a joining and a choice, and for a check unless another file has it
+    /// refused by 7. Of a group of several counties they are a group of one file. Says how many files the group has, if they were asked.
     fn ask_alone(
         &self,
         call: &Call,
@@ -254,7 +278,7 @@ impl<'a> Trial<'a> {
         before: &[u8],
         table: &Picture,
     ) -> Result<Option<usize>, String> {
-        if is_long(before) && table.files > 1 {
+        if is_long(before) && table.files > 1 || answer.result >> 32 == 20 {
             return Ok(None);
         }
         let files: Vec<usize> = match call {
@@ -266,7 +290,8 @@ impl<'a> Trial<'a> {
                 None => return Ok(None),
             },
         };
-        let engine = Engine { rules: Rules::OneFile, ..self.reference };
+        let rules = if table.several(table.all_used()) { Rules::Newest } else { Rules::OneFile };
+        let engine = Engine { rules, ..self.reference };
         let mut of_one_file = call.clone();
         of_one_file.rename_file(1);
         let left = Table::decode(&self.table);
@@ -289,7 +314,40 @@ impl<'a> Trial<'a> {
         Ok(Some(table.files))
     }
 
-    /// Rows that did not answer have no part in a call beyond names and links: another table that differs in them gives
+    /// A table of one county gives what it gave before there were counties, and so does its founding. Says whether the rules of form 4
+    /// were asked.
+    fn ask_former(
+        &self,
+        call: &Call,
+        answer: &Answer,
+        before: &[u8],
+        table: Option<&Picture>,
+    ) -> Result<bool, String> {
+        if is_long(before) || answer.result >> 32 == 20 {
+            return Ok(false);
+        }
+        let (mut expected_table, after) = match (call, table) {
+            (Call::Found { counties, .. }, _) if answer.result >> 32 == 0 => {
+                let founded = Table::decode(&self.table).ok_or("a founding leaves a malformed table")?;
+                if counties.iter().any(|&county| county != counties[0]) {
+                    return Ok(false);
+                }
+                (before.to_vec(), tables::former(&founded, &self.table))
+            }
+            (Call::Found { .. }, _) => (before.to_vec(), self.table.clone()),
+            (Call::Chart { .. }, _) | (_, None) => return Ok(false),
+            (_, Some(table)) if table.rules != Rules::Newest || table.several(table.all_used()) => {
+                return Ok(false)
+            }
+            (_, Some(table)) => (tables::former(table, before), tables::former(table, &self.table)),
+        };
+        let engine = Engine { rules: Rules::OneCounty, ..self.reference };
+        let expected = call.refer(engine, &mut expected_table);
+        let compared = compare(answer, &after, &expected, &expected_table);
+        compared.map(|()| true).map_err(|what| format!("by the rules of form 4: {what}"))
+    }
+
+    /// Rows that did not answer have no part in a call beyond names, links and counties: another table that differs in them gives
     /// the same. Nobody answers a joining, and a choice looks at the row of its coordinator alone. Gives the used rows, if there
     /// is such a table; a chart has none.
     fn ask_twin(
@@ -324,6 +382,60 @@ impl<'a> Trial<'a> {
             Some(at) => Err(format!("rows that did not answer alter byte {at}")),
             None => Ok(Some(table.used)),
         }
+    }
+
+    /// Counties count with names and links: with a row that did not answer in another one, archive and reference may give another answer,
+    /// and give the same. Says whether that is the answer of before, if there is such a table.
+    fn ask_twin_of_another_county(
+        &mut self,
+        call: &Call,
+        answer: &Answer,
+        before: &[u8],
+        table: &Picture,
+    ) -> Result<Option<bool>, String> {
+        let Some(answering) = call.seen() else { return Ok(None) };
+        if is_long(before) {
+            return Ok(None);
+        }
+        let mut random = Random::new(answering, answer.result ^ before.len() as u64);
+        let twin = tables::twin_of_another_county(&mut random, before, table, answering);
+        let Some(mut twin) = twin else { return Ok(None) };
+        let mut expected_table = twin.clone();
+        let given = self.archive.call(&mut twin, call)?;
+        let expected = call.refer(self.reference, &mut expected_table);
+        compare(&given, &twin, &expected, &expected_table)
+            .map_err(|what| format!("with a row that did not answer in another county: {what}"))?;
+        let same_row = |row| {
+            let place = table.row_at(row)..table.row_at(row + 1);
+            twin[place.clone()] == self.table[place]
+        };
+        Ok(Some(given == *answer && rows::members(answering & table.all_used()).all(same_row)))
+    }
+
+    /// Of a sheet that is right a write looks at the line of its club, and at what is left to share only if that is at its assured
+    /// number: another sheet that has these gives the same, and keeps its other lines. Says whether there was such a sheet.
+    fn ask_with_another_sheet(
+        &mut self,
+        call: &Call,
+        answer: &Answer,
+        before: &[u8],
+    ) -> Result<bool, String> {
+        let Call::Write { sheet, club, .. } = call else { return Ok(false) };
+        let mut random = Random::new(*club, answer.result ^ before.len() as u64);
+        let other = Sheet::judge(sheet).and_then(|sheet| sheets::alike(&mut random, &sheet, *club));
+        let Some(other) = other.filter(|_| !is_long(before)) else { return Ok(false) };
+        let mut lent = call.clone();
+        lent.lend(&other.bytes());
+        let mut left = before.to_vec();
+        let given = self.archive.call(&mut left, &lent)?;
+        let mut expected = other.bytes();
+        if answer.result >> 32 == 0 {
+            sheet::add(&mut expected, *club);
+        }
+        if given != (Answer { sheet: expected.to_vec(), ..answer.clone() }) || left != self.table {
+            return Err("other lines of the sheet alter the answer".into());
+        }
+        Ok(true)
     }
 
     /// Other files have no part in a read, write or send: another group that differs only within them gives the same, and keeps
@@ -382,36 +494,93 @@ fn checked(call: &Call, answer: &Answer, table: &Picture, after: &[u8]) -> Optio
     }
 }
 
-/// The mark of the list in force among the rows that answered, if its other grid would have answered question 6 otherwise; and
-/// that of the coordinator's own list, if its other grid would have given another choice.
-fn deciding_mark(call: &Call, answer: &Answer, table: &Picture) -> Option<u8> {
-    let (answering, quorum) = match *call {
-        Call::Read { answering, .. } => (answering, Quorum::Read),
-        Call::Write { answering, .. } | Call::Check { answering, .. } => (answering, Quorum::Write),
-        Call::Choice { coordinator, kind, .. } if answer.result >> 32 == 0 => {
-            let own = table.row(coordinator as usize);
-            let quorum = Quorum::of_kind(kind)?;
-            let choice = |list| Layout::of(list, &table.chain).choice(quorum, own.name);
-            return (choice(own.list) != choice(other_grid(own.list)?)).then_some(own.list.mark);
-        }
-        _ => return None,
-    };
-    if !matches!(answer.result >> 32, 0 | 6..=8) {
-        return None;
-    }
-    let list = table.newest(answering);
-    let holds = |list| Layout::of(list, &table.chain).holds(quorum, answering);
-    (holds(list) != holds(other_grid(list)?)).then_some(list.mark)
+/// A list that decided a call: that in force among the rows that answered, or the own list of a choice's coordinator.
+struct Deciding {
+    list: Laid,
+    quorum: Quorum,
+    asked: AskedOf,
 }
 
-/// The list in its other grid, if there is one: five of a wide table in the other grid of five, a tall list in the grid that it
-/// would have in a wide table.
-fn other_grid(list: Laid) -> Option<Laid> {
+/// What a list was asked for: whether these rows hold a quorum, or the choice of this name.
+enum AskedOf {
+    Held(u64),
+    Chosen(u16),
+}
+
+impl Deciding {
+    /// The list that decided the call, if it came to that.
+    fn of(call: &Call, answer: &Answer, table: &Picture) -> Option<Deciding> {
+        let (answering, quorum) = match *call {
+            Call::Read { answering, .. } => (answering, Quorum::Read),
+            Call::Write { answering, .. } | Call::Check { answering, .. } => (answering, Quorum::Write),
+            Call::Choice { coordinator, kind, .. } if answer.result >> 32 == 0 => {
+                let own = table.row(coordinator as usize);
+                let (list, asked) = (own.list, AskedOf::Chosen(own.name));
+                return Some(Deciding { list, quorum: Quorum::of_kind(kind)?, asked });
+            }
+            _ => return None,
+        };
+        let put = matches!(answer.result >> 32, 0 | 6..=8 | 18 | 19);
+        put.then(|| Deciding { list: table.newest(answering), quorum, asked: AskedOf::Held(answering) })
+    }
+
+    /// What it says if it is laid so.
+    fn laid(&self, layout: &Layout) -> u64 {
+        match self.asked {
+            AskedOf::Held(answering) => layout.holds(self.quorum, answering).into(),
+            AskedOf::Chosen(name) => layout.choice(self.quorum, name),
+        }
+    }
+
+    /// Its mark, if it would have said something else in its other grid.
+    fn mark(&self, table: &Picture) -> Option<u8> {
+        let other = layout(table, other_grid(self.list, table)?);
+        (self.laid(&layout(table, self.list)) != self.laid(&other)).then_some(self.list.mark)
+    }
+
+    /// What the counties had to do with it.
+    fn counties(&self, table: &Picture) -> Option<Judged> {
+        if !table.several(self.list.members) {
+            let at_home = table.several(table.all_used()) && !self.list.is_empty();
+            return at_home.then_some(Judged::AtHome);
+        }
+        let right = layout(table, self.list);
+        let (mut below, mut above) = (right, right);
+        let published = |grid: &mut Grid| *grid = Grid::of(grid.length());
+        let fives = below.groups_mut().iter_mut().filter(|group| group.grid.length() == 5);
+        fives.for_each(|group| published(&mut group.grid));
+        if right.above.length() == 5 {
+            published(&mut above.above);
+        }
+        let in_one = Layout::of(self.list, &table.chain, &Counties::ONE);
+        let otherwise: [Layout; OTHERWISE.len()] =
+            [in_one, below, above, lay_in_chain_order(self.list, table)];
+        let otherwise = otherwise.map(|other| self.laid(&right) != self.laid(&other));
+        Some(Judged::Several(self.list.shape(), otherwise))
+    }
+}
+
+fn layout(table: &Picture, list: Laid) -> Layout {
+    Layout::of(list, &table.chain, &table.counties)
+}
+
+/// The list in its other grid, if there is one: five of a county in the other grid of five, a tall list in the grid that it would have
+/// in a wide table, and one of several counties in that of a tall table.
+fn other_grid(list: Laid, table: &Picture) -> Option<Laid> {
     match list.mark {
-        TALL => Some(Rules::Newest.lay(Shape::Wide, list.members)),
+        TALL => Some(Rules::Newest.lay(Shape::Wide, list.members, &table.counties)),
+        SEVERAL => Some(Laid { mark: TALL, ..list }),
         mark if list.members.count_ones() == 5 => Some(Laid { mark: 1 - mark, ..list }),
         _ => None,
     }
+}
+
+/// Was it a check that took in a row of a county that the list before had no member of?
+fn takes_in_a_county(call: &Call, answer: &Answer, table: &Picture) -> bool {
+    let (Call::Check { answering, .. }, 0) = (call, answer.result >> 32) else { return false };
+    let before = table.newest(*answering).members;
+    let counties = |set| table.counties.parts(set).count();
+    counties(before | answering) > counties(before)
 }
 
 fn compare(answer: &Answer, table: &[u8], expected: &Answer, expected_table: &[u8]) -> Result<(), String> {
@@ -421,7 +590,8 @@ fn compare(answer: &Answer, table: &[u8], expected: &Answer, expected_table: &[u
     }
     same_bytes("table", table, expected_table)?;
     same_bytes("buffer", &answer.buffer, &expected.buffer)?;
-    same_bytes("number called,", &answer.called, &expected.called)
+    same_bytes("number called,", &answer.called, &expected.called)?;
+    same_bytes("sheet", &answer.sheet, &expected.sheet)
 }
 
 fn same_bytes(of: &str, archive: &[u8], reference: &[u8]) -> Result<(), String> {
@@ -465,8 +635,8 @@ fn frame(
         if before != after {
             return Err("a choice or a move altered the table".into());
         }
-    } else if let Call::Join { name } = *call {
-        return joining_frame(name, answer.result, before, after);
+    } else if let Call::Join { name, county } = *call {
+        return joining_frame(name, county, answer.result, before, after);
     } else if let (Some(answering), true) = (call.answering(), before != after) {
         let table = table.ok_or("a malformed table altered")?;
         let mut expected = before.to_vec();
@@ -551,16 +721,16 @@ fn one_state_a_version(table: &Picture, bytes: &[u8]) -> Result<(), String> {
     Ok(())
 }
 
-/// The own choice of the coordinator of a read or write, which answers, and the grid of its own list.
-fn own_choice(call: &Call, table: &Picture) -> Option<(Quorum, u64, Grid)> {
+/// The own choice of the coordinator of a read or write, which answers, and how its own list is laid.
+fn own_choice(call: &Call, table: &Picture) -> Option<(Quorum, u64, Layout)> {
     let (coordinator, quorum) = match *call {
         Call::Read { coordinator, .. } => (coordinator, Quorum::Read),
         Call::Write { coordinator, .. } => (coordinator, Quorum::Write),
         _ => return None,
     };
     let own = table.rows.get((coordinator as usize).checked_sub(1)?)?;
-    let layout = Layout::of(own.list, &table.chain);
-    Some((quorum, layout.choice(quorum, own.name), layout.grid))
+    let layout = layout(table, own.list);
+    Some((quorum, layout.choice(quorum, own.name), layout))
 }
 
 /// Did the call that says this number stay with the own choice? None if the number does not tell, or nobody was called.
@@ -570,9 +740,18 @@ fn stayed(call: &Call, called: u8, table: &Picture) -> Option<bool> {
     (chosen != all && called != 0).then_some(u32::from(called) == chosen)
 }
 
+/// Is so much a choice in this grid: for a write at most as many as it has rows and columns, less one, for a read as many as it has
+/// columns?
+fn few(grid: &Grid, quorum: Quorum, count: usize) -> bool {
+    match quorum {
+        Quorum::Read => count == grid.columns,
+        Quorum::Write => (1..grid.rows + grid.columns).contains(&count),
+    }
+}
+
 /// A list for the number called that has not one byte stays as it was. In one of one byte there is 0 if the call was refused
-/// by 1 to 5 or 16; all used rows if it was refused by 6 or 7; and otherwise these, or at most as many as the grid of the own list
-/// has rows and columns, less one, for a write, and as many as it has columns for a read.
+/// by 1 to 5 or 16; all used rows if it was refused by 6 or 7; and otherwise these, or as many as a choice has in the grid of the own
+/// list, if that is of one county.
 fn called_frame(call: &Call, answer: &Answer, table: Option<&Picture>) -> Result<(), String> {
     let Some(lent) = call.called() else { return Ok(()) };
     let [called] = answer.called[..] else {
@@ -588,12 +767,11 @@ fn called_frame(call: &Call, answer: &Answer, table: Option<&Picture>) -> Result
         (1..=5 | 16, _) => called == 0,
         (6 | 7, Some(table)) => called == table.used,
         (_, Some(table)) => {
-            let own = own_choice(call, table);
-            let few = |(quorum, _, grid): (Quorum, u64, Grid)| match quorum {
-                Quorum::Read => called == grid.columns,
-                Quorum::Write => (1..=grid.rows + grid.columns - 1).contains(&called),
-            };
-            called == table.used || own.is_some_and(|own| own.1 != 0 && few(own))
+            let chosen = own_choice(call, table).is_some_and(|(quorum, choice, own)| match own.groups() {
+                [of_all] => few(&of_all.grid, quorum, called),
+                _ => choice != 0 && called == choice.count_ones() as usize,
+            });
+            called == table.used || chosen
         }
         (_, None) => false,
     };
@@ -604,9 +782,30 @@ fn called_frame(call: &Call, answer: &Answer, table: Option<&Picture>) -> Result
     }
 }
 
-/// A done choice tells a quorum of the coordinator's own list, of members of that list and of no more than the grid has rows
-/// and columns, less one (a read's: as many as it has columns), or no row if that list is empty; its value is how many. Gives
-/// its place in `CHOICES`.
+/// A done write adds one to the count of its club; a check that changes the table sets all counts to 0; every other byte of a sheet
+/// stays, and a refused call leaves it as it was. It is right after a done call.
+fn sheet_frame(call: &Call, answer: &Answer, changed: bool) -> Result<(), String> {
+    let Some(lent) = call.sheet() else { return same_bytes("sheet", &answer.sheet, &[]) };
+    let mut expected = lent.to_vec();
+    if answer.result >> 32 == 0 {
+        let mut sheet = Sheet::judge(lent).ok_or("a call with a wrong sheet was done")?;
+        match call {
+            Call::Write { club, .. } if sheet.line(*club).is_some() => {
+                sheet.lines[*club as usize - 1].count += 1;
+            }
+            Call::Write { .. } => return Err("a write of no club was done".into()),
+            _ if changed => sheet.lines.iter_mut().for_each(|line| line.count = 0),
+            _ => {}
+        }
+        expected = sheet.bytes().to_vec();
+        Sheet::judge(&expected).ok_or("a done call leaves a wrong sheet")?;
+    }
+    same_bytes("sheet", &answer.sheet, &expected)
+}
+
+/// A done choice tells a quorum of the coordinator's own list, of members of that list and in each county that it has some of no more
+/// than the grid has rows and columns, less one (a read's: as many as it has columns), and so of these counties; or no row if that
+/// list is empty. Its value is how many. Gives its place in `CHOICES`.
 fn choice_frame(call: &Call, answer: &Answer, table: Option<&Picture>) -> Result<Option<usize>, String> {
     let Call::Choice { coordinator, kind, .. } = *call else { return Ok(None) };
     if answer.result >> 32 != 0 {
@@ -619,15 +818,14 @@ fn choice_frame(call: &Call, answer: &Answer, table: Option<&Picture>) -> Result
     let told =
         <[u8; 8]>::try_from(&answer.buffer[..]).map_err(|_| "a set of other than eight bytes was told")?;
     let set = u64::from_le_bytes(told);
-    let layout = Layout::of(own.list, &table.chain);
-    let Grid { rows, columns, .. } = layout.grid;
-    let size = set.count_ones() as usize;
-    let fits = match quorum {
-        _ if own.list.is_empty() => set == 0,
-        Quorum::Read => layout.holds(quorum, set) && size == columns,
-        Quorum::Write => layout.holds(quorum, set) && size < rows + columns,
-    };
-    if !fits || set & !own.list.members != 0 || answer.result != size as u64 {
+    let layout = layout(table, own.list);
+    let chosen_in = |members: &[u8]| members.iter().filter(|&&row| rows::has(set, row.into())).count();
+    let counties = layout.groups().iter().map(|group| (&group.grid, chosen_in(layout.members(group))));
+    let chosen: Vec<(&Grid, usize)> = counties.filter(|&(_, count)| count > 0).collect();
+    let sized = few(&layout.above, quorum, chosen.len())
+        && chosen.into_iter().all(|(grid, count)| few(grid, quorum, count));
+    let fits = if own.list.is_empty() { set == 0 } else { layout.holds(quorum, set) && sized };
+    if !fits || set & !own.list.members != 0 || answer.result != u64::from(set.count_ones()) {
         return Err(format!("{} is no choice, with {}", set_shown(set), result_shown(answer.result)));
     }
     Ok(Some(choice_told(quorum, (!own.list.is_empty()).then_some(own.list.mark))))
@@ -658,9 +856,9 @@ fn stride(table: &[u8]) -> usize {
     (table.len() - HEADER) / usize::from(table[1])
 }
 
-/// A done joining gives the next row; that row gets the name and the link that was before it, and is zero otherwise.
+/// A done joining gives the next row; that row gets the name, the county and the link that was before it, and is zero otherwise.
 /// The count grows by one and the link before leads to the row; every other byte stays. The table is well formed.
-fn joining_frame(name: u16, value: u64, before: &[u8], after: &[u8]) -> Result<(), String> {
+fn joining_frame(name: u16, county: u64, value: u64, before: &[u8], after: &[u8]) -> Result<(), String> {
     let row = before[COUNT] + 1;
     if value != u64::from(row) {
         return Err(format!("joined as row {value}, but the next one is {row}"));
@@ -676,6 +874,7 @@ fn joining_frame(name: u16, value: u64, before: &[u8], after: &[u8]) -> Result<(
     joined.fill(0);
     joined[..2].copy_from_slice(&name.to_le_bytes());
     joined[LINK] = before[link];
+    joined[COUNTY] = u8::try_from(county).map_err(|_| format!("joined from county {county}"))?;
     match difference(&expected, after) {
         Some(at) => {
             Err(format!("a joining leaves {:02x} in byte {at}, and not {:02x}", after[at], expected[at]))
@@ -700,16 +899,20 @@ mod tests {
             let (capacity, file_len) = (random.between(used + 1, 12), random.between(1, 9));
             let size = Size { used, capacity, file_len, files: random.between(1, 2) };
             let before = tables::well_formed(&mut random, size);
-            let name = random.between(1, 65_535) as u16;
+            let (name, county) = (random.between(1, 65_535) as u16, random.between(1, 8) as u64);
             let mut after = before.clone();
-            let value = engine.join(&mut after, name);
-            assert_eq!((joining_frame(name, value, &before, &after), value), (Ok(()), used as u64 + 1));
-            assert!(joining_frame(name, value + 1, &before, &after).is_err());
-            assert!(joining_frame(name ^ 1, value, &before, &after).is_err());
+            let value = engine.join(&mut after, name, county);
+            let frame =
+                |name, county, value, after: &[u8]| joining_frame(name, county, value, &before, after);
+            assert_eq!((frame(name, county, value, &after), value), (Ok(()), used as u64 + 1));
+            assert!(frame(name, county, value + 1, &after).is_err());
+            assert!(frame(name ^ 1, county, value, &after).is_err());
+            assert!(frame(name, county ^ 1, value, &after).is_err());
+            assert!(frame(name, county + 256, value, &after).is_err());
             for at in 0..after.len() {
                 let mut altered = after.clone();
                 altered[at] ^= 1 << random.between(0, 7);
-                assert!(joining_frame(name, value, &before, &altered).is_err(), "byte {at}");
+                assert!(frame(name, county, value, &altered).is_err(), "byte {at}");
             }
         }
     }
@@ -717,7 +920,7 @@ mod tests {
     #[test]
     fn a_chart_that_strays_is_found_out() {
         let frame = |result, buffer: &[u8]| {
-            let answer = Answer { result, buffer: buffer.to_vec(), called: Vec::new() };
+            let answer = Answer { result, buffer: buffer.to_vec(), ..Answer::default() };
             frame(&Call::Chart { length: 4, mark: 0, list: vec![9; 7] }, &answer, None, &[1], &[1])
         };
         assert_eq!(frame(2, &[3, 0, 6, 0, 9, 9, 9]), Ok(()));
@@ -736,15 +939,15 @@ mod tests {
     #[test]
     fn a_wrong_choice_is_found_out() {
         let mut bytes = vec![0; Table::length(5, 1, 1)];
-        Engine::default().found(&mut bytes, 5, 1, &tables::names_in_bytes(&[10, 20, 30, 40]), 0, 1);
-        Engine::default().join(&mut bytes, 50);
+        Engine::default().found(&mut bytes, 5, 1, &tables::names_in_bytes(&[10, 20, 30, 40]), 0, 1, &[1; 4]);
+        Engine::default().join(&mut bytes, 50, 1);
         let table = Picture::of(&bytes);
         let told = |coordinator, kind, result, set: u64| {
-            let answer = Answer { result, buffer: set.to_le_bytes().to_vec(), called: Vec::new() };
+            let answer = Answer { result, buffer: set.to_le_bytes().to_vec(), ..Answer::default() };
             choice_frame(&Call::Choice { coordinator, kind, set: vec![9; 8] }, &answer, table.as_ref()).ok()
         };
-        assert_eq!((told(1, 0, 2, 0b0011), told(1, 1, 3, 0b0111)), (Some(Some(0)), Some(Some(4))));
-        assert_eq!([0, 1].map(|kind| told(5, kind, 0, 0)), [Some(Some(3)), Some(Some(7))]);
+        assert_eq!((told(1, 0, 2, 0b0011), told(1, 1, 3, 0b0111)), (Some(Some(0)), Some(Some(5))));
+        assert_eq!([0, 1].map(|kind| told(5, kind, 0, 0)), [Some(Some(4)), Some(Some(9))]);
         // No quorum, too many, an outsider, a wrong value; a row, a kind and a list that are none.
         let wrong = [(2, 0b0101), (3, 0b0111), (3, 0b1_0011), (3, 0b0011), (0, 0)];
         assert!(wrong.into_iter().all(|(value, set)| told(1, 0, value, set).is_none()));
@@ -755,7 +958,7 @@ mod tests {
         // A refused one leaves the list, and no choice alters the table.
         let call = Call::Choice { coordinator: 1, kind: 0, set: vec![9; 8] };
         let frame = |result, set: u8, after: u8| {
-            let answer = Answer { result, buffer: vec![set; 8], called: Vec::new() };
+            let answer = Answer { result, buffer: vec![set; 8], ..Answer::default() };
             frame(&call, &answer, table.as_ref(), &[1], &[after]).is_ok()
         };
         assert_eq!([frame(5 << 32, 9, 1), frame(5 << 32, 0, 1), frame(2, 0, 1)], [true, false, true]);
@@ -766,15 +969,29 @@ mod tests {
     #[test]
     fn a_wrong_number_called_is_found_out() {
         let mut bytes = vec![0; Table::length(4, 1, 1)];
-        Engine::default().found(&mut bytes, 4, 1, &tables::names_in_bytes(&[10, 20, 30, 40]), 0, 1);
+        Engine::default().found(&mut bytes, 4, 1, &tables::names_in_bytes(&[10, 20, 30, 40]), 0, 1, &[1; 4]);
         let table = Picture::of(&bytes);
         let (coordinator, answering, offset, length, file) = (1, 15, 0, 1, 1);
         let told = |refusal: u64, lent: &[u8], after: &[u8]| {
-            let answer = Answer { result: refusal << 32, buffer: Vec::new(), called: after.to_vec() };
+            let answer = Answer {
+                result: refusal << 32,
+                buffer: Vec::new(),
+                called: after.to_vec(),
+                ..Answer::default()
+            };
             let (buffer, patch, called) = (vec![0], vec![0], lent.to_vec());
             let calls = [
                 Call::Read { coordinator, answering, offset, length, buffer, called: called.clone(), file },
-                Call::Write { coordinator, answering, offset, patch, called, file },
+                Call::Write {
+                    coordinator,
+                    answering,
+                    offset,
+                    patch,
+                    called,
+                    file,
+                    sheet: Sheet::OPEN.bytes().to_vec(),
+                    club: 1,
+                },
             ];
             calls.map(|call| called_frame(&call, &answer, table.as_ref()).is_ok())
         };
@@ -804,12 +1021,15 @@ mod tests {
     fn a_wrong_send_is_found_out() {
         let mut before = vec![0; Table::length(4, 3, 2)];
         let (engine, file) = (Engine::default(), 2);
-        engine.found(&mut before, 4, 3, &tables::names_in_bytes(&[10, 20, 30, 40]), 0, 2);
-        engine.check(&mut before, 1, 0b0111);
+        engine.found(&mut before, 4, 3, &tables::names_in_bytes(&[10, 20, 30, 40]), 0, 2, &[1; 4]);
+        engine.check(&mut before, 1, 0b0111, &mut Sheet::OPEN.bytes());
         for byte in 1..=3 {
-            assert_eq!(engine.write(&mut before, 1, 0b0111, 0, &[byte], &mut [0], 2), byte.into());
+            assert_eq!(
+                engine.write(&mut before, 1, 0b0111, 0, &[byte], &mut [0], 2, &mut Sheet::OPEN.bytes(), 1),
+                byte.into()
+            );
         }
-        engine.check(&mut before, 1, 0b1111);
+        engine.check(&mut before, 1, 0b1111, &mut Sheet::OPEN.bytes());
         let table = Picture::of(&before);
         let mut after = before.clone();
         let call = Call::Send { from: 1, to: 4, answering: 0b1111, file: 2 };
@@ -899,9 +1119,13 @@ mod tests {
     fn group() -> Vec<u8> {
         let mut table = vec![0; Table::length(4, 2, 3)];
         let engine = Engine::default();
-        engine.found(&mut table, 4, 2, &tables::names_in_bytes(&[10, 20, 30, 40]), 0, 3);
+        engine.found(&mut table, 4, 2, &tables::names_in_bytes(&[10, 20, 30, 40]), 0, 3, &[1; 4]);
         for (file, answering) in [(1, 0b0111), (2, 0b0111), (2, 0b1011)] {
-            assert_eq!(engine.write(&mut table, 1, answering, 0, &[7], &mut [0], file) >> 32, 0);
+            assert_eq!(
+                engine.write(&mut table, 1, answering, 0, &[7], &mut [0], file, &mut Sheet::OPEN.bytes(), 1)
+                    >> 32,
+                0
+            );
         }
         table
     }
@@ -913,7 +1137,8 @@ mod tests {
         let table = Picture::of(&before).expect("well formed");
         let called = vec![0];
         let (coordinator, answering, offset, patch, file) = (1, 0b1111, 1, vec![9], 2);
-        let write = Call::Write { coordinator, answering, offset, patch, called, file };
+        let (sheet, club) = (Sheet::OPEN.bytes().to_vec(), 16);
+        let write = Call::Write { coordinator, answering, offset, patch, called, file, sheet, club };
         let mut after = before.clone();
         let answer = write.refer(Engine::default(), &mut after);
         let mut asked = |answer: &Answer, after: &[u8]| {
@@ -939,16 +1164,18 @@ mod tests {
     fn a_wrong_check_of_a_group_is_found_out() {
         let (mut archive, mut before) = (Archive::new(), group());
         let engine = Engine::default();
+        // Its counts are 0, cleared or not.
+        let sheet = Sheet::OPEN.bytes().to_vec();
         let mut asked = |call: &Call, result, before: &[u8], after: &[u8]| {
-            let answer = Answer { result, buffer: Vec::new(), called: Vec::new() };
+            let answer = Answer { result, sheet: sheet.clone(), ..Answer::default() };
             let table = Picture::of(before).expect("well formed");
             let trial = Trial::resume(&mut archive, engine, after.to_vec(), Ledger::default());
             let alone = trial.ask_alone(call, &answer, before, &table);
             (alone, checked(call, &answer, &table, after))
         };
-        let check = |coordinator, answering| Call::Check { coordinator, answering };
+        let check = |coordinator, answering| Call::Check { coordinator, answering, sheet: sheet.clone() };
         let mut after = before.clone();
-        assert_eq!(engine.check(&mut after, 1, 0b1101), 1);
+        assert_eq!(engine.check(&mut after, 1, 0b1101, &mut Sheet::OPEN.bytes()), 1);
         let three = check(1, 0b1101);
         let marked = Some(Checked::Done { marked: 2, files: 3 });
         assert_eq!(asked(&three, 1, &before, &after), (Ok(Some(3)), marked));
@@ -968,16 +1195,53 @@ mod tests {
         assert!(asked(&two, 2, &before, &before).0.is_err(), "the second file is not");
     }
 
+    /// Every byte of a sheet counts after a write and after a check, done or refused.
+    #[test]
+    fn a_wrong_sheet_is_found_out() {
+        let mut random = Random::new(5, 0);
+        let mut lent = sheets::right(&mut random, false);
+        lent.lines[4] = sheet::Line { assured: 1, ceiling: 2, count: 1 };
+        lent.total = 900;
+        let (mut counted, mut cleared) = (lent, lent);
+        counted.lines[4].count = 2;
+        cleared.lines[4].count = 0;
+        let [lent, counted, cleared] = [lent, counted, cleared].map(|sheet| sheet.bytes().to_vec());
+        let (coordinator, answering, offset, patch, called, file) = (1, 1, 0, vec![0], vec![0], 1);
+        let sheet = lent.clone();
+        let check = Call::Check { coordinator, answering, sheet: lent.clone() };
+        let write = Call::Write { coordinator, answering, offset, patch, called, file, sheet, club: 5 };
+        let frame = |call: &Call, result, changed, sheet: &[u8]| {
+            let answer = Answer { result, sheet: sheet.to_vec(), ..Answer::default() };
+            sheet_frame(call, &answer, changed).is_ok()
+        };
+        for (call, result, changed, expected) in [
+            (&write, 3, true, &counted),
+            (&write, 18 << 32, false, &lent),
+            (&check, 3, true, &cleared),
+            (&check, 3, false, &lent),
+            (&check, 6 << 32, false, &lent),
+        ] {
+            assert!(frame(call, result, changed, expected) && !frame(call, result, changed, &[]));
+            for at in 0..expected.len() {
+                let mut altered = expected.clone();
+                altered[at] ^= 1 << random.between(0, 7);
+                assert!(!frame(call, result, changed, &altered), "byte {at}");
+            }
+        }
+        let read = Call::Choice { coordinator, kind: 0, set: vec![0; 8] };
+        assert!(frame(&read, 1, false, &[]) && !frame(&read, 1, false, &[0]));
+    }
+
     /// A row in the wrong place of the chain has one link before it too, but the names no longer rise.
     #[test]
     fn a_joining_out_of_order_is_found_out() {
         let blundering = Engine { blunder: Some(reference::Blunder::LinkTooFar), ..Engine::default() };
         let mut before = vec![0; Table::length(3, 1, 1)];
-        blundering.found(&mut before, 3, 1, &tables::names_in_bytes(&[10, 20]), 0, 1);
+        blundering.found(&mut before, 3, 1, &tables::names_in_bytes(&[10, 20]), 0, 1, &[1; 2]);
         let mut after = before.clone();
-        let value = blundering.join(&mut after, 15);
+        let value = blundering.join(&mut after, 15, 1);
         assert_eq!(
-            joining_frame(15, value, &before, &after),
+            joining_frame(15, 1, value, &before, &after),
             Err("a joining leaves a malformed table".to_string())
         );
     }

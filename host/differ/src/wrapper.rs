@@ -4,7 +4,7 @@
 use crate::call::Answer;
 use crate::tables::Picture;
 use dyngrid::{Form3Table, OlderForm, Table};
-use reference::{window, Engine};
+use reference::{window, Engine, Sheet};
 
 /// Looks at a table, which is judged by the reference; gives how many sends would be done, or says how the wrapper differs. None
 /// if it is malformed. In a table of more rows than the small ones, sends of the last file only are listed: every two rows are asked.
@@ -24,6 +24,7 @@ pub fn look(
         let told = table.row(row).filter(|view| {
             (view.row, view.name, view.list.bits(), view.grid_mark, view.epoch)
                 == (row, state.name, state.list.members, state.list.mark, state.epoch)
+                && (view.county, table.county(row)) == (state.county, Some(state.county))
                 && view.copies.len() == picture.files
         });
         if told.is_none() || table.row_named(state.name) != told {
@@ -68,6 +69,29 @@ fn same_copy(table: &Table, picture: &Picture, bytes: &[u8], row: usize, file: u
         (patch.version, patch.offset, patch.bytes) == (version, record.offset, expected)
     });
     same_numbers && same_patches && told.len() == count && table.file(file).copy(row) == copy
+}
+
+/// Looks at a sheet, if one was lent: does the wrapper take it if it is right, and tell of it what the reference reads?
+pub fn look_at_sheet(lent: Option<&[u8]>) -> Result<(), String> {
+    let Some(bytes) = lent else { return Ok(()) };
+    let (sheet, expected) = match (dyngrid::Sheet::from_bytes(bytes), Sheet::judge(bytes)) {
+        (Err(_), None) => return Ok(()),
+        (Ok(sheet), Some(expected)) => (sheet, expected),
+        (told, expected) => {
+            return Err(format!("a sheet by the wrapper {told:?}, by the reference {expected:?}"))
+        }
+    };
+    let mut lines = (1..).zip(&expected.lines).zip(sheet.clubs());
+    let same = lines.all(|((club, line), told)| {
+        (told.club, told.assured, told.ceiling, told.made) == (club, line.assured, line.ceiling, line.count)
+            && (told.left == 0) == expected.refusal(club as u64).is_some()
+    });
+    let told = (sheet.total(), sheet.shared_left(), sheet.clubs().count(), sheet.as_bytes());
+    if same && told == (expected.total, expected.remainder(), expected.lines.len(), bytes) {
+        Ok(())
+    } else {
+        Err(format!("by the wrapper the sheet is\n{sheet}"))
+    }
 }
 
 /// Moves a well-formed table through the wrapper, if it has such a move; it must give and refuse what the archive did with a
@@ -122,34 +146,56 @@ mod tests {
         assert!(sends > 2_000 && found.iter().all(|&found| found > 100), "{sends} {found:?}");
     }
 
-    /// The last lines draw the list of the highest epoch in its grid; or there is none.
+    /// Numbers in the columns of a grid.
+    fn drawn(numbers: impl Iterator<Item = u16>, columns: usize) -> Vec<String> {
+        let numbers: Vec<String> = numbers.map(|number| format!("{number:>5}")).collect();
+        numbers.chunks(columns).map(|row| row.join("  ")).collect()
+    }
+
+    /// The last lines draw the list of the highest epoch in its grid, or on two levels; or there is none.
     #[test]
     fn the_list_in_force_is_drawn_as_it_lies() {
+        let mut drawn_so = [0; 3];
         for case in 0..1_000 {
             let mut random = Random::new(10, case);
             let size = Size::pick(&mut random);
             let bytes = tables::well_formed(&mut random, size);
             let picture = Picture::of(&bytes).expect("well formed");
             let shown = Table::from_bytes(bytes).expect("well formed").to_string();
-            let layout = Layout::of(picture.newest(picture.all_used()), &picture.chain);
-            let names = layout.members.iter().map(|&row| format!("{:>5}", picture.row(row.into()).name));
-            let names: Vec<String> = names.collect();
-            let drawn: Vec<String> =
-                names.chunks(layout.grid.columns.max(1)).map(|row| row.join("  ")).collect();
+            let (counties, chain) = (&picture.counties, &picture.chain);
+            let layout = Layout::of(picture.newest(picture.all_used()), chain, counties);
+            let row = |row: &u8| picture.row((*row).into());
+            let groups = layout.groups().iter().map(|group| (layout.members(group), group.grid.columns));
+            let groups: Vec<(&[u8], usize)> = groups.collect();
+            let of_group = |&(members, columns): &(&[u8], usize)| {
+                drawn(members.iter().map(|member| row(member).name), columns)
+            };
+            let expected = match &groups[..] {
+                [] => Vec::new(),
+                [of_all] => of_group(of_all),
+                groups => {
+                    let counties = groups.iter().map(|(members, _)| row(&members[0]).county);
+                    let above = drawn(counties.clone().map(u16::from), layout.above.columns);
+                    let below = groups.iter().zip(counties).flat_map(|(group, county)| {
+                        [vec![format!("county {county}:")], of_group(group)].concat()
+                    });
+                    above.into_iter().chain(below).collect()
+                }
+            };
+            drawn_so[groups.len().min(2)] += 1;
             let lines: Vec<&str> = shown.lines().skip(2 + size.used * size.files).collect();
             match lines[..] {
-                ["no row has a list"] => assert!(names.is_empty(), "case {case}:\n{shown}"),
+                ["no row has a list"] => assert!(groups.is_empty(), "case {case}:\n{shown}"),
                 [head, ref grid @ ..] => {
                     let tall = picture.shape() == Some(Shape::Tall);
-                    assert_eq!(
-                        (head.contains("tall"), grid),
-                        (tall, &drawn.iter().map(String::as_str).collect::<Vec<_>>()[..]),
-                        "case {case}:\n{shown}"
-                    );
+                    let levels = groups.len() > 1;
+                    assert_eq!((head.contains("tall"), head.contains("two levels")), (tall, levels));
+                    assert_eq!(grid, expected, "case {case}:\n{shown}");
                 }
                 [] => panic!("case {case}: no grid in\n{shown}"),
             }
         }
+        assert!(drawn_so.iter().all(|&count| count > 20), "{drawn_so:?}");
     }
 
     /// Each rule broken: an error that says so, and never a panic.

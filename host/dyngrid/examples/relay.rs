@@ -13,7 +13,7 @@ const FILES: usize = 2;
 const HEAD: usize = 32;
 
 struct Relay {
-    /// Header, names and links, which all calls must agree on. The relay keeps them: a joining alters the link of a
+    /// Header, names, links and counties, which all calls must agree on. The relay keeps them: a joining alters the link of a
     /// machine that may be away.
     frame: Table,
     /// What each machine holds: row i at place i - 1.
@@ -35,7 +35,7 @@ impl Relay {
         Ok(row)
     }
 
-    /// The table of a call: the rows that answered. The others count by name and link only.
+    /// The table of a call: the rows that answered. The others count by name, link and county only.
     fn gather(&self, answering: Rows) -> Result<Table, Refusal> {
         Ok(Table::assemble(&self.frame, answering.iter().map(|row| (row, &self.machines[row - 1])))?)
     }
@@ -152,14 +152,14 @@ fn given(file: File, row: &[u8]) -> Option<Vec<u8>> {
 }
 
 fn main() -> Result<(), Refusal> {
-    let mut relay = Relay::found(5, &[10, 20, 30, 40])?;
+    let mut relay = Relay::found(5, &[1, 2, 3, 4])?;
 
     // The own choice of row 4, by its name, is {1, 2, 3}. All of them answer, so the write is theirs alone: three were called.
     assert_eq!(relay.write(RESULTS, 4, Rows::first(4), b"1-0")?.called, 3);
     // Row 4 missed the write, unmarked. With row 3 it still reads the new score.
     assert_eq!(relay.read(RESULTS, 4, Rows::of(&[3, 4])?)?, *b"1-0");
 
-    // Machine 30 is away. Too few of the own choice are left, so all four are called. The set is all that answer, and the results of
+    // Machine 3 is away. Too few of the own choice are left, so all four are called. The set is all that answer, and the results of
     // row 4 are marked; its clock sheet is not.
     assert_eq!(relay.write(RESULTS, 4, Rows::of(&[1, 2, 4])?, b"0-1")?.called, 4);
     let fourth = relay.gather(Rows::of(&[4])?)?.row(4).ok_or(Refusal::NoSuchRow)?;
@@ -169,8 +169,8 @@ fn main() -> Result<(), Refusal> {
     relay.write(CLOCKS, 1, Rows::first(3), b"47m")?;
     relay.write(CLOCKS, 1, Rows::of(&[1, 2, 4])?, b"62m")?;
 
-    // Machine 20 stays away: one check for both files, and the results are sent. Then machine 10 goes too: the clock sheets of the two
-    // that are left are stale, which blocks the check for both files. Once machine 10 has sent its own, the check is done.
+    // Machine 2 stays away: one check for both files, and the results are sent. Then machine 1 goes too: the clock sheets of the two
+    // that are left are stale, which blocks the check for both files. Once machine 1 has sent its own, the check is done.
     relay.check(1, Rows::of(&[1, 3, 4])?)?;
     relay.send(RESULTS, 1, 3)?;
     relay.send(RESULTS, 1, 4)?;
@@ -189,13 +189,13 @@ fn main() -> Result<(), Refusal> {
     assert_eq!(relay.read(CLOCKS, 1, Rows::of(&[1, 2])?)?, *b"62m");
 
     // A fifth machine joins. It reads with a quorum of the others at once; a check takes it into the list.
-    let fifth = relay.join(25)?;
+    let fifth = relay.join(5)?;
     assert_eq!(relay.read(RESULTS, fifth, Rows::of(&[3, 4, fifth])?)?, *b"1/2");
     relay.check(1, Rows::first(5))?;
     println!("{}", relay.gather(Rows::first(5))?);
     relay.send_all(Rows::first(5))?;
     assert_eq!(relay.read(CLOCKS, fifth, Rows::first(5))?, *b"62m");
-    // Any one of five may be away: here machine 25, the third in name order.
+    // Any one of five may be away: here machine 5.
     relay.write(RESULTS, 1, Rows::first(4), b"0-0")?;
     assert_eq!(relay.read(RESULTS, 4, Rows::first(4))?, *b"0-0");
     Ok(())

@@ -1,7 +1,7 @@
 //! A table of an older season: reads the table that one file holds, and writes it in form 3 to another, or in form 1 or 2 if that is
 //! named. Run with `cargo run --example season -- OLD NEW [FORM]`; keep OLD until NEW is safe.
 //!
-//! Nothing carries a table to form 4: for that, found a new one, and write the file into it.
+//! Nothing carries a table to form 4 or 5: found a new one, and write the file into it.
 
 use dyngrid::{Form3Table, OlderForm};
 use std::error::Error;

@@ -32,6 +32,13 @@ pub enum NotAssembled {
         /// The name in the bytes.
         name: u16,
     },
+    /// The bytes are of another county than the row of the frame. A machine keeps its county.
+    OtherCounty {
+        /// The number of the row.
+        row: usize,
+        /// The county in the bytes.
+        county: u8,
+    },
     /// The rows fit one by one, but are no well-formed table together.
     Malformed(NotATable),
 }
@@ -52,7 +59,12 @@ impl fmt::Display for NotAssembled {
             NotAssembled::OtherName { row, name } => {
                 write!(f, "the bytes of row {row} have the name {name}, which is another machine's: ask that machine anew")
             }
-            NotAssembled::Malformed(error) => write!(f, "the rows do not fit together: {error}"),
+            NotAssembled::OtherCounty { row, county } => {
+                write!(f, "the bytes of row {row} are of county {county}, and the frame has another: use the newest frame")
+            }
+            NotAssembled::Malformed(_) => f.write_str(
+                "the rows do not fit together: take the newest frame; if that is not it, leave out one machine after the other",
+            ),
         }
     }
 }

@@ -8,19 +8,19 @@ use std::fmt;
 pub struct Done {
     /// The version read, or the new one.
     pub version: u32,
-    /// How many machines were called: as many as the coordinator's own choice has, if those of it that answered were enough;
-    /// otherwise all that are in use.
+    /// How many machines the protocol calls for it, whomever the relay asked: as many as the coordinator's own choice has, if those
+    /// of it that answered were enough; otherwise all that are in use.
     pub called: usize,
 }
 
-/// A read or write that was refused, and how many machines were called all the same.
+/// A read or write that was refused, and how many machines the protocol calls for it all the same.
 ///
 /// Where only the refusal counts, `?` and [`Refusal::from`] take it.
 #[derive(Clone, Copy, Debug, PartialEq, Eq, Hash)]
 pub struct Refused {
     /// Why it was refused.
     pub refusal: Refusal,
-    /// How many machines were called, as in [`Done`]; 0 if it was refused before anyone was called.
+    /// As in [`Done`]; 0 if it was refused before anyone is called.
     pub called: usize,
 }
 

@@ -4,7 +4,7 @@ use crate::window::RECORDS;
 use crate::{raw, NotATable, Refusal};
 use std::fmt;
 
-/// The forms of a table before the newest, 4. No call but a move takes their tables, and moves go between forms 1 or 2 and 3
+/// The forms of a table before the newest, 5. No call but a move takes their tables, and moves go between forms 1 or 2 and 3
 /// alone.
 #[derive(Clone, Copy, Debug, PartialEq, Eq, PartialOrd, Ord, Hash)]
 pub enum OlderForm {
@@ -14,12 +14,15 @@ pub enum OlderForm {
     Two = 2,
     /// Rows have windows; there is one file.
     Three = 3,
+    /// Rows have a copy of each of up to eight files; machines have no county.
+    Four = 4,
 }
 
 impl OlderForm {
-    const ALL: [OlderForm; 3] = [OlderForm::One, OlderForm::Two, OlderForm::Three];
+    const ALL: [OlderForm; 4] = [OlderForm::One, OlderForm::Two, OlderForm::Three, OlderForm::Four];
 
     /// Its number, the first byte of its tables.
+    #[must_use]
     pub fn number(self) -> u8 {
         self as u8
     }
@@ -31,7 +34,8 @@ impl OlderForm {
         (carry(bytes, OlderForm::Three, &mut []) == Err(Refusal::BadSize)).then_some(form)
     }
 
-    /// How long a table of this form is with the sizes that these bytes of another one tell; 0 if they have no header.
+    /// How long a table of this form is with the sizes that these bytes of another one tell; 0 if they have no header. Nothing is
+    /// carried to form 4, whatever the length.
     fn length(self, table: &[u8]) -> usize {
         let Some(header) = table.first_chunk::<HEADER>() else { return 0 };
         let file_len = usize::from(u16::from_le_bytes([header[4], header[5]]));
@@ -42,7 +46,7 @@ impl OlderForm {
 
 /// A table of form 3, which an earlier version of the library left, or which a table of form 1 or 2 was carried up to.
 ///
-/// It can be carried down again, and looked at as bytes. No other call takes it, and **nothing carries it to form 4**: a
+/// It can be carried down again, and looked at as bytes. No other call takes it, and **nothing carries it to form 4 or 5**: a
 /// [`Table`](crate::Table) is founded anew, and the file written into it.
 ///
 /// ```
@@ -68,9 +72,15 @@ pub struct Form3Table {
 }
 
 impl Form3Table {
-    /// Takes over the bytes of a table of form 3. If they are none, the error gives them back.
+    /// Takes over the bytes of a table of form 3.
     ///
-    /// Panics if the archive has another interface than this wrapper.
+    /// # Errors
+    ///
+    /// If they are none, the error gives them back.
+    ///
+    /// # Panics
+    ///
+    /// If the archive has another interface than this wrapper.
     pub fn from_bytes(bytes: Vec<u8>) -> Result<Form3Table, NotATable> {
         raw::assert_interface();
         match OlderForm::of(&bytes) {
@@ -82,11 +92,15 @@ impl Form3Table {
     /// Carries a table of form 1 or 2 over to form 3. File, versions, epochs, lists and their grids stay; the windows are
     /// empty.
     ///
-    /// Bytes that are no table by the rules of their own form are refused by 1. So is a table of form 1 that a machine has joined,
-    /// which is one of form 2 but for its first byte: set that byte to 2, and carry it up then. A table of form 3 or 4 is refused
-    /// by 12.
+    /// # Errors
     ///
-    /// Panics if the archive has another interface than this wrapper.
+    /// Bytes that are no table by the rules of their own form are refused by 1. So is a table of form 1 that a machine has joined,
+    /// which is one of form 2 but for its first byte: set that byte to 2, and carry it up then. A table of form 3, 4 or 5 is
+    /// refused by 12.
+    ///
+    /// # Panics
+    ///
+    /// If the archive has another interface than this wrapper.
     pub fn carry_up(older: &[u8]) -> Result<Form3Table, Refusal> {
         raw::assert_interface();
         Ok(Form3Table { bytes: carried(older, OlderForm::Three)? })
@@ -95,17 +109,22 @@ impl Form3Table {
     /// The table in form 1 or 2, for programs that know no other; its windows are left out. [Carried up](Form3Table::carry_up)
     /// again it has the same rows, with empty windows.
     ///
-    /// Form 1 has no grid mark but 0 and no row without a list: where there is one it is refused by 15. Form 3 is refused by 12.
+    /// # Errors
+    ///
+    /// Form 1 has no grid mark but 0 and no row without a list: where there is one it is refused by 15. Forms 3 and 4 are
+    /// refused by 12.
     pub fn carry_down(&self, form: OlderForm) -> Result<Vec<u8>, Refusal> {
         carried(&self.bytes, form)
     }
 
     /// The bytes of the whole table.
+    #[must_use]
     pub fn as_bytes(&self) -> &[u8] {
         &self.bytes
     }
 
     /// The bytes of the whole table, without a copy.
+    #[must_use]
     pub fn into_bytes(self) -> Vec<u8> {
         self.bytes
     }

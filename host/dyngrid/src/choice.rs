@@ -17,7 +17,10 @@ impl Table {
     /// The coordinator need not be in it, but must answer its call: call the choice and the coordinator. If all of them
     /// answer, its own list is the list in force and some row of the choice has every done write of the file, that is enough; else
     /// call all rows in use. Question 1 is put to the whole table, as in every call; after it the choice goes by header, names,
-    /// links and the coordinator's own row alone, so that a table [assembled](Table::assemble) from its own row tells it too.
+    /// links, counties and the coordinator's own row alone, so that a table [assembled](Table::assemble) from its own row tells it
+    /// too.
+    ///
+    /// Over a list of several counties it chooses counties, and in each of these machines; for a write each by a write's choice.
     ///
     /// ```
     /// use dyngrid::{Kind, Refusal, Rows, Shape, Table};
@@ -29,6 +32,10 @@ impl Table {
     /// assert_eq!(table.choice(10, Kind::Read), Err(Refusal::NoSuchRow));
     /// # Ok::<(), Refusal>(())
     /// ```
+    ///
+    /// # Errors
+    ///
+    /// Refused by 1 and 2.
     pub fn choice(&self, coordinator: usize, kind: Kind) -> Result<Rows, Refusal> {
         let mut set = [0; 8];
         let kind = match kind {

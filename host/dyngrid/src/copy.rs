@@ -1,4 +1,4 @@
-use crate::window::{patches, RECORDS};
+use crate::window::{patches, OLDEST, RECORDS};
 use std::ops::Range;
 
 /// A copy of a file is its head, the contents, and the records of its window.
@@ -51,4 +51,10 @@ pub fn length(file_len: usize) -> usize {
 /// Where a copy has its contents.
 pub fn contents(file_len: usize) -> Range<usize> {
     HEAD..HEAD + file_len
+}
+
+/// Takes over mark and versions of another copy, of whatever length, into one that is zero.
+pub fn outline(copy: &mut [u8], of: &[u8]) {
+    copy[..HEAD].copy_from_slice(&of[..HEAD]);
+    copy[OLDEST] = 0;
 }

@@ -6,12 +6,13 @@
 //! choices are of the table.
 //! Rows and files have numbers of one type, `usize`, from 1 on. What a row tells is a [`RowView`], and `println!("{table}")` shows
 //! them all; the latest patches of a copy are its [window](File::window). A [`chart()`] needs no table. Tables that an older
-//! library left are no [`Table`], and at most a [`Form3Table`].
+//! library left are no [`Table`], and at most a [`Form3Table`]. Where clubs are to have fair shares of the writes, these are lent a
+//! [`Sheet`].
 //!
 //! ```
 //! use dyngrid::{Rows, Shape, Table};
 //!
-//! let mut table = Table::found(4, 16, &[10, 20, 30, 40], Shape::Wide)?;
+//! let mut table = Table::found(4, 16, &[1, 2, 3, 4], Shape::Wide)?;
 //! let written = table.file_mut(1).write(1, Rows::of(&[1, 2, 3])?, 0, b"1-0")?;
 //! let mut score = [0; 3];
 //! assert_eq!(table.file(1).read(4, Rows::of(&[3, 4])?, 0, &mut score)?.version, written.version);
@@ -29,11 +30,14 @@ mod choice;
 mod copy;
 mod display;
 mod file;
+mod frame;
+mod grid;
 mod not_a_table;
 mod notice;
 pub mod raw;
 mod refusal;
 mod rows;
+mod sheet;
 mod table;
 mod view;
 mod window;
@@ -44,11 +48,14 @@ pub use carry::{Form3Table, OlderForm};
 pub use chart::chart;
 pub use choice::Kind;
 pub use copy::CopyView;
+pub use display::Shown;
 pub use file::{File, FileMut};
+pub use grid::{Grid, Layout};
 pub use not_a_table::NotATable;
 pub use notice::{Call, Notice};
 pub use refusal::Refusal;
 pub use rows::{Rows, RowsIter};
+pub use sheet::{Allowance, ClubView, NotASheet, Sheet};
 pub use table::{Shape, Table};
 pub use view::RowView;
 pub use window::Patch;

@@ -26,22 +26,26 @@ impl NotATable {
     }
 
     /// How the library refused them: `Malformed`.
+    #[must_use]
     pub fn refusal(&self) -> Refusal {
         self.refusal
     }
 
     /// The form of the bytes if they are a well-formed table of an older one. No call but a move takes it, as
     /// [`Form3Table`](crate::Form3Table) does.
+    #[must_use]
     pub fn older_form(&self) -> Option<OlderForm> {
         self.older
     }
 
     /// The bytes that were given.
+    #[must_use]
     pub fn as_bytes(&self) -> &[u8] {
         &self.bytes
     }
 
     /// The bytes that were given, without a copy.
+    #[must_use]
     pub fn into_bytes(self) -> Vec<u8> {
         self.bytes
     }
@@ -63,7 +67,7 @@ impl fmt::Display for NotATable {
         match self.older {
             Some(form) => write!(
                 f,
-                "{length} bytes are a table of form {}, which no call but a move takes: found a new table, and write its file into that",
+                "{length} bytes are a table of form {}, which no call but a move takes: found a new table, and write its files into that",
                 form.number()
             ),
             None if self.joined => write!(

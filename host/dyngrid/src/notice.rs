@@ -48,6 +48,7 @@ impl Call {
     ];
 
     /// Its number, from 1 to 10.
+    #[must_use]
     pub fn number(self) -> u32 {
         self as u32
     }
@@ -75,6 +76,7 @@ impl Notice {
     }
 
     /// The sentence.
+    #[must_use]
     pub fn as_str(&self) -> &str {
         str::from_utf8(&self.bytes[..self.length]).expect("a notice is ASCII")
     }

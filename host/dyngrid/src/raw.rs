@@ -12,7 +12,7 @@ use std::sync::OnceLock;
 
 /// Rises with every signature below that is new or changed, as in the archive, and with nothing else: a table tells its form
 /// itself.
-pub const INTERFACE: u64 = 8;
+pub const INTERFACE: u64 = 10;
 
 /// The choices of a founding: a wide table, or a tall one.
 pub const WIDE: u64 = 0;
@@ -43,7 +43,8 @@ extern "C" {
     /// The number of the archive's interface.
     pub fn grid_interface() -> u64;
 
-    /// Founds a table of 1 to 8 files; the choice is [`WIDE`] or [`TALL`]. Value: the rows used.
+    /// Founds a table of 1 to 8 files; the choice is [`WIDE`] or [`TALL`], and the counties are a byte for each name. Value: the rows
+    /// used.
     pub fn grid_found(
         table: *mut u8,
         table_len: usize,
@@ -53,6 +54,8 @@ extern "C" {
         names_len: usize,
         choice: u64,
         files: u64,
+        counties: *const u8,
+        counties_len: usize,
     ) -> u64;
 
     /// Reads a range of a file into the buffer; says in one byte how many machines were called. Value: the version read.
@@ -70,7 +73,8 @@ extern "C" {
         file: u64,
     ) -> u64;
 
-    /// Lays the patch over the file; says in one byte how many machines were called. Value: the new version.
+    /// Lays the patch over the file, by a club that it counts for on the sheet of 196 bytes; says in one byte how many machines were
+    /// called. Value: the new version.
     pub fn grid_write(
         table: *mut u8,
         table_len: usize,
@@ -82,16 +86,27 @@ extern "C" {
         called: *mut u8,
         called_len: usize,
         file: u64,
+        sheet: *mut u8,
+        sheet_len: usize,
+        club: u64,
     ) -> u64;
 
     /// Brings the stale copy of a file in row `to` up to the state of that in row `from`. Value: the version it then has.
     pub fn grid_send(table: *mut u8, table_len: usize, from: u64, to: u64, answering: u64, file: u64) -> u64;
 
-    /// Makes the answering rows the list in force. Value: the epoch number in force.
-    pub fn grid_check(table: *mut u8, table_len: usize, coordinator: u64, answering: u64) -> u64;
+    /// Makes the answering rows the list in force; where that changes it, the counts of the sheet become 0. Value: the epoch number
+    /// in force.
+    pub fn grid_check(
+        table: *mut u8,
+        table_len: usize,
+        coordinator: u64,
+        answering: u64,
+        sheet: *mut u8,
+        sheet_len: usize,
+    ) -> u64;
 
-    /// Joins a machine in the first unused row. Value: that row.
-    pub fn grid_join(table: *mut u8, table_len: usize, name: u16) -> u64;
+    /// Joins a machine of a county in the first unused row. Value: that row.
+    pub fn grid_join(table: *mut u8, table_len: usize, name: u16, county: u64) -> u64;
 
     /// Lists the smallest write quorums of a list of so many members with this grid mark. Value: how many.
     pub fn grid_chart(length: u64, mark: u64, list: *mut u8, list_len: usize) -> u64;
@@ -126,9 +141,9 @@ mod tests {
 
     #[test]
     #[should_panic(
-        expected = "has interface 9, and this wrapper needs 8: build archive and wrapper from one checkout"
+        expected = "has interface 11, and this wrapper needs 10: build archive and wrapper from one checkout"
     )]
     fn another_archive_is_refused() {
-        agree(9);
+        agree(11);
     }
 }

@@ -44,11 +44,11 @@ pub enum Refusal {
     NoSuchFile,
     /// 17: a chart of no member or of more than nine, or with a grid mark that no list of that length can have.
     NoChart,
-    /// 18: the club has made all its writes, or there is no such club. No call is refused by it yet.
+    /// 18: the club is at its ceiling, or there is no such club.
     NoMoreWrites,
-    /// 19: the club has made its own writes, and of those that the clubs share none is left. No call is refused by it yet.
+    /// 19: the club has made its assured writes, and of those that the clubs share none is left.
     NoneLeftToShare,
-    /// 20: a county is not one of 1 to 8, or there are not as many counties as names. No call is refused by it yet.
+    /// 20: a county is not one of 1 to 8, or there are not as many counties as names.
     BadCounties,
     /// A number that this wrapper has no name for: the archive is newer than the wrapper.
     Unknown(u32),
@@ -80,6 +80,7 @@ impl Refusal {
     ];
 
     /// Its number, as the library gave it.
+    #[must_use]
     pub fn number(self) -> u32 {
         match self {
             Refusal::Malformed => 1,
@@ -107,6 +108,7 @@ impl Refusal {
     }
 
     /// The refusal of this number; none for 0, which means done. A number without a name is kept as `Unknown`.
+    #[must_use]
     pub fn from_number(number: u32) -> Option<Refusal> {
         let named = Refusal::ALL.into_iter().find(|refusal| refusal.number() == number);
         (number != 0).then(|| named.unwrap_or(Refusal::Unknown(number)))
@@ -126,7 +128,10 @@ impl Refusal {
     /// );
     /// ```
     ///
-    /// Panics if the archive has another interface than this wrapper.
+    /// # Panics
+    ///
+    /// If the archive has another interface than this wrapper.
+    #[must_use]
     pub fn notice(self, call: Call, name: u16) -> Notice {
         Notice::of(call, name, self.number())
     }

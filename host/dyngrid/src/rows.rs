@@ -21,61 +21,85 @@ impl Rows {
     pub const EMPTY: Rows = Rows(0);
 
     /// The set with these bits: bit i - 1 stands for row i.
+    #[must_use]
     pub const fn from_bits(bits: u64) -> Rows {
         Rows(bits)
     }
 
     /// Its bits: bit i - 1 stands for row i.
+    #[must_use]
     pub const fn bits(self) -> u64 {
         self.0
     }
 
-    /// The set of these rows; `NoSuchRow` if one is not from 1 to 64.
+    /// The set of one row.
+    ///
+    /// # Errors
+    ///
+    /// `NoSuchRow` if it is not from 1 to 64.
+    pub fn one(row: usize) -> Result<Rows, Refusal> {
+        only(row).ok_or(Refusal::NoSuchRow)
+    }
+
+    /// The set of these rows.
+    ///
+    /// # Errors
+    ///
+    /// `NoSuchRow` if one is not from 1 to 64.
     pub fn of(rows: &[usize]) -> Result<Rows, Refusal> {
-        rows.iter().try_fold(Rows::EMPTY, |set, &row| Ok(set | only(row).ok_or(Refusal::NoSuchRow)?))
+        rows.iter().try_fold(Rows::EMPTY, |set, &row| Ok(set | Rows::one(row)?))
     }
 
     /// Rows 1 to `count`; all 64 if `count` is higher.
+    #[must_use]
     pub fn first(count: usize) -> Rows {
         Rows(if count < 64 { (1 << count) - 1 } else { u64::MAX })
     }
 
     /// Is the row in the set?
+    #[must_use]
     pub fn contains(self, row: usize) -> bool {
         only(row).is_some_and(|one| one.is_subset(self))
     }
 
     /// How many rows it has.
+    #[must_use]
     pub const fn len(self) -> usize {
         self.0.count_ones() as usize
     }
 
     /// Has it no row?
+    #[must_use]
     pub const fn is_empty(self) -> bool {
         self.0 == 0
     }
 
     /// The rows in one set or the other; also `|`.
+    #[must_use]
     pub const fn union(self, other: Rows) -> Rows {
         Rows(self.0 | other.0)
     }
 
     /// The rows in both sets; also `&`.
+    #[must_use]
     pub const fn intersection(self, other: Rows) -> Rows {
         Rows(self.0 & other.0)
     }
 
     /// The rows that are not in the other set; also `-`.
+    #[must_use]
     pub const fn difference(self, other: Rows) -> Rows {
         Rows(self.0 & !other.0)
     }
 
     /// Are all its rows in the other set?
+    #[must_use]
     pub const fn is_subset(self, other: Rows) -> bool {
         self.0 & !other.0 == 0
     }
 
     /// Its rows, lowest first.
+    #[must_use]
     pub const fn iter(self) -> RowsIter {
         RowsIter(self)
     }

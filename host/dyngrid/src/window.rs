@@ -3,7 +3,7 @@ use std::iter;
 use std::ops::Range;
 
 /// Where a copy has the index of the oldest record of its window.
-const OLDEST: usize = 1;
+pub const OLDEST: usize = 1;
 /// The records end the copy; each is the next younger one's index, the length, the offset, and the patch.
 const PLACES: usize = 16;
 const RECORD: usize = 36;
@@ -30,6 +30,7 @@ pub struct Patch<'a> {
 impl CopyView {
     /// The version from which on the window has every patch. A send from this copy to one of that version, or of a newer one,
     /// lays the missing patches and nothing else; to an older one it carries the whole file.
+    #[must_use]
     pub fn reaches_back_to(&self) -> u32 {
         self.version.saturating_sub(self.patches as u32)
     }
@@ -42,7 +43,7 @@ impl<'a> File<'a> {
     /// ```
     /// use dyngrid::{Patch, Rows, Shape, Table};
     ///
-    /// let mut table = Table::found(4, 64, &[10, 20, 30, 40], Shape::Wide)?;
+    /// let mut table = Table::found(4, 64, &[1, 2, 3, 4], Shape::Wide)?;
     /// table.file_mut(1).write(1, Rows::of(&[1, 2, 3])?, 0, b"1-0")?;
     /// table.file_mut(1).write(1, Rows::of(&[1, 2, 3])?, 8, b"1/2")?;
     /// let window = table.file(1).window(1);
@@ -53,6 +54,7 @@ impl<'a> File<'a> {
     /// assert_eq!((copy.version, copy.patches, copy.reaches_back_to()), (2, 2, 0));
     /// # Ok::<(), dyngrid::Refusal>(())
     /// ```
+    #[must_use]
     pub fn window(self, row: usize) -> Vec<Patch<'a>> {
         let (Some(view), Some(bytes)) = (self.copy(row), self.copy_bytes(row)) else { return Vec::new() };
         let versions = view.reaches_back_to() + 1..;
@@ -71,7 +73,7 @@ impl Table {
     /// ```
     /// use dyngrid::{Refusal, Rows, Shape, Table};
     ///
-    /// let before = Table::found(4, 4096, &[10, 20, 30, 40], Shape::Wide)?;
+    /// let before = Table::found(4, 4096, &[1, 2, 3, 4], Shape::Wide)?;
     /// let mut table = before.clone();
     /// table.file_mut(1).write(1, Rows::of(&[1, 2, 3])?, 100, b"1-0")?;
     ///
@@ -88,6 +90,7 @@ impl Table {
     /// assert_eq!(held, row);
     /// # Ok::<(), Refusal>(())
     /// ```
+    #[must_use]
     pub fn changed_ranges(&self, before: &Table, row: usize) -> Vec<Range<usize>> {
         let Some(now) = self.row_bytes(row) else { return Vec::new() };
         match before.row_bytes(row).filter(|then| then.len() == now.len()) {
@@ -100,13 +103,6 @@ impl Table {
 /// How many patches the window of a copy has.
 pub fn patches(copy: &[u8]) -> usize {
     records(copy).count()
-}
-
-/// Takes the patches out of the window of a copy.
-pub fn empty(copy: &mut [u8]) {
-    let records = copy.len() - RECORDS;
-    copy[OLDEST] = 0;
-    copy[records..].fill(0);
 }
 
 /// The records along the chain, older first.

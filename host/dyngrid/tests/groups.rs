@@ -220,7 +220,7 @@ fn foundings_of_so_many_files() {
 #[test]
 fn what_a_group_is_in_bytes() {
     let mut table = two_files();
-    assert_eq!(table.as_bytes()[..HEADER], [4, 4, 4, 1, 8, 0, 2, 0, 0, 0, 0, 0, 0, 0, 0, 0]);
+    assert_eq!(table.as_bytes()[..HEADER], [5, 4, 4, 1, 8, 0, 2, 0, 0, 0, 0, 0, 0, 0, 0, 0]);
     let [first, second] = [1, 2].map(|file| table.file(file).range().expect("a file of the group"));
     assert_eq!((first, second, row(&table, 1).len()), (32..32 + 596, 628..628 + 596, 1224));
     assert_eq!([1, 2].map(|file| table.file(file).contents_range()), [Some(44..52), Some(640..648)]);
@@ -229,7 +229,7 @@ fn what_a_group_is_in_bytes() {
     table.file_mut(2).write(1, rows(&[1, 2, 4]), 4, b"1:02").expect("a quorum answers");
     let head = |name: u8, link: u8| {
         let mut head = [0; HEAD];
-        (head[0], head[2], head[16]) = (name, link, 0b1111);
+        (head[0], head[2], head[16], head[26]) = (name, link, 0b1111, 1);
         head
     };
     for (number, link) in [(1, 2), (2, 3), (3, 4), (4, 0)] {

@@ -185,12 +185,12 @@ fn numbers_in_header(header: &str) -> Vec<u32> {
     list.lines().filter_map(number).collect()
 }
 
-/// Every number that is a refusal has its row in the README, in the header and in the wrapper, and no other number has one.
+/// Every number that is a refusal has its row in the page of the calls, in the header and in the wrapper, and no other number has one.
 #[test]
 fn the_tables_list_every_refusal_and_no_other_number() {
     let told: Vec<u32> = (0..=1_000).filter(|&number| is_refusal(number)).collect();
     assert_eq!(told, REFUSALS.collect::<Vec<_>>());
-    assert_eq!(numbers_in_page(include_str!("../../../README.md")), told);
+    assert_eq!(numbers_in_page(include_str!("../../../docs/CALLS.md")), told);
     let header = numbers_in_header(include_str!("../../include/dyngrid.h"));
     assert_eq!(header.split_first(), Some((&0, &told[..])), "0 is done");
     assert_eq!(Refusal::ALL.map(Refusal::number).to_vec(), told);
@@ -227,4 +227,31 @@ fn the_page_numbers_the_calls() {
     }
     assert_eq!(rows.len(), Call::ALL.len() + 1);
     assert_eq!(rows[Call::ALL.len()][2], "choice");
+}
+
+/// The lines of the page's tables of bytes: where a field begins, and its name in C.
+fn offsets_in_page(page: &str) -> Vec<(String, u32)> {
+    let offset = |line: &str| {
+        let cells: Vec<&str> = line.split('|').map(str::trim).collect();
+        let name =
+            cells.get(3)?.strip_prefix('`')?.strip_suffix('`').filter(|name| name.starts_with("GRID_AT_"))?;
+        let first = cells[2].trim_start_matches("from ").split(' ').next()?;
+        Some((name.to_string(), first.parse().expect("a byte")))
+    };
+    page.lines().filter_map(offset).collect()
+}
+
+/// The page and the header have the same offsets, in the same order.
+#[test]
+fn the_page_has_the_headers_offsets() {
+    let header = include_str!("../../include/dyngrid.h");
+    let (_, list) = header.split_once("enum grid_offsets {").expect("the offsets");
+    let (list, _) = list.split_once("};").expect("their end");
+    let offset = |line: &str| {
+        let (name, value) = line.trim().trim_end_matches(',').split_once(" = ")?;
+        Some((name.to_string(), value.parse().expect("an offset")))
+    };
+    let in_header: Vec<(String, u32)> = list.lines().filter_map(offset).collect();
+    assert!(in_header.len() > 15, "{in_header:?}");
+    assert_eq!(offsets_in_page(include_str!("../../../docs/CALLS.md")), in_header);
 }

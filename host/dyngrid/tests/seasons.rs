@@ -12,6 +12,7 @@ const HEAD: usize = 32;
 const COPY_HEAD: usize = 12;
 const RECORDS: usize = 576;
 const GRID_MARK: usize = 24;
+const COUNTY: usize = 26;
 
 struct Season {
     name: &'static str,
@@ -118,12 +119,21 @@ fn in_form_3(table: &Table) -> Form3Table {
     for row in rows.chunks(rows.len() / table.capacity()) {
         let (head, copy) = row.split_at(HEAD);
         let mut head = head.to_vec();
-        (head[3], head[25]) = (copy[0], copy[1]);
+        (head[3], head[25], head[COUNTY]) = (copy[0], copy[1], 0);
         head[4..12].copy_from_slice(&copy[4..COPY_HEAD]);
         bytes.extend_from_slice(&head);
         bytes.extend_from_slice(&copy[COPY_HEAD..]);
     }
     Form3Table::from_bytes(bytes).expect("the rules are the same")
+}
+
+/// The same rows in form 4, which had no counties.
+fn in_form_4(table: &Table) -> Vec<u8> {
+    let mut bytes = table.as_bytes().to_vec();
+    bytes[0] = 4;
+    let stride = (bytes.len() - HEADER) / table.capacity();
+    bytes[HEADER..].chunks_mut(stride).for_each(|row| row[COUNTY] = 0);
+    bytes
 }
 
 /// The same lists in the published grid, as a season before laid them.
@@ -237,7 +247,7 @@ fn a_table_of_an_older_form_is_told() {
         let error = Table::from_bytes(bytes.clone()).expect_err("an older form");
         assert_eq!((error.refusal(), error.older_form()), (Refusal::Malformed, Some(form)));
         let text = format!(
-            "{} bytes are a table of form {}, which no call but a move takes: found a new table, and write its file into that",
+            "{} bytes are a table of form {}, which no call but a move takes: found a new table, and write its files into that",
             bytes.len(),
             form.number()
         );
@@ -270,11 +280,24 @@ fn a_table_of_an_older_form_is_told() {
         }
     }
     assert_eq!(format!("{form_3:?}"), "Form3Table { length: 2512, .. }");
-    // A table of form 4 is none of form 3, and nothing carries it there.
+    // Tables of forms 4 and 5 are none of form 3, and nothing carries them there, or one to the other.
     let table = founded(OTHERS[0].parts()[0][0]);
-    assert_eq!(Form3Table::carry_up(table.as_bytes()), Err(Refusal::BadSize));
-    let error = Form3Table::from_bytes(table.into_bytes()).expect_err("form 4");
-    assert_eq!(error.older_form(), None);
+    let form_4 = in_form_4(&table);
+    for (bytes, older) in [(&form_4[..], Some(OlderForm::Four)), (table.as_bytes(), None)] {
+        assert_eq!(Form3Table::carry_up(bytes), Err(Refusal::BadSize));
+        let error = Form3Table::from_bytes(bytes.to_vec()).expect_err("no form 3");
+        assert_eq!(error.older_form(), older);
+    }
+    assert_eq!(form_3.carry_down(OlderForm::Four), Err(Refusal::BadSize));
+    let error = Table::from_bytes(form_4.clone()).expect_err("form 4");
+    assert_eq!((error.refusal(), error.older_form()), (Refusal::Malformed, Some(OlderForm::Four)));
+    assert!(error.to_string().ends_with("found a new table, and write its files into that"), "{error}");
+    // With the county of form 5 it is no table of form 4, and without it none of form 5.
+    for (form, county) in [(4, 1), (5, 0)] {
+        let mut bytes = form_4.clone();
+        (bytes[0], bytes[HEADER + COUNTY]) = (form, county);
+        assert_eq!(Table::from_bytes(bytes).map_err(|error| error.older_form()), Err(None));
+    }
 }
 
 /// Between two seasons a table of form 1 could have machines that joined: it is one of form 2 but for the first byte.
@@ -322,7 +345,7 @@ fn damaged_tables_are_refused() {
     assert!(carried > 500 && refused > 500, "{carried} {refused}");
 }
 
-/// As C calls it: 15 before 12, and a refusal leaves the second buffer. No table goes to form 4, or from it.
+/// As C calls it: 15 before 12, and a refusal leaves the second buffer. No table goes to form 4 or 5, or from them.
 #[test]
 fn moves_are_refused_by_number() {
     let five = founded(FIVE.parts()[0][0]);
@@ -331,9 +354,11 @@ fn moves_are_refused_by_number() {
     let [form_1, form_2] = [(&form_3, OlderForm::One), (&marked, OlderForm::Two)]
         .map(|(table, form)| table.carry_down(form).expect("the form holds it"));
     let (short, long) = (form_1.len(), form_3.as_bytes().len());
-    let tables = [&form_1, &form_2, form_3.as_bytes(), marked.as_bytes(), newest.as_bytes(), five.as_bytes()];
+    let [plain_4, marked_4] = [&newest, &five].map(in_form_4);
+    let newer = [newest.as_bytes(), five.as_bytes(), &plain_4, &marked_4];
+    let tables = [[&form_1, &form_2, form_3.as_bytes(), marked.as_bytes()], newer].concat();
     for form in [0, 1, 2, 3, 4, 5, 6, 255, 256 + 3, (1 << 32) + 3, u64::MAX] {
-        for (which, table) in (0..).zip(tables) {
+        for (which, &table) in (0..).zip(&tables) {
             for length in [0, short - 1, short, short + 1, long - 1, long, long + 1, newest.as_bytes().len()]
             {
                 let mut to = vec![0xa5; length];
@@ -343,7 +368,7 @@ fn moves_are_refused_by_number() {
                 let goes = matches!((table[0], form, length), (1 | 2, 3, length) if length == long)
                     || matches!((table[0], form, length), (3, 1 | 2, length) if length == short);
                 let expected: u64 = match (which, form) {
-                    (1 | 3 | 5, 1) => 15 << 32,
+                    (1 | 3 | 5 | 7, 1) => 15 << 32,
                     _ if goes => 5,
                     _ => 12 << 32,
                 };

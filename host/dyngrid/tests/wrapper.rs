@@ -4,6 +4,15 @@ use dyngrid::{chart, Done, Kind, NotAssembled, Refusal, Refused, Rows, Shape, Ta
 
 /// The bytes of a row with a copy of one file of 4 bytes.
 const ROW: usize = 32 + 588 + 4;
+/// Where a row has its county.
+const COUNTY: usize = 26;
+
+/// The bytes behind name and link of a row of county 1 that is zero otherwise.
+fn bare() -> [u8; ROW - 3] {
+    let mut bytes = [0; ROW - 3];
+    bytes[COUNTY - 3] = 1;
+    bytes
+}
 
 /// The version, or the refusal, of a read or write.
 fn version_of(answer: Result<Done, Refused>) -> Result<u32, Refusal> {
@@ -212,7 +221,7 @@ fn a_row_is_what_its_machine_holds() {
     assert_eq!((table.row_bytes(0), table.row_bytes(5)), (None, None));
 }
 
-/// With any rows it is the whole table, but that the others are zero behind name and link; a frame is what all of them share.
+/// With any rows it is the whole table, but that the others are zero besides name, link and county; a frame is what all of them share.
 #[test]
 fn a_table_is_assembled_from_the_rows_that_answered() {
     let mut table = Table::found(6, 4, &[10, 20, 30, 40], Shape::Wide).expect("a plain founding");
@@ -226,7 +235,7 @@ fn a_table_is_assembled_from_the_rows_that_answered() {
         assert_eq!(
             Table::assemble(&table, rows),
             Ok(assembled.clone()),
-            "only header, names and links count"
+            "only header, names, links and counties count"
         );
         assert_eq!(assembled.as_bytes()[..16], table.as_bytes()[..16]);
         for row in table.rows() {
@@ -234,7 +243,7 @@ fn a_table_is_assembled_from_the_rows_that_answered() {
             if answering.contains(row) {
                 assert_eq!(whole, part);
             } else {
-                assert_eq!((&part[..3], &part[3..]), (&whole[..3], &[0; ROW - 3][..]));
+                assert_eq!((&part[..3], &part[3..]), (&whole[..3], &bare()[..]));
             }
         }
         assert_eq!(assembled.as_bytes()[16 + ROW * table.used()..], [0; ROW]);
@@ -268,9 +277,10 @@ fn rows_that_do_not_fit_are_told() {
     two.1[16] = 0b0011;
     let refused = assemble(vec![one, two]).expect_err("two lists in one epoch");
     assert!(matches!(&refused, NotAssembled::Malformed(error) if error.refusal() == Refusal::Malformed));
-    assert!(refused
-        .to_string()
-        .starts_with("the rows do not fit together: 2512 bytes are no table: refused by 1"));
+    assert_eq!(
+        refused.to_string(),
+        "the rows do not fit together: take the newest frame; if that is not it, leave out one machine after the other"
+    );
     assert_eq!(Refusal::from(refused), Refusal::Malformed);
     assert_eq!(Refusal::from(NotAssembled::NoSuchRow { row: 7 }), Refusal::NoSuchRow);
     assert_eq!(assemble(Vec::new()), Ok(table.frame()));
@@ -371,16 +381,12 @@ fn a_joining_links_the_row_in_name_order() {
     assert_eq!([40, 10, 25].map(|name| table.join(name)), [Ok(3), Ok(4), Ok(5)]);
     assert_eq!((table.used(), table.rows()), (5, Rows::first(5)));
     let bytes = table.as_bytes();
-    assert_eq!(bytes[..4], [4, 5, 5, 4], "form 4, and the chain begins with row 4");
+    assert_eq!(bytes[..4], [5, 5, 5, 4], "form 5, and the chain begins with row 4");
     let names_and_links = table.rows().iter().map(|row| table.row_bytes(row).expect("in use")[..3].to_vec());
     let expected = [[20, 0, 5], [30, 0, 3], [40, 0, 0], [10, 0, 1], [25, 0, 2]];
     assert_eq!(names_and_links.collect::<Vec<_>>(), expected);
     for row in [3, 4, 5] {
-        assert_eq!(
-            table.row_bytes(row).map(|row| &row[3..]),
-            Some(&[0; ROW - 3][..]),
-            "zero otherwise, the list too"
-        );
+        assert_eq!(table.row_bytes(row).map(|row| &row[3..]), Some(&bare()[..]), "the list too");
     }
 }
 

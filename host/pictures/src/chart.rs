@@ -1,4 +1,4 @@
-//! A line chart.
+//! A chart in steps.
 
 use crate::measure::Sizes;
 use pictures::svg::{line, open, text, Paper};
@@ -18,18 +18,21 @@ const LIGHT: &str = ".grid { stroke: #d8dee4; stroke-width: 1 }
 .majority { stroke: #bc4c00; stroke-dasharray: 7 4 }
 .write { stroke: #0969da }
 .read { stroke: #1a7f37; stroke-dasharray: 2 3 }
-.tall { stroke: #8250df }";
+.tall { stroke: #8250df }
+.from { stroke: #59636e; stroke-width: 1; stroke-dasharray: 3 3 }";
 const DARK: &str = ".grid { stroke: #30363d }
 .axis { stroke: #9198a1 }
 .majority { stroke: #f0883e }
 .write { stroke: #58a6ff }
 .read { stroke: #3fb950 }
-.tall { stroke: #bc8cff }";
+.tall { stroke: #bc8cff }
+.from { stroke: #9198a1 }";
 
 pub fn svg(wide: &[Sizes], tall: &[Sizes]) -> String {
     let mut svg = open(WIDTH, HEIGHT, "Machines called", Paper::Page, LIGHT, DARK);
     text(&mut svg, LEFT, 30.0, "title", "start", "Machines called by one coordinator, all answering");
     axes(&mut svg);
+    mark(&mut svg, fewer_from(wide));
     series(&mut svg, "majority", wide, |sizes| sizes.machines / 2 + 1);
     series(&mut svg, "write", wide, |sizes| sizes.write.most);
     series(&mut svg, "tall", tall, |sizes| sizes.read.most);
@@ -69,10 +72,30 @@ fn axes(svg: &mut String) {
     );
 }
 
+/// The length from which on every write calls fewer than a majority.
+fn fewer_from(sizes: &[Sizes]) -> usize {
+    let not_fewer = |sizes: &&Sizes| sizes.write.most > sizes.machines / 2;
+    sizes.iter().rev().find(not_fewer).map_or(1, |sizes| sizes.machines + 1)
+}
+
+fn mark(svg: &mut String, machines: usize) {
+    // Between two lengths, where the step is.
+    let at = x(machines) - (x(1) - x(0)) / 2.0;
+    line(svg, &format!("<path class=\"from\" d=\"M{at:.1} {:.1}V{:.1}\"/>", y(0), y(16)));
+    let words = format!("from {machines} machines on a write calls fewer than a majority");
+    text(svg, at + 6.0, y(1) + 2.0, "tick", "start", &words);
+}
+
+/// A step for each length, around it.
 fn series(svg: &mut String, class: &str, sizes: &[Sizes], called: fn(&Sizes) -> usize) {
-    let points: Vec<String> =
-        sizes.iter().map(|sizes| format!("{:.1},{:.1}", x(sizes.machines), y(called(sizes)))).collect();
-    line(svg, &format!("<polyline class=\"line {class}\" points=\"{}\"/>", points.join(" ")));
+    let half = (x(1) - x(0)) / 2.0;
+    let mut path = String::new();
+    for (place, sizes) in sizes.iter().enumerate() {
+        let (from, to, at) = (x(sizes.machines) - half, x(sizes.machines) + half, y(called(sizes)));
+        let begin = if place == 0 { format!("M{from:.1} {at:.1}") } else { format!("V{at:.1}") };
+        path.push_str(&format!("{begin}H{to:.1}"));
+    }
+    line(svg, &format!("<path class=\"line {class}\" d=\"{path}\"/>"));
 }
 
 fn legend(svg: &mut String) {
@@ -94,5 +117,24 @@ fn legend(svg: &mut String) {
         let at = TOP + 20.0 + 24.0 * index as f64;
         line(svg, &format!("<path class=\"line {class}\" d=\"M{:.1} {at:.1}h36\"/>", LEFT + 24.0));
         text(svg, LEFT + 70.0, at + 5.0, "entry", "start", words);
+    }
+}
+
+#[cfg(test)]
+mod tests {
+    use super::*;
+    use crate::measure;
+    use dyngrid::Shape;
+
+    /// README.md says so, too.
+    #[test]
+    fn a_write_calls_fewer_than_a_majority_from_14_machines_on() {
+        for shape in [Shape::Wide, Shape::Tall] {
+            let sizes: Result<Vec<Sizes>, _> =
+                (1..=64).map(|machines| measure::sizes(machines, shape)).collect();
+            assert_eq!(fewer_from(&sizes.expect("no refusal")), 14);
+        }
+        let page = include_str!("../../../README.md");
+        assert!(page.contains("fewer only from 14 on"));
     }
 }

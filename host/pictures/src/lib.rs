@@ -1,3 +1,4 @@
 //! What pictures of this repository are drawn with.
 
+pub mod small_grid;
 pub mod svg;

@@ -1,9 +1,12 @@
-//! Shows how many machines one coordinator calls for a read and for a write and which losses are borne, and the smallest
-//! write quorums of short lists and the notices of refusals, as the library itself tells it, and the crates with what they stand
-//! on. Writes QUORUMS.md, quorums.svg, CHART.md, chart.svg, NOTICES.md and rooms.svg into the folder docs of the repository that it
-//! is given.
+//! Shows how many machines one coordinator calls for a read and for a write and which losses are borne, within one county and
+//! by machines of several, and the smallest write quorums of short lists and the notices of refusals, as the library itself tells it,
+//! and the crates with what they stand on. Writes QUORUMS.md, quorums.svg, COUNTIES.md, counties.svg, CHART.md, chart.svg,
+//! NOTICES.md and rooms.svg into the folder docs of the repository that it is given.
 
 mod chart;
+mod counties;
+mod counties_page;
+mod counties_picture;
 mod layers;
 mod measure;
 mod notices;
@@ -39,13 +42,15 @@ fn draw(root: &Path) -> Result<(), Box<dyn std::error::Error>> {
     let (wide, tall) = (wide?, sizes_of(Shape::Tall)?);
     std::fs::write(folder.join("QUORUMS.md"), document(&wide, &tall)?)?;
     std::fs::write(folder.join("quorums.svg"), chart::svg(&wide, &tall))?;
+    std::fs::write(folder.join("COUNTIES.md"), counties_page::document()?)?;
+    std::fs::write(folder.join("counties.svg"), counties_picture::svg()?)?;
     let charts = smallest::all()?;
     std::fs::write(folder.join("CHART.md"), wall_page::document(&charts)?)?;
     std::fs::write(folder.join("chart.svg"), wall::svg(&charts))?;
     std::fs::write(folder.join("NOTICES.md"), notices::document())?;
     std::fs::write(folder.join("rooms.svg"), rooms::svg(root)?)?;
     println!(
-        "pictures: wrote QUORUMS.md, quorums.svg, CHART.md, chart.svg, NOTICES.md and rooms.svg to {}",
+        "pictures: wrote QUORUMS.md, quorums.svg, COUNTIES.md, counties.svg, CHART.md, chart.svg, NOTICES.md and rooms.svg to {}",
         folder.display()
     );
     Ok(())
@@ -62,7 +67,8 @@ fn document(wide: &[Sizes], tall: &[Sizes]) -> Result<String, Refusal> {
          \x20 a check by them takes it out of the list.\n\
          - Three bear the loss of the first or the third, and not of the second.\n\
          - Two machines bear no loss, nor does one. (In a tall table either of two reads on alone, but nobody writes.)\n\n\
-         This holds of wide tables and of tall ones.\n\n\
+         This holds of wide tables and of tall ones. All machines are of one county here; [COUNTIES.md](COUNTIES.md) tells of several, which\n\
+         bear less.\n\n\
          ## Wide or tall\n\n\
          A founding chooses. A tall list lies in the published grid with rows and columns exchanged wherever that has one row less than columns.\n\
          Fewer columns make reads cheaper: there a read calls one machine less than in a wide table (of five no less, for these lie in three\n\

@@ -46,9 +46,18 @@ impl Sizes {
         } else if self.borne.is_empty() {
             "no".into()
         } else {
-            let fatal: Vec<String> = fatal.iter().map(|row| row.to_string()).collect();
-            format!("of any but {}", fatal.join(" and "))
+            format!("of any but {}", named(fatal))
         }
+    }
+}
+
+/// As "2 and 4".
+pub fn named(rows: Rows) -> String {
+    let rows: Vec<String> = rows.iter().map(|row| row.to_string()).collect();
+    match rows.split_last() {
+        Some((last, [])) => last.clone(),
+        Some((last, others)) => format!("{} and {last}", others.join(", ")),
+        None => "none".into(),
     }
 }
 
@@ -102,11 +111,17 @@ fn marked(machines: usize, mark: u8) -> Result<Table, Refusal> {
 }
 
 fn founded(machines: usize, shape: Shape) -> Result<Table, Refusal> {
-    let names: Vec<u16> = (1..=machines as u16).collect();
-    Table::found(machines, FILE_LEN, &names, shape)
+    founded_in(&vec![1; machines], shape)
 }
 
-fn measured(founded: &Table) -> Result<Sizes, Refusal> {
+/// A founded table of machines of these counties.
+pub fn founded_in(counties: &[u8], shape: Shape) -> Result<Table, Refusal> {
+    let names: Vec<u16> = (1..=counties.len() as u16).collect();
+    Table::found_counties(counties.len(), FILE_LEN, &names, shape, 1, counties)
+}
+
+/// Of the machines of a founded table.
+pub fn measured(founded: &Table) -> Result<Sizes, Refusal> {
     let machines = founded.used();
     let mut reads = Vec::new();
     let mut writes = Vec::new();
@@ -114,7 +129,13 @@ fn measured(founded: &Table) -> Result<Sizes, Refusal> {
         reads.push(read(&mut founded.clone(), coordinator, founded.rows())?);
         writes.push(write(&mut founded.clone(), coordinator, founded.rows())?);
     }
-    Ok(Sizes { machines, read: range(&reads), write: range(&writes), borne: borne(founded)? })
+    let borne = borne(founded, &[check, write])?;
+    Ok(Sizes { machines, read: range(&reads), write: range(&writes), borne })
+}
+
+/// The machines without each of which the others read on.
+pub fn read_on(founded: &Table) -> Result<Rows, Refusal> {
+    borne(founded, &[read])
 }
 
 /// A call by a machine that so many answer; gives how many were called.
@@ -133,13 +154,12 @@ fn check(table: &mut Table, coordinator: usize, answering: Rows) -> Result<usize
     table.check(coordinator, answering).map(|_| table.used())
 }
 
-/// The machines without each of which all the others hold a write quorum: whoever of them calls, a check by them is done, and
-/// so is a write.
-fn borne(founded: &Table) -> Result<Rows, Refusal> {
+/// The machines without each of which all the others hold a quorum: whoever of them calls, the attempts are done.
+fn borne(founded: &Table, attempts: &[Attempt]) -> Result<Rows, Refusal> {
     let mut borne = Rows::EMPTY;
     for lost in founded.rows() {
         let lost = Rows::of(&[lost])?;
-        if all_done(founded, founded.rows() - lost, &[check, write])? {
+        if all_done(founded, founded.rows() - lost, attempts)? {
             borne |= lost;
         }
     }

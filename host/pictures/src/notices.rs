@@ -13,7 +13,7 @@ pub fn document() -> String {
          coordinator; of another call it has that call's number and word, and is the same otherwise. Reads, writes, checks and rounds show the\n\
          coordinator's name, all others 0. [CALLS.md](CALLS.md) tells the numbers of the calls, and where in a sentence the figures stand.\n\n\
          `grid_notice(call, name, number, buffer, buffer_len)` composes them, in Rust `Refusal::notice(call, name)`. This page comes from it:\n\
-         `make pictures` makes it anew, and a test compares. No call is refused by 18, 19 or 20 yet.\n\n\
+         `make pictures` makes it anew, and a test compares.\n\n\
          | number | notice |\n\
          |---:|---|\n",
     );

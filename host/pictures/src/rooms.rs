@@ -9,8 +9,9 @@ const BOX_WIDTH: f64 = 100.0;
 const BOX_HEIGHT: f64 = 30.0;
 const WIDTHS: Widths = Widths { shown: BOX_WIDTH, gap: 8.0, space: 16.0 };
 const STEP_Y: f64 = 76.0;
-/// Between two lines that leave a box.
+/// Between two lines that leave a box, and between the outermost of them and its corners.
 const STEP_LINE: f64 = 16.0;
+const CORNER: f64 = 6.0;
 const MARGIN: f64 = 24.0;
 const TOP: f64 = 100.0;
 
@@ -72,7 +73,7 @@ pub fn svg(root: &Path) -> Result<String, Box<dyn std::error::Error>> {
 fn draw_lines(svg: &mut String, places: &[Place], upper: &Place, start: f64) {
     let mut ends: Vec<f64> = upper.below.iter().map(|&lower| places[lower].x).collect();
     ends.sort_by(f64::total_cmp);
-    let step = if upper.shown.is_some() { STEP_LINE } else { 0.0 };
+    let step = if upper.shown.is_some() { step(ends.len()) } else { 0.0 };
     let end = start + STEP_Y - BOX_HEIGHT;
     let middle = (start + end) / 2.0;
     for (at, x) in ends.iter().enumerate() {
@@ -85,9 +86,16 @@ fn draw_lines(svg: &mut String, places: &[Place], upper: &Place, start: f64) {
     }
 }
 
+/// Between so many lines that leave a box: the widest that keeps them all within it.
+fn step(lines: usize) -> f64 {
+    STEP_LINE.min((BOX_WIDTH - 2.0 * CORNER) / lines.saturating_sub(1).max(1) as f64)
+}
+
 fn read(root: &Path) -> Result<Vec<Room>, Box<dyn std::error::Error>> {
     let listed = std::fs::read_to_string(root.join("crates.txt"))?;
-    let lines: Vec<(&str, &str)> = listed.lines().filter_map(|line| line.split_once(':')).collect();
+    // A line that begins with # is a heading.
+    let crates = listed.lines().filter(|line| !line.starts_with('#'));
+    let lines: Vec<(&str, &str)> = crates.filter_map(|line| line.split_once(':')).collect();
     let index: BTreeMap<&str, usize> = lines.iter().enumerate().map(|(at, (name, _))| (*name, at)).collect();
     lines
         .iter()
@@ -137,4 +145,18 @@ fn direct(rooms: &[Room], room: &Room) -> BTreeSet<usize> {
         }
     }
     room.needs.difference(&further).copied().collect()
+}
+
+#[cfg(test)]
+mod tests {
+    use super::*;
+
+    #[test]
+    fn no_line_begins_outside_its_box() {
+        for lines in 1..=64 {
+            let width = step(lines) * (lines - 1) as f64;
+            assert!(width <= BOX_WIDTH - 2.0 * CORNER + 1e-9, "{lines} lines");
+        }
+        assert_eq!(step(2), STEP_LINE);
+    }
 }

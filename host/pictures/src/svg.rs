@@ -1,4 +1,4 @@
-//! A picture in SVG, readable on light and dark pages.
+//! A picture in SVG, readable on light and dark screens; it is printed light.
 
 use std::fmt::Write;
 
@@ -8,7 +8,7 @@ pub enum Paper {
     A4,
 }
 
-/// The start of a picture: its size, what it shows, its styles on light pages and where they differ on dark ones.
+/// The start of a picture: its size, what it shows, its styles, and where they differ on dark screens.
 pub fn open(width: f64, height: f64, shows: &str, paper: Paper, light: &str, dark: &str) -> String {
     let size = match paper {
         Paper::Page => "",
@@ -27,7 +27,7 @@ pub fn open(width: f64, height: f64, shows: &str, paper: Paper, light: &str, dar
     {
         line(&mut svg, &format!("  {}", style.trim()));
     }
-    line(&mut svg, "  @media (prefers-color-scheme: dark) {");
+    line(&mut svg, "  @media screen and (prefers-color-scheme: dark) {");
     for style in ["text { fill: #e6edf3 }", ".panel { fill: #0d1117 }"].into_iter().chain(dark.lines()) {
         line(&mut svg, &format!("    {}", style.trim()));
     }

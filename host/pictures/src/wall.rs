@@ -1,7 +1,8 @@
 //! Draws the wall chart: one sheet with a small grid for each smallest write quorum.
 
 use crate::smallest::Charted;
-use pictures::svg::{line, open, text, Paper};
+use pictures::small_grid::{self, Cells, LEGEND};
+use pictures::svg::{open, text, Paper};
 
 /// A quarter of a millimetre each on A4.
 const WIDTH: f64 = 840.0;
@@ -9,40 +10,29 @@ const HEIGHT: f64 = 1188.0;
 const MARGIN: f64 = 40.0;
 /// Where the first panel begins.
 const TOP: f64 = 154.0;
-const CELL: f64 = 17.0;
-/// From a cell to the next one.
-const PITCH: f64 = 19.0;
-/// Between two small grids, and between two groups of them, side by side and one below the other.
+const CELLS: Cells = Cells { width: 16.5, height: 16.5, gap: 2.0 };
+/// Between two small grids side by side, and between two lines of them.
 const GAP: f64 = 14.0;
-const GROUP_GAP: f64 = 30.0;
-const LINE_GAP: f64 = 11.0;
-/// A panel's title and marks above its small grids.
+const LINE_GAP: f64 = 8.0;
+/// A panel's title, and the tables it is for, above its small grids.
 const HEAD: f64 = 34.0;
 /// Between two panels side by side, and one below the other.
 const PANEL_GAP: f64 = 24.0;
-const BELOW: f64 = 16.0;
+const BELOW: f64 = 10.0;
 /// Widths of a letter, with room to spare.
 const TITLE_LETTER: f64 = 8.6;
-const MARKS_LETTER: f64 = 6.8;
+const TABLES_LETTER: f64 = 6.8;
 
 const LIGHT: &str = ".sheet { font-size: 27px; font-weight: 700 }
 .lead { font-size: 14.5px }
 .head { font-size: 15px; font-weight: 700 }
-.marks { font-size: 12px; fill: #59636e }
-.whole { fill: #0b4f9e }
-.one { fill: #a33a00 }
-.off { fill: none; stroke: #8c959f; stroke-width: 1 }
-.number { font-size: 12px; font-weight: 700; fill: #ffffff }
-.spare { font-size: 11px; fill: #6e7781 }";
-const DARK: &str = ".marks, .spare { fill: #9198a1 }
-.whole { fill: #79b8ff }
-.one { fill: #ffa657 }
-.off { stroke: #656c76 }
-.number { fill: #0d1117 }";
+.tables { font-size: 12px; fill: #59636e }";
+const DARK: &str = ".tables { fill: #9198a1 }";
 
 pub fn svg(charts: &[Charted]) -> String {
     let shows = "Every smallest write quorum of one to nine machines";
-    let mut svg = open(WIDTH, HEIGHT, shows, Paper::A4, LIGHT, DARK);
+    let (light, dark) = (format!("{LIGHT}\n{}", small_grid::LIGHT), format!("{DARK}\n{}", small_grid::DARK));
+    let mut svg = open(WIDTH, HEIGHT, shows, Paper::A4, &light, &dark);
     text(&mut svg, MARGIN, 58.0, "sheet", "start", "Which machines are enough for a write");
     let lead = [
         "Every smallest write quorum of one to nine machines. Take the panel with as many machines as the",
@@ -60,46 +50,12 @@ pub fn svg(charts: &[Charted]) -> String {
 }
 
 fn legend(svg: &mut String, y: f64) {
-    let entries = [
-        (Look::Whole, "must be on: a whole column"),
-        (Look::One, "must be on: one of each other column"),
-        (Look::Off, "may be off"),
-    ];
     let widths = [262.0, 334.0, 0.0];
     let mut x = MARGIN;
-    for ((look, words), width) in entries.into_iter().zip(widths) {
-        cell(svg, x, y - 13.0, look, None);
-        text(svg, x + CELL + 7.0, y, "lead", "start", words);
+    for ((look, words), width) in LEGEND.into_iter().zip(widths) {
+        CELLS.cell(svg, (x, y - 13.0), look, "");
+        text(svg, x + CELLS.width + 7.0, y, "lead", "start", words);
         x += width;
-    }
-}
-
-/// How a machine looks in a small grid: filled squares and discs must be on.
-#[derive(Clone, Copy)]
-enum Look {
-    Whole,
-    One,
-    Off,
-}
-
-fn cell(svg: &mut String, x: f64, y: f64, look: Look, number: Option<usize>) {
-    let half = CELL / 2.0;
-    let (middle_x, middle_y) = (x + half, y + half);
-    line(
-        svg,
-        &match look {
-            Look::Whole => format!("<rect class=\"whole\" x=\"{x:.1}\" y=\"{y:.1}\" width=\"{CELL}\" height=\"{CELL}\" rx=\"1.5\"/>"),
-            Look::One => format!("<circle class=\"one\" cx=\"{middle_x:.1}\" cy=\"{middle_y:.1}\" r=\"{half}\"/>"),
-            Look::Off => {
-                let side = CELL - 1.0;
-                let (x, y) = (x + 0.5, y + 0.5);
-                format!("<rect class=\"off\" x=\"{x:.1}\" y=\"{y:.1}\" width=\"{side}\" height=\"{side}\" rx=\"1.5\"/>")
-            }
-        },
-    );
-    if let Some(number) = number {
-        let class = if let Look::Off = look { "spare" } else { "number" };
-        text(svg, middle_x, middle_y + 4.2, class, "middle", &number.to_string());
     }
 }
 
@@ -119,10 +75,9 @@ fn panels(charts: &[Charted]) -> Vec<Panel<'_>> {
     let mut panels: Vec<Panel> = Vec::new();
     let (mut x, mut y, mut highest) = (MARGIN, TOP, 0.0_f64);
     for charted in charts {
-        let mut panel = Panel::within(charted, WIDTH - MARGIN - x);
+        let mut panel = Panel::of(charted);
         if x + panel.width > WIDTH - MARGIN {
             (x, y, highest) = (MARGIN, y + highest, 0.0);
-            panel = Panel::within(charted, WIDTH - MARGIN - x);
         }
         (panel.x, panel.y) = (x, y);
         x += panel.width + PANEL_GAP;
@@ -133,51 +88,35 @@ fn panels(charts: &[Charted]) -> Vec<Panel<'_>> {
 }
 
 impl Panel<'_> {
-    /// Lays the small grids into lines of this width, a group that has one column whole in one line.
-    fn within(charted: &Charted, room: f64) -> Panel<'_> {
-        let (wide, high) = (extent(charted.columns), extent(charted.rows()));
+    /// Lays the small grids, those that have one column whole in one line.
+    fn of(charted: &Charted) -> Panel<'_> {
+        let (wide, high) = CELLS.extent(&charted.grid);
         let mut grids = Vec::new();
-        let (mut x, mut y, mut width) = (0.0, HEAD, 0.0_f64);
-        for group in charted.by_column() {
-            let group_width = group.len() as f64 * (wide + GAP) - GAP;
-            if x > 0.0 && x + group_width > room {
-                (x, y) = (0.0, y + high + LINE_GAP);
-            }
+        let (mut y, mut width) = (HEAD, 0.0_f64);
+        for group in charted.grid.by_column(&charted.quorums) {
+            let mut x = 0.0;
             for quorum in group {
                 grids.push((x, y, quorum));
+                width = width.max(x + wide);
                 x += wide + GAP;
             }
-            width = width.max(x - GAP);
-            x += GROUP_GAP - GAP;
+            y += high + LINE_GAP;
         }
         let title = charted.title().chars().count() as f64 * TITLE_LETTER;
-        let marks = charted.marks_shown().chars().count() as f64 * MARKS_LETTER;
-        let height = y + high + BELOW;
-        Panel { charted, x: 0.0, y: 0.0, width: width.max(title).max(marks), height, grids }
+        let tables = charted.tables().chars().count() as f64 * TABLES_LETTER;
+        let height = y - LINE_GAP + BELOW;
+        Panel { charted, x: 0.0, y: 0.0, width: width.max(title).max(tables), height, grids }
     }
 
     fn draw(&self, svg: &mut String) {
         let Panel { charted, x, y, .. } = *self;
         text(svg, x, y + 12.0, "head", "start", &charted.title());
-        text(svg, x, y + 28.0, "marks", "start", &charted.marks_shown());
+        text(svg, x, y + 28.0, "tables", "start", charted.tables());
         for &(grid_x, grid_y, quorum) in &self.grids {
-            for position in 1..=charted.machines {
-                let (row, column) = charted.place(position);
-                let look = match quorum >> (position - 1) & 1 {
-                    0 => Look::Off,
-                    _ if charted.in_whole_column(quorum, position) => Look::Whole,
-                    _ => Look::One,
-                };
-                let (cell_x, cell_y) = (x + grid_x + PITCH * column as f64, y + grid_y + PITCH * row as f64);
-                cell(svg, cell_x, cell_y, look, Some(position));
-            }
+            CELLS
+                .draw(svg, (x + grid_x, y + grid_y), &charted.grid, quorum, &|position| position.to_string());
         }
     }
-}
-
-/// The length of so many cells in a line.
-fn extent(cells: usize) -> f64 {
-    PITCH * cells as f64 - (PITCH - CELL)
 }
 
 #[cfg(test)]
@@ -194,7 +133,7 @@ mod tests {
         // Corners of the small grids, and of the heads.
         let mut boxes = Vec::new();
         for Panel { charted, x, y, grids, width, .. } in &panels {
-            let (wide, high) = (extent(charted.columns), extent(charted.rows()));
+            let (wide, high) = CELLS.extent(&charted.grid);
             boxes.push((*x, *y, x + width, y + HEAD - 4.0));
             boxes.extend(
                 grids.iter().map(|(left, top, _)| (x + left, y + top, x + left + wide, y + top + high)),

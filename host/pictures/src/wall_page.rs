@@ -22,7 +22,8 @@ pub fn document(charts: &[Charted]) -> Result<String, Refusal> {
          The numbers are places in name order: of the list's machines, 1 is the one with the lowest name. A machine that joined, and that no check\n\
          has taken in yet, has no place.\n\n\
          ## When machines are off\n\n\
-         1. Count the machines of the list in force, also those that are off, and take the panel with this number.\n\
+         1. Count the machines of the list in force, also those that are off, and take the panel with this number that says how the table was\n\
+         \x20  founded: wide or tall (as published: a list of five from a table of form 1).\n\
          2. Look for a small grid none of whose filled machines is off. If there is one, the machines that are on can write and check, as long as\n\
          \x20  one of them has every done write (otherwise the call is refused by 7).\n\
          3. Then check with those that are on: they become the list. From now on the panel with their number counts, with places in name\n\
@@ -37,13 +38,15 @@ pub fn document(charts: &[Charted]) -> Result<String, Refusal> {
          |---:|---|---|\n\
          | 0 | published | in a wide table, all but those of five; of five, those laid before form 2, until they are laid anew |\n\
          | 1 | five in 3 rows and 2 columns | in a wide table, those of five |\n\
-         | 2 | tall | in a tall table, all |\n\n\
-         A row that joined has an empty list until a check takes it in: mark 0, and no chart.\n\n\
+         | 2 | tall | in a tall table, all |\n\
+         | 3 | on two levels | in a wide table, those of several counties |\n\n\
+         A row that joined has an empty list until a check takes it in: mark 0, and no chart. Nor has a list of several counties a chart, in a\n\
+         wide table or in a tall one: [COUNTIES.md](COUNTIES.md) tells of these.\n\n\
          ## The numbers\n\n\
          `grid_chart(length, mark, list, list_len)`, in Rust `dyngrid::chart(length, mark)`, lists the sets as numbers, bit k − 1 for place k. Other\n\
          lengths and marks than these are refused by 17. The chart and this table come from these calls; `make pictures` makes both anew.\n\n\
-         | machines | mark | rows × columns | small grids | machines filled | sets |\n\
-         |---|---|---|---:|---|---|\n",
+         | machines | in tables | mark | rows × columns | small grids | machines filled | sets |\n\
+         |---|---|---|---|---:|---|---|\n",
         nine.len()
     );
     for charted in charts {
@@ -53,11 +56,12 @@ pub fn document(charts: &[Charted]) -> Result<String, Refusal> {
         let sets: Vec<String> = charted.quorums.iter().map(u16::to_string).collect();
         writeln!(
             text,
-            "| {} | {} | {} × {} | {} | {filled} | {} |",
+            "| {} | {} | {} | {} × {} | {} | {filled} | {} |",
             charted.title(),
-            charted.marks_shown().trim_start_matches("marks ").trim_start_matches("mark "),
-            charted.rows(),
-            charted.columns,
+            charted.tables(),
+            charted.marks_shown(),
+            charted.grid.rows(),
+            charted.grid.columns,
             sets.len(),
             sets.join(", ")
         )

@@ -2,8 +2,11 @@
 
 use crate::engine::Transfer;
 use crate::rows::{self, Order};
+use crate::sheet::{self, Sheet};
 use crate::window::{self, Window, LONGEST_PATCH};
-use crate::{Laid, Layout, Quorum, Row, Rules, Shape, Table, HEADER, ROW_HEADER};
+use crate::{
+    Counties, Grid, Laid, Layout, Quorum, Row, Rules, Shape, Table, COUNTY, HEADER, ROW_HEADER, SEVERAL,
+};
 
 #[derive(Clone, Copy, Debug, PartialEq, Eq)]
 pub enum Blunder {
@@ -113,10 +116,62 @@ pub enum Blunder {
     FileAfterRange,
     /// A call looks at the low byte of a file's number only.
     FileOfAByte,
+    /// For a write, too, a county counts where the set holds a read quorum.
+    ReadBelow,
+    /// The own choice of a write takes a read's choice in each county.
+    ReadChoiceBelow,
+    /// The own choice is made in every county, and not in those that a choice above has.
+    AllCountiesChosen,
+    /// The counties lie above in the chain order of their first members.
+    CountiesInChainOrder,
+    /// A check lays a list as one of several counties if the used rows are of several.
+    SeveralOfAll,
+    /// A list without mark 3 is taken for one of a single county, in a tall table too.
+    OneLevelByMark,
+    /// County 0 is one.
+    CountyZero,
+    /// A list of several counties is laid with mark 3 in a tall table, too.
+    SeveralInTall,
+    /// A founding looks at counties before it looks at sizes.
+    CountiesFirst,
+    /// A joining looks at the county before it looks for an unused row.
+    CountyBeforeRoom,
+    /// A joining looks at the low byte of the county only.
+    CountyOfAByte,
+    /// A chart is given for mark 3.
+    SeveralCharted,
+    /// A club at its ceiling may write on.
+    CeilingPassed,
+    /// What the total leaves beyond all assured numbers is taken as if nobody had taken of it.
+    SharedNeverSpent,
+    /// A club below its assured number is turned down when the others have spent the remainder.
+    AssuredTurnedDown,
+    /// A check that changes nothing sets the counts to 0, too.
+    SameListClears,
+    /// A check that changes the list leaves the counts.
+    CountsKept,
+    /// A check leaves the count of the last club.
+    FifteenCleared,
+    /// A refused write counts, too.
+    RefusedCounts,
+    /// 19 is asked before 18.
+    SpentFirst,
+    /// 8 is asked before 18 and 19.
+    LimitBeforeClub,
+    /// A club outside 1 to 16 is refused before anyone looks at the quorum.
+    ClubBeforeQuorum,
+    /// A write looks at the low byte of the club only.
+    ClubOfAByte,
+    /// A sheet is looked at after questions 2 and 3.
+    SheetAfterRows,
+    /// A check that changes nothing does not look at the sheet.
+    SheetOfChangesOnly,
+    /// A longer sheet is taken for its first 196 bytes.
+    LongSheet,
 }
 
 impl Blunder {
-    pub const ALL: [Blunder; 53] = [
+    pub const ALL: [Blunder; 79] = [
         Blunder::OutsidersCount,
         Blunder::ShortColumnWhole,
         Blunder::DesiredIgnored,
@@ -170,6 +225,32 @@ impl Blunder {
         Blunder::FirstFileMarks,
         Blunder::FileAfterRange,
         Blunder::FileOfAByte,
+        Blunder::ReadBelow,
+        Blunder::ReadChoiceBelow,
+        Blunder::AllCountiesChosen,
+        Blunder::CountiesInChainOrder,
+        Blunder::SeveralOfAll,
+        Blunder::OneLevelByMark,
+        Blunder::CountyZero,
+        Blunder::SeveralInTall,
+        Blunder::CountiesFirst,
+        Blunder::CountyBeforeRoom,
+        Blunder::CountyOfAByte,
+        Blunder::SeveralCharted,
+        Blunder::CeilingPassed,
+        Blunder::SharedNeverSpent,
+        Blunder::AssuredTurnedDown,
+        Blunder::SameListClears,
+        Blunder::CountsKept,
+        Blunder::FifteenCleared,
+        Blunder::RefusedCounts,
+        Blunder::SpentFirst,
+        Blunder::LimitBeforeClub,
+        Blunder::ClubBeforeQuorum,
+        Blunder::ClubOfAByte,
+        Blunder::SheetAfterRows,
+        Blunder::SheetOfChangesOnly,
+        Blunder::LongSheet,
     ];
 
     /// Its name on a command line.
@@ -228,6 +309,32 @@ impl Blunder {
             Blunder::FirstFileMarks => "first-file-marks",
             Blunder::FileAfterRange => "file-after-range",
             Blunder::FileOfAByte => "file-of-a-byte",
+            Blunder::ReadBelow => "read-below",
+            Blunder::ReadChoiceBelow => "read-choice-below",
+            Blunder::AllCountiesChosen => "all-counties-chosen",
+            Blunder::CountiesInChainOrder => "counties-in-chain-order",
+            Blunder::SeveralOfAll => "several-of-all",
+            Blunder::OneLevelByMark => "one-level-by-mark",
+            Blunder::CountyZero => "county-zero",
+            Blunder::SeveralInTall => "several-in-tall",
+            Blunder::CountiesFirst => "counties-first",
+            Blunder::CountyBeforeRoom => "county-before-room",
+            Blunder::CountyOfAByte => "county-of-a-byte",
+            Blunder::SeveralCharted => "several-charted",
+            Blunder::CeilingPassed => "ceiling-passed",
+            Blunder::SharedNeverSpent => "shared-never-spent",
+            Blunder::AssuredTurnedDown => "assured-turned-down",
+            Blunder::SameListClears => "same-list-clears",
+            Blunder::CountsKept => "counts-kept",
+            Blunder::FifteenCleared => "fifteen-cleared",
+            Blunder::RefusedCounts => "refused-counts",
+            Blunder::SpentFirst => "spent-first",
+            Blunder::LimitBeforeClub => "limit-before-club",
+            Blunder::ClubBeforeQuorum => "club-before-quorum",
+            Blunder::ClubOfAByte => "club-of-a-byte",
+            Blunder::SheetAfterRows => "sheet-after-rows",
+            Blunder::SheetOfChangesOnly => "sheet-of-changes-only",
+            Blunder::LongSheet => "long-sheet",
         }
     }
 
@@ -254,16 +361,17 @@ pub fn decode_any_marks(rules: Rules, bytes: &[u8]) -> Option<Table> {
     Table::decode_by(rules, &unmarked)
 }
 
-/// Reads a table that is well formed once each list of mark 2 whose epoch has that mark throughout has mark 0.
+/// Reads a table that is well formed once each list of mark 2 whose epoch has that mark throughout is marked as one of a wide table.
 pub fn decode_any_shapes(rules: Rules, bytes: &[u8]) -> Option<Table> {
     let mut unmarked = bytes.to_vec();
     let listed = |row: &Row| !row.list.is_empty();
-    let rows: Vec<Row> = row_headers(&mut unmarked)?.map(|header| Row::read(header)).filter(listed).collect();
+    let rows: Vec<Row> = row_headers(&mut unmarked)?.map(|header| Row::read(header)).collect();
+    let counties = Counties::of(rows.iter().take(64).map(|row| row.county.clamp(1, 8)));
     for header in row_headers(&mut unmarked)? {
-        let epoch = Row::read(header).epoch;
-        let mut of_epoch = rows.iter().filter(|row| row.epoch == epoch);
-        if listed(&Row::read(header)) && of_epoch.all(|row| row.list.shape() == Shape::Tall) {
-            header[24] = 0;
+        let row = Row::read(header);
+        let mut of_epoch = rows.iter().filter(|other| listed(other) && other.epoch == row.epoch);
+        if listed(&row) && of_epoch.all(|row| row.list.shape() == Shape::Tall) {
+            header[24] = if counties.several(row.list.members) { SEVERAL } else { 0 };
         }
     }
     Table::decode_by(rules, &unmarked)
@@ -308,35 +416,62 @@ pub fn lay_younger_first(table: &Table, bytes: &mut [u8], transfer: Transfer) {
     }
 }
 
-/// Counts each row outside the list in the place of the next member.
-pub fn holds_with_outsiders(layout: &Layout, chain: &Order, quorum: Quorum, set: u64) -> bool {
-    let grid = layout.grid;
-    let mut answers = vec![0; grid.columns];
-    let mut position = 0;
-    for &row in chain.iter() {
-        if rows::has(set, row.into()) {
-            answers[position % grid.columns] += 1;
-        }
-        position += usize::from(rows::has(layout.list.members, row.into()));
+/// Reads a table that is well formed once each used row of county 0 is in county 1.
+pub fn decode_county_zero(rules: Rules, bytes: &[u8]) -> Option<Table> {
+    let (mut counted, used) = (bytes.to_vec(), usize::from(*bytes.get(2)?));
+    for header in row_headers(&mut counted)?.take(used).filter(|_| rules.has_counties()) {
+        header[COUNTY] = header[COUNTY].max(1);
     }
-    let whole_column = || (1..).zip(&answers).any(|(column, &count)| count >= grid.height(column));
-    answers.iter().all(|&count| count > 0) && (quorum == Quorum::Read || whole_column())
+    Table::decode_by(rules, &counted)
 }
 
-/// Wants as many rows of a short column as of a long one, so that only a long one can be whole.
-pub fn holds_long_column(layout: &Layout, quorum: Quorum, set: u64) -> bool {
-    let grid = layout.grid;
-    let answers_in = |column| {
-        let places = (1..).zip(layout.members.iter());
-        let in_column = places.filter(|&(position, _)| grid.column_of(position) == column);
-        in_column.filter(|&(_, &row)| rows::has(set, row.into())).count()
-    };
-    let long_column = || (1..=grid.columns).any(|column| answers_in(column) == grid.rows);
-    layout.holds(quorum, set) && (quorum == Quorum::Read || long_column())
+/// Lays out a list with its counties in the chain order of their first members.
+pub fn lay_in_chain_order(list: Laid, table: &Table) -> Layout {
+    let mut parts: Vec<u64> = table.counties.parts(list.members).collect();
+    parts.sort_by_key(|&part| table.chain.iter().position(|&row| rows::has(part, row.into())));
+    let mut counties = Counties::NONE;
+    for (county, part) in (1..).zip(parts) {
+        rows::members(part).for_each(|row| counties.put(row, county));
+    }
+    Layout::of(list, &table.chain, &counties)
+}
+
+/// Counts a write of the club on a sheet that is right, if it may write.
+pub fn count_any(bytes: &mut [u8], club: u64) {
+    if Sheet::judge(bytes).is_some_and(|sheet| sheet.refusal(club).is_none()) {
+        sheet::add(bytes, club);
+    }
+}
+
+/// Counts each row outside a county's members in the place of the next one.
+pub fn holds_with_outsiders(layout: &Layout, chain: &Order, quorum: Quorum, set: u64) -> bool {
+    let mut held = 0;
+    for (place, group) in layout.groups().iter().enumerate() {
+        let (grid, members) = (group.grid, layout.members(group));
+        let mut answers = vec![0; grid.columns];
+        let mut position = 0;
+        for row in chain.iter() {
+            if rows::has(set, (*row).into()) {
+                answers[position % grid.columns] += 1;
+            }
+            position += usize::from(members.contains(row));
+        }
+        let whole_column = || (1..).zip(&answers).any(|(column, &count)| count >= grid.height(column));
+        let holds = answers.iter().all(|&count| count > 0) && (quorum == Quorum::Read || whole_column());
+        held |= u64::from(holds) << place;
+    }
+    layout.above.holds(quorum, held)
+}
+
+/// Wants as many positions of a short column as of a long one, so that only a long one can be whole.
+pub fn holds_long_column(grid: &Grid, quorum: Quorum, held: u64) -> bool {
+    let held_in = |column| (1..=grid.rows).filter(|&row| rows::has(held, grid.position(row, column))).count();
+    let long_column = || (1..=grid.columns).any(|column| held_in(column) == grid.rows);
+    grid.holds(quorum, held) && (quorum == Quorum::Read || long_column())
 }
 
 /// Wants all three of three for a write.
-pub fn holds_all_of_three(layout: &Layout, quorum: Quorum, set: u64) -> bool {
-    let all = layout.list.members & !set == 0;
-    layout.holds(quorum, set) && (quorum == Quorum::Read || layout.members.len() != 3 || all)
+pub fn holds_all_of_three(grid: &Grid, quorum: Quorum, held: u64) -> bool {
+    let all = grid.length() != 3 || held == rows::first(3);
+    grid.holds(quorum, held) && (quorum == Quorum::Read || all)
 }

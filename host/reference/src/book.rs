@@ -2,7 +2,7 @@
 //! and all other calls, by their arguments and whether they were done; nothing comes from the table.
 
 use crate::rows::{self, Order};
-use crate::{Laid, Layout, Quorum, Rules, Shape};
+use crate::{Counties, Laid, Layout, Quorum, Rules, Shape};
 
 #[derive(Clone, Debug)]
 pub struct Book {
@@ -11,8 +11,9 @@ pub struct Book {
     shape: Shape,
     /// For row i at place i - 1: its name.
     names: Vec<u16>,
-    /// The rows in the order of their names.
+    /// The rows in the order of their names, and by county.
     chain: Order,
+    counties: Counties,
     file: Vec<u8>,
     writes: usize,
     /// For row i at place i - 1: which of the done writes it has.
@@ -24,13 +25,14 @@ pub struct Book {
 
 impl Book {
     /// A done founding.
-    pub fn open(rules: Rules, file_len: usize, names: &[u16], shape: Shape) -> Book {
-        let all = rules.lay(shape, rows::first(names.len()));
+    pub fn open(rules: Rules, file_len: usize, names: &[u16], shape: Shape, counties: Counties) -> Book {
+        let all = rules.lay(shape, rows::first(names.len()), &counties);
         Book {
             rules,
             shape,
             names: names.to_vec(),
             chain: Order::first(names.len()),
+            counties,
             file: vec![0; file_len],
             writes: 0,
             has: vec![Vec::new(); names.len()],
@@ -60,17 +62,23 @@ impl Book {
 
     /// A done check. The list in force keeps its grid.
     pub fn check(&mut self, answering: u64) {
-        if answering != self.in_force.members {
-            self.in_force = self.rules.lay(self.shape, answering);
+        if self.is_changed_by(answering) {
+            self.in_force = self.rules.lay(self.shape, answering, &self.counties);
             for row in rows::members(answering) {
                 self.own[row - 1] = self.in_force;
             }
         }
     }
 
+    /// Would a done check of these rows change the list in force?
+    pub fn is_changed_by(&self, answering: u64) -> bool {
+        answering != self.in_force.members
+    }
+
     /// A done joining: the new row has no write, and its own list is empty.
-    pub fn join(&mut self, name: u16) {
+    pub fn join(&mut self, name: u16, county: u8) {
         self.names.push(name);
+        self.counties.put(self.names.len(), county);
         self.has.push(vec![false; self.writes]);
         self.own.push(Laid::EMPTY);
         let mut rows: Vec<usize> = (1..=self.names.len()).collect();
@@ -141,6 +149,6 @@ impl Book {
     }
 
     fn layout(&self, list: Laid) -> Layout {
-        Layout::of(list, &self.chain)
+        Layout::of(list, &self.chain, &self.counties)
     }
 }

@@ -2,10 +2,12 @@
 
 use crate::blunder::{self, Blunder};
 use crate::chart::{Chart, CHART_PLACES, LONGEST_CHARTED};
+use crate::county::is_county;
 use crate::rows::{self, Order};
+use crate::sheet::{self, Sheet, CLUBS};
 use crate::window;
-use crate::{Grid, Laid, Layout, Part, Quorum, Row, Rules, Shape, Table};
-use crate::{HEADER, LIMIT, MAX_FILE, MAX_FILES, MAX_ROWS, OLDEST, ROW_HEADER};
+use crate::{Counties, Grid, Laid, Layout, Part, Quorum, Row, Rules, Shape, Table};
+use crate::{HEADER, LIMIT, MAX_FILE, MAX_FILES, MAX_ROWS, OLDEST, ROW_HEADER, SEVERAL};
 use std::iter;
 
 /// Answers the calls on a table's bytes; with a blunder, wrongly.
@@ -54,6 +56,12 @@ struct Called {
     size: u8,
 }
 
+/// The sheet that a write is lent, and the club that it is by.
+struct Share<'a> {
+    sheet: &'a mut [u8],
+    club: u64,
+}
+
 /// The value, or the number of the question whose answer is no.
 type Answer = Result<u32, u32>;
 
@@ -75,6 +83,7 @@ fn result(answer: Answer) -> u64 {
 // The calls have the arguments that a host gives them.
 #[allow(clippy::too_many_arguments)]
 impl Engine {
+    /// In a form without counties there are none to look at.
     pub fn found(
         &self,
         bytes: &mut [u8],
@@ -83,8 +92,9 @@ impl Engine {
         names: &[u8],
         choice: u64,
         files: u64,
+        counties: &[u8],
     ) -> u64 {
-        result(found(self.rules, bytes, Sizes { capacity, file_len, files }, names, choice))
+        result(self.try_found(bytes, Sizes { capacity, file_len, files }, names, choice, counties))
     }
 
     pub fn read(
@@ -114,10 +124,12 @@ impl Engine {
         patch: &[u8],
         called: &mut [u8],
         file: u64,
+        sheet: &mut [u8],
+        club: u64,
     ) -> u64 {
         let mut lent = Called { length: called.len(), size: 0 };
         let asked = Asked { coordinator, answering, file };
-        let answer = self.try_write(bytes, asked, offset, patch, &mut lent);
+        let answer = self.try_write(bytes, asked, offset, patch, &mut lent, Share { sheet, club });
         self.note(called, lent.size, answer);
         result(answer)
     }
@@ -126,12 +138,13 @@ impl Engine {
         result(self.try_send(bytes, from, to, answering, file))
     }
 
-    pub fn check(&self, bytes: &mut [u8], coordinator: u64, answering: u64) -> u64 {
-        result(self.try_check(bytes, coordinator, answering))
+    pub fn check(&self, bytes: &mut [u8], coordinator: u64, answering: u64, sheet: &mut [u8]) -> u64 {
+        result(self.try_check(bytes, coordinator, answering, sheet))
     }
 
-    pub fn join(&self, bytes: &mut [u8], name: u16) -> u64 {
-        result(self.try_join(bytes, name))
+    /// In a form without counties there is none to look at.
+    pub fn join(&self, bytes: &mut [u8], name: u16, county: u64) -> u64 {
+        result(self.try_join(bytes, name, county))
     }
 
     pub fn chart(&self, length: u64, mark: u64, list: &mut [u8]) -> u64 {
@@ -164,6 +177,59 @@ impl Engine {
         sends
     }
 
+    fn try_found(
+        &self,
+        bytes: &mut [u8],
+        sizes: Sizes,
+        names: &[u8],
+        choice: u64,
+        counties: &[u8],
+    ) -> Answer {
+        let (rules, Sizes { capacity, file_len, files }) = (self.rules, sizes);
+        ask(11, names.len().is_multiple_of(2))?;
+        let used = names.len() / 2;
+        let names = names.chunks_exact(2).map(|name| u16::from_le_bytes([name[0], name[1]]));
+        // A 0 before them: so none of rising names is 0.
+        let before = iter::once(0).chain(names.clone());
+        let rising = before.zip(names.clone()).all(|(before, name)| before < name);
+        ask(11, (1..=MAX_ROWS).contains(&used) && rising)?;
+        let shape = Shape::chosen(choice).ok_or(11_u32)?;
+        if self.makes(Blunder::CountiesFirst) {
+            self.ask_counties(used, counties)?;
+        }
+        let capacity_fits = (used as u64..=MAX_ROWS as u64).contains(&capacity);
+        ask(12, capacity_fits && (1..=MAX_FILE as u64).contains(&file_len))?;
+        ask(12, (1..=rules.most_files() as u64).contains(&files))?;
+        let (capacity, file_len, files) = (capacity as usize, file_len as usize, files as usize);
+        ask(12, bytes.len() == rules.table_length(capacity, file_len, files))?;
+        self.ask_counties(used, counties)?;
+
+        let mut table = Table::new(rules, capacity, used, file_len, files, Order::first(used));
+        if rules.has_counties() {
+            // Only a blunder leaves a 0 among them.
+            table.counties = Counties::of(counties.iter().map(|&county| county.max(1)));
+        }
+        bytes.fill(0);
+        table.write_header(bytes, 1);
+        let list = self.lay(&table, shape, table.all_used());
+        for (index, name) in (1..).zip(names) {
+            let next = if index < used { index + 1 } else { 0 };
+            let county = if rules.has_counties() { counties[index - 1] } else { 0 };
+            table.write_row(bytes, index, &Row::new(name, next, list, county));
+        }
+        Ok(used as u32)
+    }
+
+    /// Question 20 of a founding, in a form with counties.
+    fn ask_counties(&self, used: usize, counties: &[u8]) -> Result<(), u32> {
+        let are_counties = counties.iter().all(|&county| self.is_county(county.into()));
+        ask(20, !self.rules.has_counties() || counties.len() == used && are_counties)
+    }
+
+    fn is_county(&self, number: u64) -> bool {
+        is_county(number) || number == 0 && self.makes(Blunder::CountyZero)
+    }
+
     fn try_read(
         &self,
         bytes: &[u8],
@@ -194,15 +260,31 @@ impl Engine {
         offset: u64,
         patch: &[u8],
         called: &mut Called,
+        share: Share,
     ) -> Answer {
+        let Share { sheet, club } = share;
+        let judged = self.judge_sheet(sheet);
+        if self.makes(Blunder::RefusedCounts) {
+            blunder::count_any(sheet, club);
+        }
+        // A blunder looks at it later.
+        ask(1, judged.is_some() || self.makes(Blunder::SheetAfterRows))?;
         if self.makes(Blunder::CalledLengthFirst) {
             // The first byte is a range that fits.
             self.admit(bytes, asked, 0, 1)?;
             ask(5, called.length == 1)?;
         }
         let (table, file) = self.admit(bytes, asked, offset, patch.len() as u64)?;
+        let judged = judged.ok_or(1_u32)?;
         ask(5, called.length == 1)?;
+        if self.makes(Blunder::ClubBeforeQuorum) {
+            ask(18, judged.line(club).is_some())?;
+        }
         let (set, poll) = self.settle(&table, bytes, asked, file, Quorum::Write, called)?;
+        if self.makes(Blunder::LimitBeforeClub) {
+            ask(8, poll.version < LIMIT)?;
+        }
+        self.ask_share(&judged, club)?;
         ask(8, poll.version < LIMIT)?;
         let version = poll.version + 1;
         if self.makes(Blunder::WriteForgotten) {
@@ -226,19 +308,54 @@ impl Engine {
             }
             table.write_part(bytes, row, file, &part);
         }
+        if !self.makes(Blunder::RefusedCounts) {
+            sheet::add(sheet, if self.makes(Blunder::ClubOfAByte) { club & 0xff } else { club });
+        }
         Ok(version)
     }
 
-    fn try_check(&self, bytes: &mut [u8], coordinator: u64, answering: u64) -> Answer {
+    /// Question 1, put to a sheet.
+    fn judge_sheet(&self, bytes: &[u8]) -> Option<Sheet> {
+        if self.makes(Blunder::LongSheet) {
+            return Sheet::judge(bytes.get(..sheet::SHEET)?);
+        }
+        Sheet::judge(bytes)
+    }
+
+    /// Questions 18 and 19.
+    fn ask_share(&self, sheet: &Sheet, club: u64) -> Result<(), u32> {
+        let club = if self.makes(Blunder::ClubOfAByte) { club & 0xff } else { club };
+        let line = sheet.line(club).ok_or(18_u32)?;
+        let at_ceiling = line.count >= line.ceiling;
+        let spent = line.count >= line.assured && sheet.remainder() == 0;
+        match self.blunder {
+            Some(Blunder::CeilingPassed) if at_ceiling => ask(19, !spent),
+            Some(Blunder::SpentFirst) if spent => Err(19),
+            Some(Blunder::SharedNeverSpent) if spent && !at_ceiling => ask(19, sheet.shared() > 0),
+            Some(Blunder::AssuredTurnedDown) if !at_ceiling => ask(19, sheet.remainder() > 0),
+            _ => sheet.refusal(club).map_or(Ok(()), Err),
+        }
+    }
+
+    fn try_check(&self, bytes: &mut [u8], coordinator: u64, answering: u64, sheet: &mut [u8]) -> Answer {
         let table = self.judge(bytes)?;
+        let sheet_fits = self.judge_sheet(sheet).is_some();
+        // Two blunders look at it later.
+        let of_changes_only = self.makes(Blunder::SheetOfChangesOnly);
+        ask(1, sheet_fits || of_changes_only || self.makes(Blunder::SheetAfterRows))?;
         ask(2, is_used(&table, coordinator) && only_used(&table, answering))?;
         ask(3, answers(answering, coordinator))?;
+        ask(1, sheet_fits || of_changes_only)?;
         let (epoch, in_force) = self.in_force(&table, bytes, answering);
-        let layout = Layout::of(in_force, &table.chain);
+        let layout = self.layout(&table, in_force);
         ask(6, self.holds(&table, &layout, Quorum::Write, answering))?;
         if answering == in_force.members {
+            if self.makes(Blunder::SameListClears) {
+                sheet::clear(sheet);
+            }
             return Ok(epoch);
         }
+        ask(1, sheet_fits)?;
         let mut polls = [Poll::default(); MAX_FILES];
         let polls = &mut polls[..table.files];
         for (file, poll) in (1..).zip(polls.iter_mut()) {
@@ -252,7 +369,7 @@ impl Engine {
             Some(Blunder::CoordinatorsShape) => table.row(bytes, coordinator as usize).list.shape(),
             _ => in_force.shape(),
         };
-        let mut list = self.rules.lay(shape, answering);
+        let mut list = self.lay(&table, shape, answering);
         if self.makes(Blunder::OldGrid) {
             list.mark = in_force.mark;
         }
@@ -267,6 +384,11 @@ impl Engine {
                 part.mark(desired);
                 table.write_part(bytes, row, file, &part);
             }
+        }
+        match self.blunder {
+            Some(Blunder::CountsKept) => {}
+            Some(Blunder::FifteenCleared) => sheet::clear_first(sheet, CLUBS - 1),
+            _ => sheet::clear(sheet),
         }
         Ok(epoch + 1)
     }
@@ -345,16 +467,22 @@ impl Engine {
         true
     }
 
-    fn try_join(&self, bytes: &mut [u8], name: u16) -> Answer {
+    fn try_join(&self, bytes: &mut [u8], name: u16, county: u64) -> Answer {
         let table = self.judge(bytes)?;
         let mut place = table.chain.partition_point(|&row| table.row(bytes, row.into()).name < name);
         let in_use = table.chain.get(place).is_some_and(|&row| table.row(bytes, row.into()).name == name);
         ask(13, name != 0 && !in_use)?;
+        let (counties, number) = (self.rules.has_counties(), county);
+        let number = if self.makes(Blunder::CountyOfAByte) { number & 0xff } else { number };
+        if self.makes(Blunder::CountyBeforeRoom) {
+            ask(20, !counties || self.is_county(number))?;
+        }
         ask(14, table.used < table.capacity)?;
+        ask(20, !counties || self.is_county(number))?;
         if self.makes(Blunder::LinkTooFar) {
             place = (place + 1).min(table.used);
         }
-        Ok(table.link_in(bytes, name, place) as u32)
+        Ok(table.link_in(bytes, name, if counties { number as u8 } else { 0 }, place) as u32)
     }
 
     fn try_chart(&self, length: u64, mark: u64, list: &mut [u8]) -> Answer {
@@ -364,9 +492,15 @@ impl Engine {
         let mark = if self.makes(Blunder::MarkOfAByte) { mark & 0xff } else { mark };
         ask(17, (1..=LONGEST_CHARTED as u64).contains(&length))?;
         let length = length as usize;
-        ask(17, self.rules.allow(length, mark) || mark == 1 && self.makes(Blunder::FiveOfAnyLength))?;
+        let mark = u8::try_from(mark).map_err(|_| 17_u32)?;
+        let allowed = match self.blunder {
+            Some(Blunder::FiveOfAnyLength) if mark == 1 => true,
+            Some(Blunder::SeveralCharted) if mark == SEVERAL => true,
+            _ => self.rules.allow(length, false, mark),
+        };
+        ask(17, allowed)?;
         ask(5, list.len() >= 2 * CHART_PLACES)?;
-        let grid = Grid::marked(mark as u8, length);
+        let grid = Grid::marked(mark, length);
         let chart =
             if self.makes(Blunder::LargerQuorums) { Chart::with_larger(&grid) } else { Chart::of(&grid) };
         if self.makes(Blunder::PlacesCleared) {
@@ -390,7 +524,7 @@ impl Engine {
             Some(Blunder::NewestChoiceTold) => own.list = self.in_force(&table, bytes, table.all_used()).1,
             _ => {}
         }
-        let mut chosen = Layout::of(own.list, &table.chain).choice(quorum, own.name);
+        let mut chosen = self.own_choice(&self.layout(&table, own.list), quorum, own.name);
         if own.list.is_empty() && self.makes(Blunder::AllChosen) {
             chosen = table.all_used();
         }
@@ -433,6 +567,7 @@ impl Engine {
         let judged = match self.blunder {
             Some(Blunder::MarksOfEpoch) => blunder::decode_any_marks(self.rules, bytes),
             Some(Blunder::ShapesOfTable) => blunder::decode_any_shapes(self.rules, bytes),
+            Some(Blunder::CountyZero) => blunder::decode_county_zero(self.rules, bytes),
             _ => Table::decode_by(self.rules, bytes),
         };
         judged.ok_or(1)
@@ -480,12 +615,12 @@ impl Engine {
         if self.makes(Blunder::PublishedChoice) {
             own.list.mark = 0;
         }
-        let mut layout = Layout::of(own.list, &table.chain);
-        let chosen = layout.choice(quorum, own.name);
+        let mut layout = self.layout(table, own.list);
+        let chosen = self.own_choice(&layout, quorum, own.name);
         let choice = chosen & answering;
         if choice != 0 && !self.makes(Blunder::NoChoice) {
             let (_, in_force) = self.in_force(table, bytes, choice);
-            layout.lay(in_force, &table.chain);
+            self.lay_out(table, &mut layout, in_force);
             let poll = self.poll(table, bytes, choice, file);
             if self.holds(table, &layout, quorum, choice) && poll.current {
                 called.size = match self.blunder {
@@ -497,7 +632,7 @@ impl Engine {
             }
         }
         let (_, in_force) = self.in_force(table, bytes, answering);
-        layout.lay(in_force, &table.chain);
+        self.lay_out(table, &mut layout, in_force);
         ask(6, self.holds(table, &layout, quorum, answering))?;
         called.size = all;
         let poll = self.poll(table, bytes, answering, file);
@@ -546,6 +681,50 @@ impl Engine {
         poll
     }
 
+    /// The list of these members, laid now.
+    fn lay(&self, table: &Table, shape: Shape, members: u64) -> Laid {
+        let mut list = self.rules.lay(shape, members, &table.counties);
+        let several = |set| table.counties.several(set);
+        match self.blunder {
+            Some(Blunder::SeveralInTall) if several(members) => list.mark = SEVERAL,
+            Some(Blunder::SeveralOfAll) if several(table.all_used()) && shape == Shape::Wide => {
+                list.mark = SEVERAL;
+            }
+            _ => {}
+        }
+        list
+    }
+
+    fn layout(&self, table: &Table, list: Laid) -> Layout {
+        match self.blunder {
+            Some(Blunder::OneLevelByMark) if list.mark != SEVERAL => {
+                Layout::of(list, &table.chain, &Counties::ONE)
+            }
+            Some(Blunder::CountiesInChainOrder) => blunder::lay_in_chain_order(list, table),
+            _ => Layout::of(list, &table.chain, &table.counties),
+        }
+    }
+
+    /// Lays out another list, unless it is the one that is laid out already.
+    fn lay_out(&self, table: &Table, layout: &mut Layout, list: Laid) {
+        if list != layout.list {
+            *layout = self.layout(table, list);
+        }
+    }
+
+    /// The own choice of the caller with this name, over its own list as laid out.
+    fn own_choice(&self, layout: &Layout, quorum: Quorum, name: u16) -> u64 {
+        match self.blunder {
+            Some(Blunder::AllCountiesChosen) => {
+                layout.choice_in(rows::first(layout.groups().len()), quorum, name)
+            }
+            Some(Blunder::ReadChoiceBelow) => {
+                layout.choice_in(layout.above.choice(quorum, name), Quorum::Read, name)
+            }
+            _ => layout.choice(quorum, name),
+        }
+    }
+
     /// Does the set hold a quorum of the list that is laid out? Of an empty one it does not.
     fn holds(&self, table: &Table, layout: &Layout, quorum: Quorum, set: u64) -> bool {
         if layout.list.is_empty() && !self.makes(Blunder::VacuousQuorum) {
@@ -553,8 +732,11 @@ impl Engine {
         }
         match self.blunder {
             Some(Blunder::OutsidersCount) => blunder::holds_with_outsiders(layout, &table.chain, quorum, set),
-            Some(Blunder::ShortColumnWhole) => blunder::holds_long_column(layout, quorum, set),
-            Some(Blunder::AllOfThree) => blunder::holds_all_of_three(layout, quorum, set),
+            Some(Blunder::ShortColumnWhole) => layout.holds_by(blunder::holds_long_column, quorum, set),
+            Some(Blunder::AllOfThree) => layout.holds_by(blunder::holds_all_of_three, quorum, set),
+            Some(Blunder::ReadBelow) => {
+                layout.above.holds(quorum, layout.held(Grid::holds, Quorum::Read, set))
+            }
             _ => layout.holds(quorum, set),
         }
     }
@@ -562,33 +744,6 @@ impl Engine {
     fn makes(&self, blunder: Blunder) -> bool {
         self.blunder == Some(blunder)
     }
-}
-
-fn found(rules: Rules, bytes: &mut [u8], sizes: Sizes, names: &[u8], choice: u64) -> Answer {
-    let Sizes { capacity, file_len, files } = sizes;
-    ask(11, names.len().is_multiple_of(2))?;
-    let used = names.len() / 2;
-    let names = names.chunks_exact(2).map(|name| u16::from_le_bytes([name[0], name[1]]));
-    // A 0 before them: so none of rising names is 0.
-    let before = iter::once(0).chain(names.clone());
-    let rising = before.zip(names.clone()).all(|(before, name)| before < name);
-    ask(11, (1..=MAX_ROWS).contains(&used) && rising)?;
-    let shape = Shape::chosen(choice).ok_or(11_u32)?;
-    let capacity_fits = (used as u64..=MAX_ROWS as u64).contains(&capacity);
-    ask(12, capacity_fits && (1..=MAX_FILE as u64).contains(&file_len))?;
-    ask(12, (1..=rules.most_files() as u64).contains(&files))?;
-    let (capacity, file_len, files) = (capacity as usize, file_len as usize, files as usize);
-    ask(12, bytes.len() == rules.table_length(capacity, file_len, files))?;
-
-    let table = Table::new(rules, capacity, used, file_len, files, Order::first(used));
-    bytes.fill(0);
-    table.write_header(bytes, 1);
-    let list = rules.lay(shape, table.all_used());
-    for (index, name) in (1..).zip(names) {
-        let next = if index < used { index + 1 } else { 0 };
-        table.write_row(bytes, index, &Row::new(name, next, list));
-    }
-    Ok(used as u32)
 }
 
 /// The rules that a table is carried over to, if there is such a move and the buffer has the length for it.
@@ -629,7 +784,9 @@ mod tests {
         let mut called = vec![0xee; lent];
         let result = match quorum {
             Quorum::Read => Engine::default().read(table, c, r, 0, 1, &mut [0], &mut called, 1),
-            Quorum::Write => Engine::default().write(table, c, r, 0, &[7], &mut called, 1),
+            Quorum::Write => {
+                Engine::default().write(table, c, r, 0, &[7], &mut called, 1, &mut Sheet::OPEN.bytes(), 1)
+            }
         };
         (result >> 32, called)
     }
@@ -643,7 +800,8 @@ mod tests {
     fn founded_by(engine: Engine, capacity: u64, names: &[u16], choice: u64, files: usize) -> Vec<u8> {
         let names: Vec<u8> = names.iter().flat_map(|name| name.to_le_bytes()).collect();
         let mut table = vec![0; engine.rules.table_length(capacity as usize, 4, files)];
-        assert_eq!(engine.found(&mut table, capacity, 4, &names, choice, files as u64) >> 32, 0);
+        let counties = vec![1; names.len() / 2];
+        assert_eq!(engine.found(&mut table, capacity, 4, &names, choice, files as u64, &counties) >> 32, 0);
         table
     }
 
@@ -665,7 +823,7 @@ mod tests {
         assert_eq!(call(&mut table, Write, 1, 0b0011, 1), (6, vec![4]));
         assert_eq!(call(&mut table, Read, 3, 0b1100, 1), (7, vec![4]));
         // A joined row counts at once; it has no choice of its own.
-        assert_eq!(Engine::default().join(&mut table, 15), 5);
+        assert_eq!(Engine::default().join(&mut table, 15, 1), 5);
         assert_eq!(call(&mut table, Read, 1, 0b1001, 1), (0, vec![5]));
         assert_eq!(call(&mut table, Read, 5, 0b1_1111, 1), (0, vec![5]));
         assert_eq!(call(&mut table, Read, 5, 0b1_0000, 1), (6, vec![5]));
@@ -677,7 +835,7 @@ mod tests {
     #[test]
     fn a_choice_counts_whole_though_some_of_it_did_not_answer() {
         let mut table = founded(4, &[10, 20, 30, 40], 0);
-        assert_eq!(Engine::default().check(&mut table, 1, 0b0111), 1);
+        assert_eq!(Engine::default().check(&mut table, 1, 0b0111, &mut Sheet::OPEN.bytes()), 1);
         assert_eq!(call(&mut table, Write, 4, 0b1011, 1), (0, vec![3]));
     }
 
@@ -712,7 +870,20 @@ mod tests {
                 }
             };
             let mut called = vec![0xee; lent];
-            assert_eq!(Engine::default().write(&mut table, 1, 1, 4, &[1], &mut called, 1) >> 32, 4);
+            assert_eq!(
+                Engine::default().write(
+                    &mut table,
+                    1,
+                    1,
+                    4,
+                    &[1],
+                    &mut called,
+                    1,
+                    &mut Sheet::OPEN.bytes(),
+                    1
+                ) >> 32,
+                4
+            );
             assert!(after(&called));
             called.fill(0xee);
             assert_eq!(Engine::default().read(&table, 1, 1, 4, 1, &mut [0], &mut called, 1) >> 32, 4);
@@ -751,9 +922,9 @@ mod tests {
         for c in 1..=4 {
             assert_eq!([0, 1].map(|kind| told(&table, c, kind)), [(2, 0b0011), (3, 0b0111)]);
         }
-        assert_eq!(Engine::default().join(&mut table, 15), 5);
+        assert_eq!(Engine::default().join(&mut table, 15, 1), 5);
         assert_eq!([0, 1].map(|kind| told(&table, 5, kind)), [(0, 0); 2]);
-        assert_eq!(Engine::default().check(&mut table, 1, 0b1011), 1);
+        assert_eq!(Engine::default().check(&mut table, 1, 0b1011, &mut Sheet::OPEN.bytes()), 1);
         // Of three: columns {1, 4} and {2}.
         assert_eq!([0, 1].map(|kind| told(&table, 1, kind)), [(2, 0b0011), (3, 0b1011)]);
         assert_eq!([0, 1].map(|kind| told(&table, 3, kind)), [(2, 0b0011), (3, 0b0111)]);
@@ -798,7 +969,7 @@ mod tests {
         for (length, mark) in (1..=64).flat_map(|length| [(length, 0), (length, crate::TALL)]).chain([(5, 1)])
         {
             let layout = crate::grid::tests::laid(length, mark);
-            let Grid { rows, columns, .. } = layout.grid;
+            let Grid { rows, columns, .. } = layout.groups()[0].grid;
             for name in 1..=500 {
                 assert_eq!(layout.choice(Read, name).count_ones() as usize, columns);
                 assert!((layout.choice(Write, name).count_ones() as usize) < rows + columns);
@@ -808,7 +979,17 @@ mod tests {
 
     /// A done write by row 1.
     fn write(table: &mut [u8], answering: u64, offset: u64, patch: &[u8]) {
-        let result = Engine::default().write(table, 1, answering, offset, patch, &mut [0], 1);
+        let result = Engine::default().write(
+            table,
+            1,
+            answering,
+            offset,
+            patch,
+            &mut [0],
+            1,
+            &mut Sheet::OPEN.bytes(),
+            1,
+        );
         assert_eq!(result >> 32, 0);
     }
 
@@ -826,19 +1007,36 @@ mod tests {
     fn behind_by(engine: Engine, before: usize, missed: usize, long: Option<usize>) -> Vec<u8> {
         let names: Vec<u8> = [10_u16, 20, 30, 40].into_iter().flat_map(u16::to_le_bytes).collect();
         let mut table = vec![0; engine.rules.table_length(4, 40, 1)];
-        assert_eq!(engine.found(&mut table, 4, 40, &names, 0, 1), 4);
+        assert_eq!(engine.found(&mut table, 4, 40, &names, 0, 1, &[1; 4]), 4);
         for number in 0..before {
             let patch = [number as u8 + 1; 2];
             // Not all of the choice of 10 answer, so that all that answer take part.
-            assert_eq!(engine.write(&mut table, 1, 0b1011, number as u64 % 39, &patch, &mut [0], 1) >> 32, 0);
+            assert_eq!(
+                engine.write(
+                    &mut table,
+                    1,
+                    0b1011,
+                    number as u64 % 39,
+                    &patch,
+                    &mut [0],
+                    1,
+                    &mut Sheet::OPEN.bytes(),
+                    1
+                ) >> 32,
+                0
+            );
         }
-        assert_eq!(engine.check(&mut table, 1, 0b0111), 1);
+        assert_eq!(engine.check(&mut table, 1, 0b0111, &mut Sheet::OPEN.bytes()), 1);
         for number in 0..missed {
             let length = if long == Some(number) { 33 } else { 1 + number % 32 };
             let (offset, patch) = (number as u64 % 8, vec![100 + number as u8; length]);
-            assert_eq!(engine.write(&mut table, 1, 0b0111, offset, &patch, &mut [0], 1) >> 32, 0);
+            assert_eq!(
+                engine.write(&mut table, 1, 0b0111, offset, &patch, &mut [0], 1, &mut Sheet::OPEN.bytes(), 1)
+                    >> 32,
+                0
+            );
         }
-        assert_eq!(engine.check(&mut table, 1, 0b1111), 2);
+        assert_eq!(engine.check(&mut table, 1, 0b1111, &mut Sheet::OPEN.bytes()), 2);
         table
     }
 
@@ -898,11 +1096,11 @@ mod tests {
     fn the_scope_knows_no_windows() {
         let engine = Engine { rules: Rules::Published, ..Engine::default() };
         let mut table = vec![0; 16 + 2 * 36];
-        assert_eq!(engine.found(&mut table, 2, 4, &[1, 0, 2, 0], 0, 1), 2);
+        assert_eq!(engine.found(&mut table, 2, 4, &[1, 0, 2, 0], 0, 1, &[]), 2);
         assert_eq!(table[0], 1);
-        assert_eq!(engine.write(&mut table, 1, 3, 0, &[7; 4], &mut [0], 1), 1);
-        assert_eq!(Engine::default().check(&mut table, 1, 3) >> 32, 1);
-        assert_eq!(engine.check(&mut table, 1, 3), 0);
+        assert_eq!(engine.write(&mut table, 1, 3, 0, &[7; 4], &mut [0], 1, &mut Sheet::OPEN.bytes(), 1), 1);
+        assert_eq!(Engine::default().check(&mut table, 1, 3, &mut Sheet::OPEN.bytes()) >> 32, 1);
+        assert_eq!(engine.check(&mut table, 1, 3, &mut Sheet::OPEN.bytes()), 0);
         assert_eq!(table[16 + 24..16 + 36], [0, 0, 0, 0, 0, 0, 0, 0, 7, 7, 7, 7]);
     }
 
@@ -946,7 +1144,7 @@ mod tests {
         let founded = |names: &[u16], choice| founded_by(ONE_FILE, 5, names, choice, 1);
         let plain = founded(&[10, 20, 30, 40], 0);
         let mut joined = plain.clone();
-        assert_eq!(ONE_FILE.join(&mut joined, 15), 5);
+        assert_eq!(ONE_FILE.join(&mut joined, 15, 0), 5);
         let (five, tall) = (founded(&[1, 2, 3, 4, 5], 0), founded(&[10, 20], 1));
         let [short, right, long] = [-1, 0, 1].map(|more| (16 + 5 * 36_usize).wrapping_add_signed(more));
         let untouched = |refusal: u64, length| (refusal << 32, vec![0xee; length]);

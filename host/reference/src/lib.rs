@@ -7,18 +7,22 @@
 mod blunder;
 mod book;
 mod chart;
+mod county;
 mod engine;
 mod grid;
 pub mod rows;
+pub mod sheet;
 mod table;
 pub mod window;
 
-pub use blunder::Blunder;
+pub use blunder::{lay_in_chain_order, Blunder};
 pub use book::Book;
 pub use chart::{CHART_PLACES, LONGEST_CHARTED};
+pub use county::{Counties, MAX_COUNTIES};
 pub use engine::Engine;
-pub use grid::{Grid, Laid, Layout, Quorum, Shape, TALL};
+pub use grid::{Grid, Laid, Layout, Quorum, Shape, SEVERAL, TALL};
+pub use sheet::Sheet;
 pub use table::{
-    Part, Row, Rules, Table, FORM, HEADER, LIMIT, MAX_FILE, MAX_FILES, MAX_ROWS, OLDEST, PART_HEADER,
+    Part, Row, Rules, Table, COUNTY, FORM, HEADER, LIMIT, MAX_FILE, MAX_FILES, MAX_ROWS, OLDEST, PART_HEADER,
     ROW_HEADER,
 };

@@ -37,16 +37,17 @@ pub fn members(mut set: u64) -> impl Iterator<Item = usize> {
 /// Up to 64 rows in an order.
 #[derive(Clone, Copy, Debug, PartialEq, Eq)]
 pub struct Order {
-    rows: [u8; MAX_ROWS],
+    /// With a place to spare: see `take`.
+    rows: [u8; MAX_ROWS + 1],
     count: usize,
 }
 
 impl Order {
-    pub const EMPTY: Order = Order { rows: [0; MAX_ROWS], count: 0 };
+    pub const EMPTY: Order = Order { rows: [0; MAX_ROWS + 1], count: 0 };
 
     /// Rows 1 to `count`.
     pub fn first(count: usize) -> Order {
-        let mut rows = [0; MAX_ROWS];
+        let mut rows = [0; MAX_ROWS + 1];
         rows.iter_mut().zip(1..).take(count).for_each(|(place, row)| *place = row);
         Order { rows, count }
     }
@@ -56,15 +57,13 @@ impl Order {
         self.count += 1;
     }
 
-    /// Its members that are in the set.
-    pub fn cut(&self, set: u64) -> Order {
-        let mut kept = Order::EMPTY;
-        for &row in self.iter() {
+    /// Adds the rows of another order that are in the set, and not among its own.
+    pub fn take(&mut self, from: &Order, set: u64) {
+        for &row in from.iter() {
             // Overwritten by the next one unless it counts.
-            kept.rows[kept.count] = row;
-            kept.count += (set >> (row - 1) & 1) as usize;
+            self.rows[self.count] = row;
+            self.count += (set >> (row - 1) & 1) as usize;
         }
-        kept
     }
 }
 

@@ -1,8 +1,9 @@
 //! The table in memory: judging it, reading its rows, writing them.
 
+use crate::county::{is_county, Counties};
 use crate::rows::{self, Order};
 use crate::window::{self, Window, WINDOW};
-use crate::{Laid, Shape, TALL};
+use crate::{Laid, Shape, SEVERAL, TALL};
 
 pub const HEADER: usize = 16;
 pub const ROW_HEADER: usize = 32;
@@ -10,11 +11,12 @@ pub const MAX_ROWS: usize = 64;
 pub const MAX_FILE: usize = 4096;
 pub const MAX_FILES: usize = 8;
 /// The newest form of a table, in its first byte.
-pub const FORM: u8 = 4;
+pub const FORM: u8 = 5;
 /// The bytes of a part before its contents.
 pub const PART_HEADER: usize = 12;
-/// Where a row of form 3 keeps the oldest record of its window.
+/// Where a row of form 3 keeps the oldest record of its window, and one of form 5 its county.
 pub const OLDEST: usize = 25;
+pub const COUNTY: usize = 26;
 /// The highest version, desired version and epoch number.
 pub const LIMIT: u32 = 1_000_000;
 
@@ -28,12 +30,15 @@ pub enum Rules {
     /// Form 3: besides, each row has a window on its latest patches.
     OneFile,
     /// Form 4: besides, there are up to eight files, and each row has a part for each of them.
+    OneCounty,
+    /// Form 5: besides, each row is in a county, and the counties of a list are a level of their own.
     #[default]
     Newest,
 }
 
 impl Rules {
-    pub const ALL: [Rules; 4] = [Rules::Published, Rules::Windowless, Rules::OneFile, Rules::Newest];
+    pub const ALL: [Rules; 5] =
+        [Rules::Published, Rules::Windowless, Rules::OneFile, Rules::OneCounty, Rules::Newest];
 
     /// The rules of the tables of this form.
     pub fn of_form(form: u8) -> Option<Rules> {
@@ -46,16 +51,22 @@ impl Rules {
             Rules::Published => 1,
             Rules::Windowless => 2,
             Rules::OneFile => 3,
+            Rules::OneCounty => 4,
             Rules::Newest => FORM,
         }
     }
 
     pub fn has_windows(self) -> bool {
-        matches!(self, Rules::OneFile | Rules::Newest)
+        matches!(self, Rules::OneFile | Rules::OneCounty | Rules::Newest)
     }
 
     /// Has a row a part for each file? Otherwise its head holds the numbers of its one file.
     pub fn has_parts(self) -> bool {
+        matches!(self, Rules::OneCounty | Rules::Newest)
+    }
+
+    /// Is each row in a county? Otherwise all rows are in one that has no number.
+    pub fn has_counties(self) -> bool {
         self == Rules::Newest
     }
 
@@ -90,22 +101,24 @@ impl Rules {
         list.is_empty() && self != Rules::Published
     }
 
-    /// The list of these members, laid now in a table of this shape; the scope knows one shape.
-    pub fn lay(self, shape: Shape, members: u64) -> Laid {
+    /// The list of these members, laid now in a table of this shape and these counties; the scope knows one shape.
+    pub fn lay(self, shape: Shape, members: u64, counties: &Counties) -> Laid {
         let mark = match (self, shape) {
             (Rules::Published, _) => 0,
-            (_, Shape::Wide) => u8::from(members.count_ones() == 5),
             (_, Shape::Tall) => TALL,
+            (_, Shape::Wide) if counties.several(members) => SEVERAL,
+            (_, Shape::Wide) => u8::from(members.count_ones() == 5),
         };
         Laid { members, mark }
     }
 
-    /// May a list of so many members, at least one, have this grid mark?
-    pub fn allow(self, length: usize, mark: u64) -> bool {
+    /// May a list of so many members, at least one, of one county or of several, have this grid mark?
+    pub fn allow(self, length: usize, several: bool, mark: u8) -> bool {
         match mark {
-            0 => true,
-            1 => self != Rules::Published && length == 5,
-            _ => self != Rules::Published && mark == u64::from(TALL),
+            0 => !several,
+            1 => self != Rules::Published && !several && length == 5,
+            TALL => self != Rules::Published,
+            _ => mark == SEVERAL && several,
         }
     }
 
@@ -119,13 +132,14 @@ impl Rules {
         }
     }
 
-    /// The last bytes of a row's head as one number: the grid mark, if there are zeros elsewhere. Form 3 has the oldest record there.
+    /// The last bytes of a row's head as one number: the grid mark, if there are zeros elsewhere. Form 3 has the oldest record there,
+    /// and form 5 the county.
     fn mark_and_zeros(self, head: &[u8; ROW_HEADER]) -> u64 {
         let last = u64::from_le_bytes(*head.last_chunk().expect("eight bytes of 32"));
-        if self == Rules::OneFile {
-            last & !0xff00
-        } else {
-            last
+        match self {
+            Rules::OneFile => last & !0xff00,
+            Rules::Newest => last & !0xff_0000,
+            _ => last,
         }
     }
 }
@@ -137,12 +151,14 @@ pub struct Row {
     pub next: usize,
     pub epoch: u32,
     pub list: Laid,
+    /// From 1 to 8; 0 in forms without counties.
+    pub county: u8,
 }
 
 impl Row {
     /// A row as it is founded or joined.
-    pub fn new(name: u16, next: usize, list: Laid) -> Row {
-        Row { name, next, epoch: 0, list }
+    pub fn new(name: u16, next: usize, list: Laid, county: u8) -> Row {
+        Row { name, next, epoch: 0, list, county }
     }
 
     pub fn read(head: &[u8; ROW_HEADER]) -> Row {
@@ -154,6 +170,7 @@ impl Row {
                 members: u64::from(number(head, 16)) | u64::from(number(head, 20)) << 32,
                 mark: head[24],
             },
+            county: head[COUNTY],
         }
     }
 
@@ -164,6 +181,7 @@ impl Row {
         head[12..16].copy_from_slice(&self.epoch.to_le_bytes());
         head[16..24].copy_from_slice(&self.list.members.to_le_bytes());
         head[24] = self.list.mark;
+        head[COUNTY] = self.county;
     }
 }
 
@@ -191,7 +209,7 @@ impl Part {
     }
 }
 
-/// A well-formed table: its rules, its sizes and the order of its rows. The rows themselves stay in the bytes.
+/// A well-formed table: its rules, its sizes, the order of its rows and their counties. The rows themselves stay in the bytes.
 #[derive(Clone, Debug, PartialEq, Eq)]
 pub struct Table {
     pub rules: Rules,
@@ -202,12 +220,15 @@ pub struct Table {
     pub file_len: usize,
     /// The used rows in the order of their names.
     pub chain: Order,
+    /// All rows are in one in forms without counties.
+    pub counties: Counties,
     /// The bytes of a row, and of each of its parts.
     row_length: usize,
     part_length: usize,
 }
 
 impl Table {
+    /// A table of one county.
     pub fn new(
         rules: Rules,
         capacity: usize,
@@ -217,7 +238,8 @@ impl Table {
         chain: Order,
     ) -> Table {
         let (row_length, part_length) = (rules.row_length(file_len, files), rules.part_length(file_len));
-        Table { rules, capacity, used, files, file_len, chain, row_length, part_length }
+        let counties = Counties::ONE;
+        Table { rules, capacity, used, files, file_len, chain, counties, row_length, part_length }
     }
 
     /// How many bytes a table of the newest form takes.
@@ -266,10 +288,10 @@ impl Table {
     }
 
     /// Puts a row that is not used yet behind the rows at the first `place` places of the chain, with an empty list.
-    pub fn link_in(&self, bytes: &mut [u8], name: u16, place: usize) -> usize {
+    pub fn link_in(&self, bytes: &mut [u8], name: u16, county: u8, place: usize) -> usize {
         let row = self.used + 1;
         let next = self.chain.get(place).map_or(0, |&row| row.into());
-        self.write_row(bytes, row, &Row::new(name, next, Laid::EMPTY));
+        self.write_row(bytes, row, &Row::new(name, next, Laid::EMPTY, county));
         let link = match place.checked_sub(1) {
             Some(before) => self.row_at(self.chain[before].into()) + 2,
             None => 3,
@@ -371,16 +393,15 @@ impl Table {
         bytes[self.numbers_at(row, file)..].first_chunk().expect("the row is in the table")
     }
 
-    /// Is every used row in order by itself, each of its parts too, does its list name used rows only, and unless the row is exempt,
-    /// its own row among them, and is it the one list of its epoch, in one grid, and in the shape of all lists?
-    fn rows_fit(&self, bytes: &[u8]) -> bool {
+    /// Gathers the counties; is every used row in order by itself, each of its parts too, does its list name used rows only, and
+    /// unless the row is exempt, its own row among them, is it the one list of its epoch, in one grid, and in the shape of all lists?
+    fn rows_fit(&mut self, bytes: &[u8]) -> bool {
         let (rules, all_used) = (self.rules, self.all_used());
+        let mut counties = Counties::NONE;
         // The first row of each epoch; most tables have few epochs, and most rows that of the row before.
         let mut leaders = Order::EMPTY;
         // Epoch, list and grid mark of the last row that is not exempt; an empty list stands for none.
         let mut before = (0, 0, 0);
-        // The shape of the first list.
-        let mut shape = None;
         for index in 1..=self.used {
             let head = self.head(bytes, index);
             let row = Row::read(head);
@@ -391,6 +412,12 @@ impl Table {
             }
             if rules.has_parts() && (head[3] != 0 || number(head, 4) | number(head, 8) != 0) {
                 return false;
+            }
+            if rules.has_counties() {
+                if !is_county(row.county.into()) {
+                    return false;
+                }
+                counties.put(index, row.county);
             }
             for file in 1..=self.files {
                 if !self.part_fits(bytes, index, file) {
@@ -405,21 +432,34 @@ impl Table {
             }
             if before != (row.epoch, members, mark) {
                 let mut earlier = leaders.iter().map(|&leader| self.row(bytes, leader.into()));
-                let fits = match earlier.find(|leader| leader.epoch == row.epoch) {
-                    Some(leader) => leader.list.members == members && u64::from(leader.list.mark) == mark,
-                    None => {
-                        leaders.push(index);
-                        let of_one_shape = *shape.get_or_insert(row.list.shape()) == row.list.shape();
-                        of_one_shape && rules.allow(members.count_ones() as usize, mark)
+                match earlier.find(|leader| leader.epoch == row.epoch) {
+                    Some(leader) => {
+                        if leader.list.members != members || u64::from(leader.list.mark) != mark {
+                            return false;
+                        }
                     }
-                };
-                if !fits {
-                    return false;
+                    // There are zeros behind the mark.
+                    None if mark == row.list.mark.into() => leaders.push(index),
+                    None => return false,
                 }
                 before = (row.epoch, members, mark);
             }
         }
-        true
+        if rules.has_counties() {
+            self.counties = counties;
+        }
+        self.marks_fit(bytes, &leaders)
+    }
+
+    /// Have the lists of these rows grid marks that they may have, and one shape?
+    fn marks_fit(&self, bytes: &[u8], rows: &Order) -> bool {
+        // The shape of the first list.
+        let mut shape = None;
+        rows.iter().map(|&row| self.row(bytes, row.into()).list).all(|list| {
+            let several = self.counties.several(list.members);
+            let of_one_shape = *shape.get_or_insert(list.shape()) == list.shape();
+            of_one_shape && self.rules.allow(list.members.count_ones() as usize, several, list.mark)
+        })
     }
 
     /// Is what a row holds of a file in order, its window too?

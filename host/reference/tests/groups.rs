@@ -1,6 +1,6 @@
 //! Several files on the same machines, in bytes.
 
-use reference::{rows, Engine, Part, Rules, Table};
+use reference::{rows, Engine, Part, Rules, Sheet, Table};
 
 const ENGINE: Engine = Engine { rules: Rules::Newest, blunder: None };
 const FILE_LEN: usize = 4;
@@ -20,7 +20,7 @@ fn part_at(row: usize, file: usize) -> usize {
 /// Two files on machines 1 to 4, in five rows.
 fn founded() -> Vec<u8> {
     let mut table = vec![0xee; 16 + 5 * ROW];
-    assert_eq!(ENGINE.found(&mut table, 5, FILE_LEN as u64, &[1, 0, 2, 0, 3, 0, 4, 0], 0, 2), 4);
+    assert_eq!(ENGINE.found(&mut table, 5, FILE_LEN as u64, &[1, 0, 2, 0, 3, 0, 4, 0], 0, 2, &[3; 4]), 4);
     table
 }
 
@@ -34,7 +34,7 @@ fn split(result: u64) -> (u64, u64) {
 }
 
 fn write(table: &mut [u8], file: u64, c: u64, answering: &[usize]) -> (u64, u64) {
-    split(ENGINE.write(table, c, set(answering), 1, &[7, 8], &mut [0], file))
+    split(ENGINE.write(table, c, set(answering), 1, &[7, 8], &mut [0], file, &mut Sheet::OPEN.bytes(), 1))
 }
 
 fn read(table: &[u8], file: u64, c: u64, answering: &[usize]) -> (u64, u64) {
@@ -42,18 +42,19 @@ fn read(table: &[u8], file: u64, c: u64, answering: &[usize]) -> (u64, u64) {
 }
 
 fn check(table: &mut [u8], c: u64, answering: &[usize]) -> (u64, u64) {
-    split(ENGINE.check(table, c, set(answering)))
+    split(ENGINE.check(table, c, set(answering), &mut Sheet::OPEN.bytes()))
 }
 
 #[test]
 fn a_founding_in_bytes() {
     let mut expected = vec![0; 16 + 5 * ROW];
-    expected[..7].copy_from_slice(&[4, 5, 4, 1, 4, 0, 2]);
+    expected[..7].copy_from_slice(&[5, 5, 4, 1, 4, 0, 2]);
     for row in 1..=4 {
         let head = &mut expected[row_at(row)..];
         head[0] = row as u8;
         head[2] = if row < 4 { row as u8 + 1 } else { 0 };
         head[16] = 0b1111;
+        head[26] = 3;
     }
     assert_eq!(founded(), expected);
     assert_eq!(expected.len(), Table::length(5, FILE_LEN, 2));
@@ -99,7 +100,17 @@ fn question_16_comes_after_3_and_before_4() {
         assert_eq!(write(&mut table, file, 1, &[1]), (16, 0));
         for (c, answering, refusal) in [(5, 0b1111, 2), (1, 0b10, 3), (1, 0b1, 16)] {
             let mut called = [9];
-            let result = ENGINE.write(&mut table, c, answering, 4, &[1], &mut called, file);
+            let result = ENGINE.write(
+                &mut table,
+                c,
+                answering,
+                4,
+                &[1],
+                &mut called,
+                file,
+                &mut Sheet::OPEN.bytes(),
+                1,
+            );
             assert_eq!((split(result), called), ((refusal, 0), [0]), "a range beyond the file");
             called = [9];
             let result = ENGINE.read(&table, c, answering, 4, 1, &mut [], &mut called, file);
@@ -116,12 +127,14 @@ fn question_16_comes_after_3_and_before_4() {
 
 #[test]
 fn foundings_with_no_such_number_of_files() {
-    for (rules, most) in [(Rules::Newest, 8), (Rules::OneFile, 1), (Rules::Published, 1)] {
+    for (rules, most) in
+        [(Rules::Newest, 8), (Rules::OneCounty, 8), (Rules::OneFile, 1), (Rules::Published, 1)]
+    {
         let engine = Engine { rules, ..ENGINE };
         for files in [0, 1, 2, 8, 9, 256 + 1, (1 << 32) + 1, u64::MAX] {
             let length = rules.table_length(2, 3, files.min(9) as usize);
             let mut table = vec![0xee; length];
-            let mut found = |names: &[u8]| split(engine.found(&mut table, 2, 3, names, 0, files));
+            let mut found = |names: &[u8]| split(engine.found(&mut table, 2, 3, names, 0, files, &[1, 1]));
             assert_eq!(found(&[2, 0, 1, 0]), (11, 0));
             let fits = (1..=most).contains(&files);
             assert_eq!(found(&[1, 0, 2, 0]), if fits { (0, 2) } else { (12, 0) }, "{files} files");
@@ -166,10 +179,11 @@ fn a_joined_row_has_zeros_in_every_part() {
     let mut table = founded();
     assert_eq!(write(&mut table, 2, 1, &[1, 2, 3]), (0, 1));
     let mut expected = table.clone();
-    assert_eq!(split(ENGINE.join(&mut table, 9)), (0, 5));
+    assert_eq!(split(ENGINE.join(&mut table, 9, 3)), (0, 5));
     expected[2] = 5;
     expected[row_at(4) + 2] = 5;
     expected[row_at(5)] = 9;
+    expected[row_at(5) + 26] = 3;
     assert_eq!(table, expected);
     // It takes the first write of the first file, and is behind in the second.
     assert_eq!([1, 2].map(|file| write(&mut table, file, 5, &[1, 2, 3, 5])), [(0, 1), (0, 2)]);
@@ -189,7 +203,7 @@ fn every_rule_of_a_group_counts() {
     };
     assert!(with(6, 2) && ![0, 1, 3, 9, 255].into_iter().any(|files| with(6, files)));
     assert!(!(7..16).any(|at| with(at, 1)));
-    let mut reserved = (3..12).chain(25..32);
+    let mut reserved = (3..12).chain([25]).chain(27..32);
     assert!(!reserved.any(|at| with(row_at(2) + at, 1)));
     for part in [1, 2].map(|file| part_at(3, file)) {
         assert!(![2, 3].into_iter().any(|at| with(part + at, 1)));
@@ -208,7 +222,7 @@ fn every_rule_of_a_group_counts() {
     marked[part_at(4, 2) + 8] = 1;
     assert!(Table::decode(&marked).is_some());
     // No other form has these bytes.
-    for form in [0, 1, 2, 3, 5] {
+    for form in [0, 1, 2, 3, 4, 6] {
         let mut other = table.clone();
         other[0] = form;
         assert!(Rules::ALL.into_iter().all(|rules| Table::decode_by(rules, &other).is_none()));
@@ -226,7 +240,7 @@ fn groups_do_not_move() {
     };
     let plain = founded();
     let (mut joined, mut damaged) = (plain.clone(), plain.clone());
-    assert_eq!(ENGINE.join(&mut joined, 9), 5);
+    assert_eq!(ENGINE.join(&mut joined, 9, 1), 5);
     damaged[row_at(1) + 3] = 1;
     for form in [0, 1, 2, 3, 4, 5, (1 << 32) + 1, (1 << 32) + 4] {
         for length in [0, plain.len(), Rules::OneFile.table_length(5, 4, 1), 16 + 5 * 36] {

@@ -1,6 +1,6 @@
 //! No call takes memory: the benchmark's yardstick must not waste time.
 
-use reference::{rows, Engine, Rules, Table};
+use reference::{rows, Engine, Rules, Sheet, Table};
 use std::alloc::{GlobalAlloc, Layout, System};
 use std::cell::Cell;
 
@@ -35,42 +35,65 @@ fn send(engine: Engine, table: &mut [u8], file: usize) -> u64 {
 
 #[test]
 fn no_call_takes_memory() {
-    // In wide tables and in tall ones, of one file and of eight.
-    [(0, 1), (1, 1), (0, 8), (1, 8)].into_iter().for_each(|(choice, files)| every_call(choice, files));
+    // In wide tables and in tall ones, of one file and of eight, of one county and of eight.
+    for (choice, files) in [(0, 1), (1, 1), (0, 8), (1, 8)] {
+        [1, 8].into_iter().for_each(|counties| every_call(choice, files, counties));
+    }
 }
 
 /// Reads, writes and sends are of the last file.
-fn every_call(choice: u64, files: usize) {
+fn every_call(choice: u64, files: usize, counties: u8) {
     let engine = Engine::default();
     let names: Vec<u8> = (1..=63u16).map(|rank| 10 * rank).flat_map(u16::to_le_bytes).collect();
+    let counties: Vec<u8> = (0..63).map(|place| place % counties + 1).collect();
     let mut table = vec![0; Table::length(64, 100, files)];
     let (all, but_one) = (rows::first(64), rows::first(63));
     let (mut buffer, mut list, mut called) = ([0; 100], [0; 128], [0]);
     let [mut older, mut up] = [Rules::Windowless, Rules::OneFile].map(|rules| {
         let mut older = vec![0; rules.table_length(64, 100, 1)];
-        assert_eq!(Engine { rules, ..engine }.found(&mut older, 64, 100, &names, choice, 1), 63);
+        assert_eq!(Engine { rules, ..engine }.found(&mut older, 64, 100, &names, choice, 1, &[]), 63);
         older
     });
     let last = files as u64;
     let before = TAKEN.get();
     let results = [
-        engine.found(&mut table, 64, 100, &names, choice, last),
-        engine.join(&mut table, 305),
-        engine.join(&mut table, 305),
-        engine.join(&mut table, 306),
-        engine.write(&mut table, 5, all, 0, &[1; 100], &mut called, last),
+        engine.found(&mut table, 64, 100, &names, choice, last, &counties),
+        engine.join(&mut table, 305, 1),
+        engine.join(&mut table, 305, 1),
+        engine.join(&mut table, 306, 1),
+        engine.write(&mut table, 5, all, 0, &[1; 100], &mut called, last, &mut Sheet::OPEN.bytes(), 1),
         engine.read(&table, 64, all, 0, 100, &mut buffer, &mut called, last),
-        engine.check(&mut table, 1, all),
-        engine.check(&mut table, 1, but_one),
-        engine.check(&mut table, 1, but_one),
-        engine.write(&mut table, 1, but_one & !2, 0, &[2; 7], &mut called, last),
-        engine.write(&mut table, 1, but_one & !2, 0, &[2; 32], &mut called, last),
-        engine.check(&mut table, 1, all),
+        engine.check(&mut table, 1, all, &mut Sheet::OPEN.bytes()),
+        engine.check(&mut table, 1, but_one, &mut Sheet::OPEN.bytes()),
+        engine.check(&mut table, 1, but_one, &mut Sheet::OPEN.bytes()),
+        engine.write(&mut table, 1, but_one & !2, 0, &[2; 7], &mut called, last, &mut Sheet::OPEN.bytes(), 1),
+        engine.write(
+            &mut table,
+            1,
+            but_one & !2,
+            0,
+            &[2; 32],
+            &mut called,
+            last,
+            &mut Sheet::OPEN.bytes(),
+            1,
+        ),
+        engine.check(&mut table, 1, all, &mut Sheet::OPEN.bytes()),
         // By two patches, and after a long one whole.
         send(engine, &mut table, files),
-        engine.check(&mut table, 1, but_one),
-        engine.write(&mut table, 1, but_one & !2, 0, &[2; 33], &mut called, last),
-        engine.check(&mut table, 1, all),
+        engine.check(&mut table, 1, but_one, &mut Sheet::OPEN.bytes()),
+        engine.write(
+            &mut table,
+            1,
+            but_one & !2,
+            0,
+            &[2; 33],
+            &mut called,
+            last,
+            &mut Sheet::OPEN.bytes(),
+            1,
+        ),
+        engine.check(&mut table, 1, all, &mut Sheet::OPEN.bytes()),
         send(engine, &mut table, files),
         engine.read(&table, 1, 1, 0, 100, &mut buffer, &mut called, last),
         engine.chart(9, 2 * choice, &mut list),
