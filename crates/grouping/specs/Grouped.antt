@@ -1,6 +1,6 @@
 -- The rows of each county, as eight sets in an array.
 use mathlib.Core.Path.{_≡_}
-use mathlib.Core.Bool.{_&&_}
+use mathlib.Core.Bool.{true, _&&_}
 use mathlib.Core.List.{List}
 use Prim.Native.Nat.{ℕ, _+_, _-_, _<_}
 use lib.Dec.{eqb, leb}
@@ -9,6 +9,8 @@ use Rattle.sets.specs.Upto.{lowest}
 use Rattle.sets.specs.Sets.{has}
 use Rattle.fields.specs.Layout.{countyOf}
 use Rattle.counties.specs.Counties.{Frame}
+use Rattle.table.specs.WellFormed.{wellFormed}
+use Rattle.table.specs.Contracts.{Ordered}
 
 -- the county that the sets give a row: the first that has it, 0 where none has
 unfoldable pub countyBy : List ℕ → ℕ → ℕ
@@ -32,3 +34,9 @@ pub record Grouped (t sets : List ℕ) : Type 0 where
 -- what such sets and an order tell of the rows
 unfoldable pub frameBy : List ℕ → List ℕ → Frame
 frameBy order sets = record { order = order; county = countyBy sets }
+
+-- what question 1 hands on where it is yes: arrays that hold the frame of a well-formed table
+pub record Framed (t order sets : List ℕ) : Type 0 where
+  pub formed : wellFormed t ≡ true
+  pub ordered : Ordered t order
+  pub grouped : Grouped t sets

@@ -1,5 +1,6 @@
 use mathlib.Core.Bool.{true, _&&_}
-use mathlib.Core.Path.{_≡_, sym, _∙_}
+use mathlib.Core.Path.{_≡_, refl, sym, _∙_}
+use mathlib.Core.Logic.{inl, inr}
 use borrow.Author.Tests.{not-true, not-false}
 use borrow.Author.Needs.{needs}
 use Rattle.bools.proofs.BoolLaws.{and-l, and-r, clash}
@@ -28,19 +29,19 @@ sized-requires : tie.Need-sized-requires
 sized-requires c κs = search needs
 
 returns : tie.Need-returns
-returns c = (by-size _ (sym (c .before .sized .ensures) ∙ not-true _ (c .if1 .taken)), λ e. absurd (clash e), left-unsized _ _ (sym (c .before .sized .ensures) ∙ not-true _ (c .if1 .taken)))
+returns c = (by-size _ (sym (c .before .sized .ensures) ∙ not-true _ (c .if1 .taken)), λ e. absurd (clash e), left-unsized _ _ (sym (c .before .sized .ensures) ∙ not-true _ (c .if1 .taken)), inr refl)
 
 rows-right-requires : tie.Need-rows-right-requires
 rows-right-requires c κs = sized-here c
 
 returns-2 : tie.Need-returns-2
-returns-2 c = (by-rows _ (sized-here (c .before .before)) (sym (c .before .rows-right .ensures) ∙ not-true _ (c .if2 .taken)), λ e. absurd (clash e), left-wrong _ _ (sym (c .before .rows-right .ensures) ∙ not-true _ (c .if2 .taken)))
+returns-2 c = (by-rows _ (sized-here (c .before .before)) (sym (c .before .rows-right .ensures) ∙ not-true _ (c .if2 .taken)), λ e. absurd (clash e), left-wrong _ _ (sym (c .before .rows-right .ensures) ∙ not-true _ (c .if2 .taken)), inr refl)
 
 follow-requires : tie.Need-follow-requires
 follow-requires c κs = linked-here (c .before)
 
 returns-3 : tie.Need-returns-3
-returns-3 c = (by-chain _ (linked-here (c .before .before .before)) (sym (c .before .follow .ensures .0) ∙ not-true _ (c .if3 .taken)), λ e. absurd (clash e), c .before .follow .ensures .2 ∙ left-linked _ _ (linked-here (c .before .before .before)))
+returns-3 c = (by-chain _ (linked-here (c .before .before .before)) (sym (c .before .follow .ensures .0) ∙ not-true _ (c .if3 .taken)), λ e. absurd (clash e), c .before .follow .ensures .2 ∙ left-linked _ _ (linked-here (c .before .before .before)), inr refl)
 
 group-requires : tie.Need-group-requires
 group-requires c κs = linked-here (c .before .before .before)
@@ -51,7 +52,7 @@ lists-right-requires c κs = let g = c .before in (linked-here (g .before .befor
 returns-4 : tie.Need-returns-4
 returns-4 c =
     let e = c .before .before .before .before in
-    (by-lists _ (linked-here (e .before .before .before)) (chain-right e) (sym (c .before .lists-right .ensures) ∙ not-true _ (c .if4 .taken)), λ z. absurd (clash z), e .before .follow .ensures .2 ∙ left-linked _ _ (linked-here (e .before .before .before)))
+    (by-lists _ (linked-here (e .before .before .before)) (chain-right e) (sym (c .before .lists-right .ensures) ∙ not-true _ (c .if4 .taken)), λ z. absurd (clash z), e .before .follow .ensures .2 ∙ left-linked _ _ (linked-here (e .before .before .before)), inl (c .before .before .before .group .ensures))
 
 unused-zero-requires : tie.Need-unused-zero-requires
 unused-zero-requires c κs = let e = c .before .before .before .before in linked-here (e .before .before .before) .sized
@@ -59,10 +60,12 @@ unused-zero-requires c κs = let e = c .before .before .before .before in linked
 returns-5 : tie.Need-returns-5
 returns-5 c =
     let a = c .before in
-    let e = a .before .before .before .before in (
+    let g = a .before .before .before in
+    let e = g .before in (
       c .unused-zero .ensures ∙ by-unused _ (linked-here (e .before .before .before)) (chain-right e) (sym (a .before .lists-right .ensures) ∙ not-false _ (a .if4 .left)),
-      λ _. e .before .follow .ensures .1 (not-false _ (e .if3 .left)),
+      λ _. (e .before .follow .ensures .1 (not-false _ (e .if3 .left)), g .group .ensures),
       e .before .follow .ensures .2 ∙ left-linked _ _ (linked-here (e .before .before .before)),
+      inl (g .group .ensures),
     )
 
 pub chained-spec : {M : Type 1} → statement M

@@ -24,7 +24,7 @@ unfolding wellFormed
 by-form t f e q = ap (λ (n : ℕ). eqb n formValue) q ∙ sym (rw e (and-true (eqb (formOf t) formValue)))
 
 returns : tie.Need-returns
-returns c = (by-own _ (sym (c .before .chained .ensures .0) ∙ not-true _ (c .if1 .taken)), λ e. absurd (clash e), c .before .chained .ensures .2)
+returns c = (by-own _ (sym (c .before .chained .ensures .0) ∙ not-true _ (c .if1 .taken)), λ e. absurd (clash e), c .before .chained .ensures .2, c .before .chained .ensures .3)
 
 form-requires : tie.Need-form-requires
 form-requires c κs = long (own-sized (sym (c .before .chained .ensures .0) ∙ not-false _ (c .if1 .left)))
@@ -33,7 +33,10 @@ returns-2 : tie.Need-returns-2
 unfolding formValue
 returns-2 c =
     let k = c .before .before in
-    (by-form _ _ (sym (k .chained .ensures .0) ∙ not-false _ (c .before .if1 .left)) (c .form .ensures), λ _. k .chained .ensures .1 (not-false _ (c .before .if1 .left)), k .chained .ensures .2)
+    let own = not-false _ (c .before .if1 .left) in
+    let e = by-form _ _ (sym (k .chained .ensures .0) ∙ own) (c .form .ensures) in
+    let f = k .chained .ensures .1 own in
+    (e, λ y. record { formed = sym e ∙ y; ordered = f .0; grouped = f .1 }, k .chained .ensures .2, k .chained .ensures .3)
 
 pub ordered-spec : {M : Type 1} → statement M
 ordered-spec = tie.close (tie.spec chained-requires returns form-requires returns-2)
