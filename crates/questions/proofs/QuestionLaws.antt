@@ -26,11 +26,14 @@ range-test file offset count b f g =
     (λ e. g (leb-true 1 count (and-l _ _ e)) (leb-true (offset + count) file (and-r (leb 1 count) _ e)))
 
 module _ (t : List ℕ) (c r : ℕ) where
-  -- questions 1 to 3 by their answers
-  pub by-answers : (x y z : Bool) → wellFormed t ≡ x → (isUsed t c && onlyRows (usedOf t) r) ≡ y → has r c ≡ z
-      → cond x (cond y (cond z 0 3) 2) 1 ≡ firstNo (byCoordinator t c r [])
+  -- question 1, and 2 and 3 after it, by their answers
+  pub not-formed : (qs : List Question) → wellFormed t ≡ false → 1 ≡ firstNo (byCoordinator t c r qs)
   unfolding firstNo byCoordinator
-  by-answers x y z ex ey ez = rw (ex, ey, ez) refl
+  not-formed qs e = rw e
+
+  pub by-answers : (y z : Bool) → wellFormed t ≡ true → (isUsed t c && onlyRows (usedOf t) r) ≡ y → has r c ≡ z → cond y (cond z 0 3) 2 ≡ firstNo (byCoordinator t c r [])
+  unfolding firstNo byCoordinator
+  by-answers y z w ey ez = rw (w, ey, ez) refl
 
   module _ (q offset count : ℕ) where
     pub range-no : (n : ℕ) → n ≡ firstNo (byCoordinator t c r []) → 1 ≤ n → n ≡ firstNo (toRange t q c r offset count)

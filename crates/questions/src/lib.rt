@@ -3,13 +3,12 @@ use asking::result;
 use bools::both;
 use rows::RowSet;
 ghost use mathlib.Core.Path.{_≡_};
-ghost use mathlib.Core.Bool.{_&&_};
+ghost use mathlib.Core.Bool.{true, _&&_};
 ghost use mathlib.Core.List.{[]};
 ghost use Prim.Native.Nat.{_+_, _≤_};
 ghost use lib.Dec.{leb, ltb};
 ghost use lib.ListN.{length};
-ghost use Rattle.table.specs.WellFormed.{limit};
-ghost use Rattle.table.specs.Contracts.{Ordered, orderLeft};
+ghost use Rattle.table.specs.WellFormed.{limit, wellFormed};
 ghost use Rattle.asking.specs.Asking.{firstNo, result};
 ghost use Rattle.protocol.specs.Calls.{byCoordinator, inGroup, noted};
 ghost use Rattle.questions.specs.Stages.{toRange};
@@ -45,24 +44,22 @@ pub fn below_limit(number: u32) -> bool
     number < 1_000_000
 }
 
-// Questions 1 to 3 of a call by a coordinator: the first no, 0 where there is none. Then `order` starts with the used rows in chain order.
-pub fn coordinator_asked(t: &[u8], c: usize, answering: RowSet, order: &mut [u8; 64]) -> u32
-    ensures { λ r. ⌜ (r ≡ firstNo (byCoordinator (now (t .entry)) c (answering .bits) [])) × (r ≡ 0 → Ordered (now (t .entry)) (now (order .exit))) × (now (order .exit) ≡ orderLeft (now (t .entry)) (now (order .entry))) ⌝ }
+// Questions 2 and 3 of a call by a coordinator, after 1: the first no, 0 where there is none.
+pub fn coordinator_asked(t: &[u8], c: usize, answering: RowSet) -> u32
+    requires { ⌜ wellFormed (now t) ≡ true ⌝ }
+    ensures { λ r. ⌜ r ≡ firstNo (byCoordinator (now (t .entry)) c (answering .bits) []) ⌝ }
 {
-    if wellformed::ordered(t, order) {
-        let used = header::used(t);
-        if both(
-            values::between(1, c, used),
-            values::only_rows(used, answering.bits),
-        ) {
-            if answering.has(c) {
-                return 0;
-            }
-            return 3;
+    let used = header::used(t);
+    if both(
+        values::between(1, c, used),
+        values::only_rows(used, answering.bits),
+    ) {
+        if answering.has(c) {
+            return 0;
         }
-        return 2;
+        return 3;
     }
-    1
+    2
 }
 
 // Is a range of at least one byte within a file of so many? (A sum could be too large.)
@@ -86,7 +83,7 @@ pub fn in_group(t: &[u8], q: usize) -> bool
     values::between(1, q, header::files(t))
 }
 
-// Questions 1 to 3, 16 and 4 of a read or a write of file q: the first no, 0 where there is none. Then `order` starts with the used rows in chain order.
+// Questions 2, 3, 16 and 4 of a read or a write of file q, after 1: the first no, 0 where there is none.
 pub fn range_asked(
     t: &[u8],
     q: usize,
@@ -94,11 +91,11 @@ pub fn range_asked(
     answering: RowSet,
     offset: usize,
     count: usize,
-    order: &mut [u8; 64],
 ) -> u32
-    ensures { λ r. ⌜ (r ≡ firstNo (toRange (now (t .entry)) q c (answering .bits) offset count)) × (r ≡ 0 → Ordered (now (t .entry)) (now (order .exit))) × (now (order .exit) ≡ orderLeft (now (t .entry)) (now (order .entry))) ⌝ }
+    requires { ⌜ wellFormed (now t) ≡ true ⌝ }
+    ensures { λ r. ⌜ r ≡ firstNo (toRange (now (t .entry)) q c (answering .bits) offset count) ⌝ }
 {
-    let no = coordinator_asked(t, c, answering, order);
+    let no = coordinator_asked(t, c, answering);
     if no != 0 {
         return no;
     }

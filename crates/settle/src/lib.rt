@@ -13,10 +13,9 @@ ghost use lib.ListN.{take};
 ghost use Rattle.sets.specs.Upto.{Within, count};
 ghost use Rattle.sets.specs.Sets.{has};
 ghost use Rattle.fields.specs.Layout.{isEmpty, usedOf, filesOf};
-ghost use Rattle.table.specs.WellFormed.{wellFormed};
-ghost use Rattle.table.specs.Contracts.{Listed, Ordered};
+ghost use Rattle.table.specs.Contracts.{Listed};
 ghost use Rattle.counties.specs.Counties.{listQuorum};
-ghost use Rattle.grouping.specs.Grouped.{Apart, frameBy};
+ghost use Rattle.grouping.specs.Grouped.{Apart, frameBy, Framed};
 ghost use Rattle.settle.specs.Works.{Works};
 
 // The set that a call works on: the first no among questions 6 and 7 (0: none), its good rows and their version, and how many machines were called.
@@ -73,23 +72,23 @@ fn on_all(
 }
 
 // The set that a read or a write of file q works on: P, the coordinator's own choice cut down to the rows that answered, if questions 6 and 7
-// are yes for it; otherwise all of them. `order` starts with the used rows in chain order.
+// are yes for it; otherwise all of them. `order` and `sets` hold the frame of the table.
 pub fn settle(
     kind: Kind,
     t: &[u8],
     q: usize,
     order: &[u8; 64],
+    sets: &[u64; 8],
     c: usize,
     answering: RowSet,
 ) -> Settled
-    requires { ⌜ (wellFormed (now t) ≡ true) × Within (filesOf (now t)) q × Ordered (now t) (now order) × (answering .bits < 2 ^ usedOf (now t)) × (has (answering .bits) c ≡ true) ⌝ }
+    requires { ⌜ Framed (now t) (now order) (now sets) × Within (filesOf (now t)) q × (answering .bits < 2 ^ usedOf (now t)) × (has (answering .bits) c ≡ true) ⌝ }
     ensures { λ r. ⌜ Works kind (now (t .entry)) q c (answering .bits) r ⌝ }
 {
     let count = header::used(t);
     let row = table::row_of(t, c);
     let own = fields::list(row);
-    let sets = grouping::group(t);
-    let chosen = tiers::choice(kind, order, count, &sets, own, fields::name(row));
+    let chosen = tiers::choice(kind, order, count, sets, own, fields::name(row));
     let tried = chosen.cut(answering);
     // pointer and length of the table, each by itself: loaded as one, they would wait until the stores of the caller are done
     let lent = &t[0..t.len()];
@@ -99,19 +98,19 @@ pub fn settle(
         if both(tried.bits == chosen.bits, part.list.same(own)) {
             return on_try(tried, part, chosen);
         }
-        if quorum_held(kind, order, count, &sets, part.list, tried) {
+        if quorum_held(kind, order, count, sets, part.list, tried) {
             return on_try(tried, part, chosen);
         }
     }
     if tried.bits == answering.bits {
         // P is all that answered: it is not polled again
-        return on_all(kind, order, count, &sets, answering, part);
+        return on_all(kind, order, count, sets, answering, part);
     }
     on_all(
         kind,
         order,
         count,
-        &sets,
+        sets,
         answering,
         judged(lent, q, answering),
     )

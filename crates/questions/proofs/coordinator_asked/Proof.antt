@@ -11,29 +11,22 @@ use Rattle.fields.specs.Layout.{usedOf}
 use Rattle.questions.proofs.coordinator_asked.Statement.{statement}
 use Rattle.questions.proofs.coordinator_asked.Tie as tie
 
--- question 1 is yes
-formed : (c : tie.Then1) → wellFormed (c .before .before .before .before .args .t .now) ≡ true
-formed c = sym (c .before .ordered .ensures .0) ∙ c .if1 .taken
-
 -- question 2, as it was asked
-named : (c : tie.After-both) → let a = c .before .before .before .before .before .before .before .before .args in (isUsed (a .t .now) (a .c) && onlyRows (usedOf (a .t .now)) (a .answering .bits)) ≡ c .both .result
+named : (c : tie.After-both) → let a = c .before .before .before .before .before .args in (isUsed (a .t .now) (a .c) && onlyRows (usedOf (a .t .now)) (a .answering .bits)) ≡ c .both .result
 unfolding isUsed
 named c =
-    let a = c .before .before .before .before .before .before .before .before .args in
+    let a = c .before .before .before .before .before .args in
     let u = c .before .before .before .used .ensures in
     sym (c .both .ensures ∙ ap₂ _&&_ (c .before .before .between .ensures ∙ ap (between 1 (a .c)) u) (c .before .only-rows .ensures ∙ ap (λ (n : ℕ). onlyRows n (a .answering .bits)) u))
 
-ordered-requires : tie.Need-ordered-requires
-ordered-requires c κs = search needs
-
 used-requires : tie.Need-used-requires
-used-requires c κs = long (sized (formed c))
+used-requires c κs = long (sized (c .before .pre))
 
 between-requires : tie.Need-between-requires
 between-requires c κs = search needs
 
 only-rows-requires : tie.Need-only-rows-requires
-only-rows-requires c κs = omega (arith, c .before .used .ensures, few-rows (sized (formed (c .before .before))))
+only-rows-requires c κs = omega (arith, c .before .used .ensures, few-rows (sized (c .before .before .before .pre)))
 
 both-requires : tie.Need-both-requires
 both-requires c κs = search needs
@@ -44,36 +37,17 @@ has-requires c κs = search needs
 returns : tie.Need-returns
 returns c =
     let k = c .before .before .before in
-    let f = k .before .before .before .before in (
-      by-answers _ _ _ true true true (formed f) (named k ∙ c .before .before .if2 .taken) (sym (c .before .has .ensures) ∙ c .if3 .taken),
-      λ _. f .before .ordered .ensures .1 (f .if1 .taken),
-      f .before .ordered .ensures .2,
-    )
+    by-answers _ _ _ true true (k .before .before .before .before .before .pre) (named k ∙ c .before .before .if1 .taken) (sym (c .before .has .ensures) ∙ c .if2 .taken)
 
 returns-2 : tie.Need-returns-2
 returns-2 c =
     let k = c .before .before .before in
-    (by-answers _ _ _ true true false (formed (k .before .before .before .before)) (named k ∙ c .before .before .if2 .taken) (sym (c .before .has .ensures) ∙ c .if3 .left), λ e. absurd (omega arith), k .before .before .before .before .before .ordered .ensures .2)
+    by-answers _ _ _ true false (k .before .before .before .before .before .pre) (named k ∙ c .before .before .if1 .taken) (sym (c .before .has .ensures) ∙ c .if2 .left)
 
 returns-3 : tie.Need-returns-3
 returns-3 c =
     let k = c .before in
-    (by-answers _ _ _ true false _ (formed (k .before .before .before .before)) (named k ∙ c .if2 .left) refl, λ e. absurd (omega arith), k .before .before .before .before .before .ordered .ensures .2)
-
-returns-4 : tie.Need-returns-4
-returns-4 c = (by-answers _ _ _ false _ _ (sym (c .before .ordered .ensures .0) ∙ c .if1 .left) refl refl, λ e. absurd (omega arith), c .before .ordered .ensures .2)
+    by-answers _ _ _ false _ (k .before .before .before .before .before .pre) (named k ∙ c .if1 .left) refl
 
 pub coordinator-asked-spec : {M : Type 1} → statement M
-coordinator-asked-spec =
-    tie.close
-    (tie.spec
-    ordered-requires
-    used-requires
-    between-requires
-    only-rows-requires
-    both-requires
-    has-requires
-    returns
-    returns-2
-    returns-3
-    returns-4)
+coordinator-asked-spec = tie.close (tie.spec used-requires between-requires only-rows-requires both-requires has-requires returns returns-2 returns-3)
