@@ -16,12 +16,13 @@ use Rattle.sets.proofs.UptoLaws.{lowest-ext, lowest-none, lowest-is}
 use Rattle.sets.proofs.SetLaws.{row-yes, first-in, first-within, empty-at}
 use Rattle.fields.specs.Layout.{get, county, usedOf, rowBytes, countyOf}
 use Rattle.table.specs.Chain.{frameOf}
+use Rattle.table.specs.WellFormed.{wellFormed}
 use Rattle.table.specs.Contracts.{Linked, Ordered}
 use Rattle.table.proofs.WellFormedLaws.{county-few}
-use Rattle.counties.specs.Counties.{countyAt, inCounty}
+use Rattle.counties.specs.Counties.{Frame, countyAt, inCounty}
 use Rattle.counties.specs.Claims.{InOne}
 use Rattle.counties.proofs.TwoLevelLaws.{in-county}
-use Rattle.grouping.specs.Grouped.{countyBy, Apart, Filled, Grouped, frameBy}
+use Rattle.grouping.specs.Grouped.{countyBy, Apart, Filled, Grouped, frameBy, Framed}
 
 -- ---- the first k rows are in their sets
 zero-at : (n j : ℕ) → _≡_ {A = ℕ} (getD (replicate n 0) j 0) 0
@@ -155,6 +156,18 @@ table-grouped t sets l f = record { apart = all-apart _ _ (county-few l) sets f;
 pub frame-by : (t order sets : List ℕ) → Ordered t order → Grouped t sets → frameBy (take (usedOf t) order) sets ≡ frameOf t
 unfolding frameBy frameOf
 frame-by t order sets o g = λ i. record { order = o .order i; county = g .county i }
+
+-- and that of every well-formed table with as many rows used and the same frame
+pub framed-too : {t u order sets : List ℕ} → wellFormed u ≡ true → usedOf u ≡ usedOf t → frameOf u ≡ frameOf t → Framed t order sets → Framed u order sets
+unfolding frameOf
+framed-too {t} {u} {order} w e q f = record {
+  formed = w;
+  ordered = record {
+    listed = rw e (f .ordered .listed);
+    order = ap (λ (n : ℕ). take n order) e ∙ f .ordered .order ∙ sym (ap (λ (x : Frame). x .order) q);
+  };
+  grouped = record { apart = f .grouped .apart; county = f .grouped .county ∙ sym (ap (λ (x : Frame). x .county) q) };
+}
 
 -- ---- of counties in a list
 pub places-grouped : (places sets : List ℕ) → ((k : ℕ) → k < length places → getD places k 0 ≤ 8) → Filled (λ i. getD places (i - 1) 0) (length places) sets

@@ -23,6 +23,7 @@ use Rattle.protocol.specs.Calls.{Call, founding, join, read, write, send, check
 use Rattle.asking.specs.Asking.{firstNo}
 use Rattle.protocol.specs.Claims.{Answering, byRead, byWrite, bySend, byCheck, OnlyRowsOf, EqualIn, SameFor}
 use Rattle.protocol.proofs.FrameLaws.{SameFrame, same-used}
+use Rattle.protocol.proofs.FrameKept.{frame-itself, call-frame}
 use Rattle.protocol.proofs.QuestionLaws.{CheckYes, refusal-is, when-done, when-refused, write-yes, send-yes, check-yes}
 use Rattle.protocol.proofs.DoneLaws.{writing, writeTable, write-leaves, sendTable, send-leaves, checkList, checking, checkTable, check-leaves}
 use Rattle.protocol.proofs.Unanswered.{used-same, lengths, rest}
@@ -90,33 +91,7 @@ set-within rows n (suc j) h = go (decLt j n)
     go (yes l) = omega arith
     go (no l) = absurd (clash (sym (out-of-set rows n j (omega arith)) ∙ sym (has-suc (setOf rows n) j) ∙ h))
 
--- ---- a call keeps header, names, links and counties
-same-frame : (t : List ℕ) → SameFrame t t
-same-frame t = record { like = record { long = refl; header = λ a n h. refl }; names = refl; links = refl; counties = refl }
-
-done-frame : (t : List ℕ) (k : Call) (r : ℕ) → Answering k r → firstNo (questions t k) ≡ 0 → SameFrame t (done t k .table)
-unfolding done writeTable writing sendTable checkTable checking checkList
-done-frame t (read a) _ byRead h = same-frame t
-done-frame t (write a) _ byWrite h = write-leaves t a (write-yes t a h) .frame
-done-frame t (send a) _ bySend h = send-leaves t a (send-yes t a h) .frame
-done-frame t (check a) _ byCheck h = go (eqb (a .r) (inForce (answers t 1 (a .r)) (has (a .r)) .members)) refl
-  where
-    y : CheckYes t a
-    y = check-yes t a h
-
-    go : (b : Bool) → eqb (a .r) (inForce (answers t 1 (a .r)) (has (a .r)) .members) ≡ b → SameFrame t (done t (check a) .table)
-    go true q = rw q (same-frame t)
-    go false q =
-        let room : ltb (highestEpoch (answers t 1 (a .r)) (has (a .r))) limit ≡ true = rw q at (y .room) in
-        rw q (check-leaves t a y (ltb-true _ _ room) .frame)
-
-call-frame : (t : List ℕ) (k : Call) (r : ℕ) → Answering k r → SameFrame t (outcome t k .table)
-call-frame t k r a = go (outcome t k .refusal) refl
-  where
-    go : (n : ℕ) → outcome t k .refusal ≡ n → SameFrame t (outcome t k .table)
-    go zero q = subst (λ (o : Outcome). SameFrame t (o .table)) (sym (when-done t k q)) (done-frame t k r a (sym (refusal-is t k) ∙ q))
-    go (suc n) q = rw (when-refused t k (λ z. omega arith) .1) (same-frame t)
-
+-- ---- calls keep header, names, links and counties
 next-frame : {t u v : List ℕ} → SameFrame t u → SameFrame u v → SameFrame t v
 next-frame f g = record {
   like = record { long = g .like .long ∙ f .like .long; header = λ a n h. g .like .header a n h ∙ f .like .header a n h };
@@ -251,7 +226,7 @@ module _ (t : List ℕ) (b : ℕ → Book) (p : ℕ) (G : Group t b p) (request 
 
   frame-after : (es : List Entry) → SameFrame t (upto es)
   unfolding upto callsOf tableAfter
-  frame-after [] = same-frame t
+  frame-after [] = frame-itself t
   frame-after (e ∷ es) =
       subst (SameFrame t) (sym (after-last t (callsOf t request es) (callOf t request e)))
       (next-frame (frame-after es) (call-frame (upto es) (callOf t request e) (setOf (shown (e .heard)) (usedOf t)) (call-answering t request e)))

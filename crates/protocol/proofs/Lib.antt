@@ -6,6 +6,7 @@ pub mod FrameLaws
 pub mod CopyLaws
 pub mod DoneLaws
 pub mod KeepLaws
+pub mod FrameKept
 pub mod FoundedLaws
 pub mod Claimed
 pub mod NotedClaimed

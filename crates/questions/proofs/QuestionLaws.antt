@@ -36,6 +36,10 @@ module _ (t : List ℕ) (c r : ℕ) where
   by-answers y z w ey ez = rw (w, ey, ez) refl
 
   module _ (q offset count : ℕ) where
+    pub range-one : wellFormed t ≡ false → 1 ≡ firstNo (toRange t q c r offset count)
+    unfolding toRange
+    range-one e = not-formed _ e
+
     pub range-no : (n : ℕ) → n ≡ firstNo (byCoordinator t c r []) → 1 ≤ n → n ≡ firstNo (toRange t q c r offset count)
     unfolding toRange byCoordinator
     range-no n e h = e ∙ sym (asked-more (byCoordinator t c r []) (record { ask = 16; yes = inGroup t q } ∷ record { ask = 4; yes = inFile t offset count } ∷ []) (omega (arith, e)))

@@ -1,6 +1,6 @@
 -- A write, as the code goes through it.
 use mathlib.Core.Path.{_≡_, refl, sym, _∙_, ap, ap₂}
-use mathlib.Core.Bool.{Bool, true, false, cond}
+use mathlib.Core.Bool.{Bool, true, false, cond, _&&_}
 use mathlib.Core.List.{List, [], _∷_}
 use Prim.Native.Nat.{ℕ, _+_, _*_, _^_, _≤_, _<_}
 use native.Mathlib.Decide.{ℕ-discrete, decLt}
@@ -17,7 +17,7 @@ use Rattle.window.specs.Windows.{windowOf}
 use Rattle.windows.specs.Visits.{RightFor}
 use Rattle.table.proofs.FormLaws.{formed}
 use Rattle.table.specs.Chain.{frameOf}
-use Rattle.table.specs.WellFormed.{limit}
+use Rattle.table.specs.WellFormed.{limit, wellFormed}
 use Rattle.protocol.specs.Polls.{goodVersion, good, current, quorumHeld}
 use Rattle.protocol.specs.Rows.{wroteCopy}
 use Rattle.asking.specs.Asking.{Question, firstNo, before}
@@ -27,12 +27,17 @@ use Rattle.sheet.proofs.SheetLaws.{club-asked, sheet-facts, may-write}
 use Rattle.protocol.specs.Calls.{Writing, Outcome, write, questions, answers, workSet, noted, fromSix, calledAfter, done, outcome, resultOf, lentSheet}
 use Rattle.protocol.proofs.PollLaws.{worked-in}
 use Rattle.protocol.proofs.QuestionLaws.{write-yes, refusal-is, called-is, when-done, when-refused}
-use Rattle.protocol.specs.Claims.{ResultTells}
-use Rattle.protocol.proofs.Claimed.{result-tells}
+use Rattle.protocol.specs.Claims
+use Rattle.protocol.specs.Claims.{ResultTells, StaysWellFormed, byWrite}
+use Rattle.protocol.proofs.Claimed.{result-tells, stays-well-formed}
+use Rattle.protocol.proofs.FrameLaws.{same-used, same-frame}
+use Rattle.protocol.proofs.FrameKept.{call-frame}
+use Rattle.grouping.specs.Grouped.{Framed}
+use Rattle.grouping.proofs.GroupLaws.{framed-too}
 use Rattle.settle.specs.declared.Settled.{Settled}
 use Rattle.settle.specs.Works.{Works}
-use Rattle.questions.specs.Stages.{toRange}
-use Rattle.questions.proofs.QuestionLaws.{after-range, before-range, Refused, refused-is, no-in, yes-in}
+use Rattle.questions.specs.Stages.{toRange, aWrite}
+use Rattle.questions.proofs.QuestionLaws.{range-one, after-range, before-range, called-early, Refused, refused-is, no-in, yes-in}
 
 -- the first of some questions answered no
 no-here : (m : ℕ) (b : Bool) (qs : List Question) → b ≡ false → firstNo (record { ask = m; yes = b } ∷ qs) ≡ m
@@ -44,12 +49,12 @@ unfolding firstNo
 two-asked x y qs = refl
 
 -- refused by 1 for its sheet
-pub sheet-no : (t : List ℕ) (a : Writing) → sheetRight (a .sheet) ≡ false → Refused t (write a) 1 × (noted (a .called) 0 ≡ outcome t (write a) .called)
+sheet-no : (t : List ℕ) (a : Writing) → sheetRight (a .sheet) ≡ false → Refused t (write a) 1 × (noted (a .called) 0 ≡ outcome t (write a) .called)
 unfolding questions firstNo calledAfter fromSix before
 sheet-no t a e = (refused-is t (write a) 1 (rw e) (omega arith), sym (called-is t (write a) ∙ ap (noted (a .called)) (rw e)))
 
 module _ (t : List ℕ) (a : Writing) (right : sheetRight (a .sheet) ≡ true) where
-  -- refused by 1 to 3, 16 or 4
+  -- refused by 1 for the table, by 2, 3, 16 or 4
   pub write-early : (n : ℕ) → n ≡ firstNo (toRange t (a .file) (a .c) (a .r) (a .offset) (length (a .patch))) → 1 ≤ n → Refused t (write a) n
   unfolding questions
   write-early n e h = refused-is t (write a) n (no-first 1 (sheetRight (a .sheet)) _ right ∙ before-range t (a .c) (a .r) (a .file) (a .offset) (length (a .patch)) _ n e h) h
@@ -137,6 +142,23 @@ module _ (t : List ℕ) (a : Writing) (right : sheetRight (a .sheet) ≡ true) w
                   ∙ ap (λ (n : ℕ). withRows t (workSet Write t (a .file) (a .c) (a .r)) (wrote (good (answers t (a .file) (a .r)) (workSet Write t (a .file) (a .c) (a .r))) (n + 1)) (usedOf t)) (j .version)
                   ∙ sym (ap (λ (x : Outcome). x .table) o),
             )
+
+-- refused by 1
+pub one-no : (t : List ℕ) (a : Writing) → (sheetRight (a .sheet) && wellFormed t) ≡ false → Refused t (write a) 1 × (noted (a .called) 0 ≡ outcome t (write a) .called)
+one-no t a e = go (sheetRight (a .sheet)) refl
+  where
+    go : (b : Bool) → sheetRight (a .sheet) ≡ b → Refused t (write a) 1 × (noted (a .called) 0 ≡ outcome t (write a) .called)
+    go false q = sheet-no t a q
+    go true q =
+        let n = range-one t (a .c) (a .r) (a .file) (a .offset) (length (a .patch)) (rw q at e) in
+        (write-early t a q 1 n (omega arith), called-early t (aWrite {a = a} q) 1 n (omega arith))
+
+-- the frame that question 1 found is that of the table after the write too
+pub write-framed : {t order sets : List ℕ} (a : Writing) → Framed t order sets → Framed (outcome t (write a) .table) order sets
+unfolding StaysWellFormed
+write-framed {t} a f =
+    let s = call-frame t (write a) (a .r) byWrite in
+    framed-too (stays-well-formed t (write a) Claims.aWrite (f .formed)) (same-used s) (same-frame s) f
 
 -- ---- the sheet: one more where the result is below 2^32
 module _ (t : List ℕ) (a : Writing) (x : ℕ) (e : x ≡ resultOf (outcome t (write a))) where

@@ -1,11 +1,13 @@
 // A write: its questions in order, then what is done.
 use asking::result;
+use bools::both;
 use questions::Answered;
 use questions::answer_of;
 use questions::below_limit;
 use questions::range_asked;
 use quorums::Kind;
 use rows::RowSet;
+use wellformed::ordered;
 ghost use mathlib.Core.Path.{_≡_};
 ghost use mathlib.Core.Bool.{true, cond};
 ghost use mathlib.Core.List.{List, []};
@@ -13,13 +15,17 @@ ghost use Prim.Native.Nat.{ℕ, _^_, _<_};
 ghost use lib.Dec.{eqb, ltb};
 ghost use lib.ListN.{length};
 ghost use Rattle.sets.specs.Upto.{Within};
+ghost use Rattle.grouping.specs.Grouped.{Framed};
 ghost use Rattle.asking.specs.Asking.{firstNo};
 ghost use Rattle.sheet.specs.Sheet.{sheetRight, byClub, counted};
 ghost use Rattle.protocol.specs.Calls.{resultOf, outcome, write, noted};
 
-// A write by a right sheet, all but its notes: `fits` says whether one byte is lent for how many machines were called, `share` what the sheet says to the club.
-fn answer(
+// A write into a well-formed table by a right sheet, all but its notes: `order` and `sets` hold the table's frame, `fits` says whether one byte is lent for how many
+// machines were called, `share` what the sheet says to the club.
+pub fn answer(
     t: &mut [u8],
+    order: &[u8; 64],
+    sets: &[u64; 8],
     c: usize,
     r: u64,
     offset: usize,
@@ -28,18 +34,18 @@ fn answer(
     q: usize,
     share: u32,
 ) -> Answered
+    requires { ⌜ Framed (now t) (now order) (now sets) ⌝ }
     ensures { λ x. ⌜ ((called sheet : List ℕ) (club : ℕ) → fits ≡ eqb (length called) 1 → sheetRight sheet ≡ true → share ≡ firstNo (byClub sheet club []) → (let o = outcome (now (t .entry)) (write (record { c = c; r = r; offset = offset; patch = now (patch .entry); called = called; file = q; sheet = sheet; club = club })) in (x .result ≡ resultOf o) × (now (t .exit) ≡ o .table) × (noted called (x .called) ≡ o .called))) ⌝ }
 {
     let answering = RowSet { bits: r };
-    let mut order = [0u8; 64];
-    let no = range_asked(t, q, c, answering, offset, patch.len(), &mut order);
+    let no = range_asked(t, q, c, answering, offset, patch.len());
     if no != 0 {
         return answer_of(no, 0, 0);
     }
     if !fits {
         return answer_of(5, 0, 0);
     }
-    let s = settle::settle(Kind::Write, t, q, &order, c, answering);
+    let s = settle::settle(Kind::Write, t, q, order, sets, c, answering);
     if s.refusal != 0 {
         return answer_of(s.refusal, 0, s.called);
     }
@@ -80,12 +86,25 @@ pub fn write(
     ensures { λ x. ⌜ (let o = outcome (now (t .entry)) (write (record { c = c; r = r; offset = offset; patch = now (patch .entry); called = now (called .entry); file = file; sheet = now (sheet .entry); club = club })) in (x ≡ resultOf o) × (now (t .exit) ≡ o .table) × (now (patch .exit) ≡ now (patch .entry)) × (now (called .exit) ≡ o .called) × (now (sheet .exit) ≡ o .sheet)) ⌝ }
 {
     let told = sheets::look(sheet, club);
-    if !told.right {
+    let mut order = [0u8; 64];
+    let mut sets = [0u64; 8];
+    if !both(told.right, ordered(t, &mut order, &mut sets)) {
         questions::note(called, 0);
         return result(1, 0);
     }
     let fits = called.len() == 1;
-    let a = answer(t, c, r, offset, patch, fits, file as usize, told.no);
+    let a = answer(
+        t,
+        &order,
+        &sets,
+        c,
+        r,
+        offset,
+        patch,
+        fits,
+        file as usize,
+        told.no,
+    );
     questions::note(called, a.called);
     count_done(sheet, club, a.result);
     a.result

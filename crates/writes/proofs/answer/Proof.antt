@@ -26,20 +26,20 @@ use Rattle.writes.proofs.answer.Tie as tie
 abbrev writing : tie.Start → List ℕ → List ℕ → ℕ → Writing
 writing s called sheet club = record { c = s .args .c; r = s .args .r; offset = s .args .offset; patch = s .args .patch .now; called = called; file = s .args .q; sheet = sheet; club = club }
 
--- questions 1 to 3, 16 and 4 are passed
-passed : (c : tie.Else1) → let start = c .before .before .before .before .before .before in firstNo (toRange (start .args .t .now) (start .args .q) (start .args .c) (start .args .r) (start .args .offset) (length (start .args .patch .now))) ≡ 0
-passed c = sym (c .before .range-asked .ensures .0) ∙ (let none : c .before .range-asked .result ≡ 0 = omega arith in none)
+-- questions 2, 3, 16 and 4 are passed
+passed : (c : tie.Else1) → let start = c .before .before .before .before .before in firstNo (toRange (start .args .t .now) (start .args .q) (start .args .c) (start .args .r) (start .args .offset) (length (start .args .patch .now))) ≡ 0
+passed c = sym (c .before .range-asked .ensures) ∙ (let none : c .before .range-asked .result ≡ 0 = omega arith in none)
 
--- and 1 to 3 among them
-asked : (c : tie.Else1) → let start = c .before .before .before .before .before .before in ByCoordinator (start .args .t .now) (start .args .c) (start .args .r)
-asked c = let start = c .before .before .before .before .before .before in range-passed (start .args .t .now) (start .args .c) (start .args .r) (start .args .q) (start .args .offset) (length (start .args .patch .now)) (passed c) .0
+-- and 1 to 3 with them
+asked : (c : tie.Else1) → let start = c .before .before .before .before .before in ByCoordinator (start .args .t .now) (start .args .c) (start .args .r)
+asked c = let start = c .before .before .before .before .before in range-passed (start .args .t .now) (start .args .c) (start .args .r) (start .args .q) (start .args .offset) (length (start .args .patch .now)) (passed c) .0
 
 -- and 16
-grouped : (c : tie.Else1) → let start = c .before .before .before .before .before .before in Within (filesOf (start .args .t .now)) (start .args .q)
-grouped c = let start = c .before .before .before .before .before .before in range-passed (start .args .t .now) (start .args .c) (start .args .r) (start .args .q) (start .args .offset) (length (start .args .patch .now)) (passed c) .1
+grouped : (c : tie.Else1) → let start = c .before .before .before .before .before in Within (filesOf (start .args .t .now)) (start .args .q)
+grouped c = let start = c .before .before .before .before .before in range-passed (start .args .t .now) (start .args .c) (start .args .r) (start .args .q) (start .args .offset) (length (start .args .patch .now)) (passed c) .1
 
 -- 5 is passed
-fitting : (c : tie.Else2) → c .before .before .before .before .before .before .before .args .fits ≡ true
+fitting : (c : tie.Else2) → c .before .before .before .before .before .before .args .fits ≡ true
 fitting c = not-false _ (c .if2 .left)
 
 -- 6 and 7 are passed
@@ -47,7 +47,7 @@ settled-here : (c : tie.Else3) → c .before .before .settle .result .refusal �
 settled-here c = omega arith
 
 -- 18 and 19 are passed
-shared : (c : tie.Else4) → c .before .before .before .before .before .before .before .before .before .before .before .before .before .args .share ≡ 0
+shared : (c : tie.Else4) → c .before .before .before .before .before .before .before .before .before .before .before .args .share ≡ 0
 shared c = omega arith
 
 -- 8 is passed
@@ -55,7 +55,7 @@ room : (c : tie.Else5) → ltb (c .before .before .before .before .before .settl
 room c = sym (c .before .below-limit .ensures) ∙ not-false _ (c .if5 .left)
 
 range-asked-requires : tie.Need-range-asked-requires
-range-asked-requires c κs = search needs
+range-asked-requires c κs = c .before .before .before .pre .formed
 
 answer-of-requires : tie.Need-answer-of-requires
 answer-of-requires c κs = search needs
@@ -66,11 +66,11 @@ same-length c = search needs
 returns : tie.Need-returns
 returns c called sheet club e right share =
     let q = c .before .before in
-    let start = q .before .before .before .before .before in
-    let no = write-early (start .args .t .now) (writing start called sheet club) right _ (q .range-asked .ensures .0) (omega arith) in (
+    let start = q .before .before .before .before in
+    let no = write-early (start .args .t .now) (writing start called sheet club) right _ (q .range-asked .ensures) (omega arith) in (
       ap (λ (x : Answered). x .result) (c .answer-of .ensures) ∙ no .result,
       no .table,
-      ap (λ (x : Answered). noted called (x .called)) (c .answer-of .ensures) ∙ called-early (start .args .t .now) (aWrite {a = writing start called sheet club} right) _ (q .range-asked .ensures .0) (omega arith),
+      ap (λ (x : Answered). noted called (x .called)) (c .answer-of .ensures) ∙ called-early (start .args .t .now) (aWrite {a = writing start called sheet club} right) _ (q .range-asked .ensures) (omega arith),
     )
 
 answer-of-requires-2 : tie.Need-answer-of-requires-2
@@ -82,7 +82,7 @@ same-length-2 c = search needs
 returns-2 : tie.Need-returns-2
 returns-2 c called sheet club e right share =
     let u = c .before .before in
-    let start = u .before .before .before .before .before .before in
+    let start = u .before .before .before .before .before in
     let five : eqb (length called) 1 ≡ false = sym e ∙ not-true _ (c .before .if2 .taken) in
     let no = write-long (start .args .t .now) (writing start called sheet club) right (passed u) five in (
       ap (λ (x : Answered). x .result) (c .answer-of2 .ensures) ∙ no .result,
@@ -92,9 +92,9 @@ returns-2 c called sheet club e right share =
 
 settle-requires : tie.Need-settle-requires
 settle-requires c κs =
-    let u = c .before .before .before in
+    let u = c .before .before in
     let y = asked u in
-    (y .formed, grouped u, u .before .range-asked .ensures .1 (omega arith), y .rows, y .answered)
+    (u .before .before .before .before .before .pre, grouped u, y .rows, y .answered)
 
 answer-of-requires-3 : tie.Need-answer-of-requires-3
 answer-of-requires-3 c κs = search needs
@@ -105,9 +105,9 @@ same-length-3 c = search needs
 returns-3 : tie.Need-returns-3
 returns-3 c called sheet club e right share =
     let s = c .before .before .before in
-    let f = s .before .before .before in
+    let f = s .before .before in
     let u = f .before in
-    let start = u .before .before .before .before .before .before in
+    let start = u .before .before .before .before .before in
     let five : eqb (length called) 1 ≡ true = sym e ∙ fitting f in
     let no = write-no (start .args .t .now) (writing start called sheet club) right (passed u) five (s .settle .result) (s .settle .ensures) (start .args .share) share (omega arith) in (
       ap (λ (x : Answered). x .result) (c .answer-of3 .ensures) ∙ no .result,
@@ -125,9 +125,9 @@ returns-4 : tie.Need-returns-4
 returns-4 c called sheet club e right share =
     let b = c .before .before in
     let s = b .before .before in
-    let f = s .before .before .before in
+    let f = s .before .before in
     let u = f .before in
-    let start = u .before .before .before .before .before .before in
+    let start = u .before .before .before .before .before in
     let five : eqb (length called) 1 ≡ true = sym e ∙ fitting f in
     let no = write-share (start .args .t .now) (writing start called sheet club) right (passed u) five (s .settle .result) (s .settle .ensures) (start .args .share) share (settled-here b) (omega arith) in (
       ap (λ (x : Answered). x .result) (c .answer-of4 .ensures) ∙ no .result,
@@ -148,9 +148,9 @@ returns-5 : tie.Need-returns-5
 returns-5 c called sheet club e right share =
     let b = c .before .before in
     let s = b .before .before .before .before in
-    let f = s .before .before .before in
+    let f = s .before .before in
     let u = f .before in
-    let start = u .before .before .before .before .before .before in
+    let start = u .before .before .before .before .before in
     let five : eqb (length called) 1 ≡ true = sym e ∙ fitting f in
     let no = write-full (start .args .t .now) (writing start called sheet club) right (passed u) five (s .settle .result) (s .settle .ensures) (start .args .share) share (settled-here (b .before .before)) (shared (b .before)) (sym (b .below-limit .ensures) ∙ not-true _ (c .before .if5 .taken)) in (
       ap (λ (x : Answered). x .result) (c .answer-of5 .ensures) ∙ no .result,
@@ -168,9 +168,9 @@ write-rows-requires c κs =
     let l = c .before .before in
     let b = l .before in
     let s = b .before .before .before .before in
-    let f = s .before .before .before in
+    let f = s .before .before in
     let u = f .before in
-    let start = u .before .before .before .before .before .before in
+    let start = u .before .before .before .before .before in
     let none = shared (b .before) in
     let share = none ∙ sym open-asks in (
       sized (asked u .formed),
@@ -193,9 +193,9 @@ returns-6 c called sheet club e right share =
     let l = w .before .before .before in
     let b = l .before in
     let s = b .before .before .before .before in
-    let f = s .before .before .before in
+    let f = s .before .before in
     let u = f .before in
-    let start = u .before .before .before .before .before .before in
+    let start = u .before .before .before .before .before in
     let five : eqb (length called) 1 ≡ true = sym e ∙ fitting f in
     let yes = write-done (start .args .t .now) (writing start called sheet club) right (passed u) five (s .settle .result) (s .settle .ensures) (start .args .share) share (settled-here (b .before .before)) (shared (b .before)) (room l) in (
       ap (λ (x : Answered). x .result) (c .answer-of6 .ensures) ∙ yes .0,
