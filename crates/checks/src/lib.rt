@@ -10,6 +10,7 @@ use verdicts::Tally;
 use verdicts::judged;
 use verdicts::quorum_held;
 use verdicts::tallied;
+use wellformed::ordered;
 ghost use mathlib.Core.Path.{_≡_};
 ghost use mathlib.Core.Bool.{true, not, _&&_, _||_};
 ghost use Prim.Native.Nat.{ℕ, _^_, _<_};
@@ -89,12 +90,13 @@ fn look_through(t: &[u8], s: RowSet, first: Tally) -> Survey
 pub fn check(t: &mut [u8], c: usize, r: u64, sheet: &mut [u8]) -> u64
     ensures { λ x. ⌜ (let o = outcome (now (t .entry)) (check (record { c = c; r = r; sheet = now (sheet .entry) })) in (x ≡ resultOf o) × (now (t .exit) ≡ o .table) × (now (sheet .exit) ≡ o .sheet)) ⌝ }
 {
-    if !sheets::is_right(sheet) {
+    let mut order = [0u8; 64];
+    let mut sets = [0u64; 8];
+    if !both(sheets::is_right(sheet), ordered(t, &mut order, &mut sets)) {
         return result(1, 0);
     }
     let answering = RowSet { bits: r };
-    let mut order = [0u8; 64];
-    let no = coordinator_asked(t, c, answering, &mut order);
+    let no = coordinator_asked(t, c, answering);
     if no != 0 {
         return result(no, 0);
     }
@@ -106,7 +108,6 @@ pub fn check(t: &mut [u8], c: usize, r: u64, sheet: &mut [u8]) -> u64
     }
     let whole = has_whole(answering, v.list);
     let count = header::used(t);
-    let sets = grouping::group(t);
     if !held_unless(whole, &order, count, &sets, v.list, answering) {
         return result(6, 0);
     }

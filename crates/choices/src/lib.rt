@@ -17,7 +17,8 @@ pub fn choice(t: &[u8], c: usize, kind: u64, set: &mut [u8]) -> u64
     ensures { λ x. ⌜ (let o = chosen (now (t .entry)) c kind (now (set .entry)) in (x ≡ result (o .refusal) (o .value)) × (now (t .exit) ≡ now (t .entry)) × (now (set .exit) ≡ o .set)) ⌝ }
 {
     let mut order = [0u8; 64];
-    if !wellformed::ordered(t, &mut order) {
+    let mut sets = [0u64; 8];
+    if !wellformed::ordered(t, &mut order, &mut sets) {
         return result(1, 0);
     }
     let used = header::used(t);
@@ -32,7 +33,6 @@ pub fn choice(t: &[u8], c: usize, kind: u64, set: &mut [u8]) -> u64
     }
     let row = table::row_of(t, c);
     let list = fields::list(row);
-    let sets = grouping::group(t);
     let rows = tiers::choice(kind_of(kind), &order, used, &sets, list, fields::name(row));
     bytes::store_at(set, 0, 8, rows.bits);
     result(0, rows.size() as u32)

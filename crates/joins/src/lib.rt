@@ -49,7 +49,8 @@ pub fn join(t: &mut [u8], name: u16, county: u64) -> u64
     ensures { λ x. ⌜ (let o = outcome (now (t .entry)) (join (record { name = name; county = county })) in (x ≡ resultOf o) × (now (t .exit) ≡ o .table)) ⌝ }
 {
     let mut order = [0u8; 64];
-    if !wellformed::ordered(t, &mut order) {
+    let mut sets = [0u64; 8];
+    if !wellformed::ordered(t, &mut order, &mut sets) {
         return result(1, 0);
     }
     let place = place_of(t, &order, name);

@@ -16,17 +16,18 @@ use Rattle.bytes.specs.Bytes.{part}
 use Rattle.fields.specs.Layout.{usedOf, fileLengthOf, nameOf, copyBytes, contents, contentsOf}
 use Rattle.fields.proofs.FieldLaws.{copy-is}
 use Rattle.table.specs.Chain.{frameOf}
+use Rattle.table.specs.WellFormed.{wellFormed}
 use Rattle.table.proofs.FormLaws.{formed}
 use Rattle.protocol.specs.Polls.{good, current, quorumHeld}
 use Rattle.asking.specs.Asking.{firstNo}
-use Rattle.protocol.specs.Calls.{Reading, Outcome, read, questions, answers, workSet, done, outcome, resultOf}
+use Rattle.protocol.specs.Calls.{Reading, Outcome, read, questions, answers, workSet, done, outcome, resultOf, noted}
 use Rattle.protocol.proofs.CopyLaws.{copy-long}
 use Rattle.protocol.proofs.PollLaws.{lowest-good, worked-in}
 use Rattle.protocol.proofs.QuestionLaws.{read-yes, refusal-is, when-done}
 use Rattle.settle.specs.declared.Settled.{Settled}
 use Rattle.settle.specs.Works.{Works}
-use Rattle.questions.specs.Stages.{toRange}
-use Rattle.questions.proofs.QuestionLaws.{after-range, before-range, Refused, refused-is}
+use Rattle.questions.specs.Stages.{toRange, aRead}
+use Rattle.questions.proofs.QuestionLaws.{range-one, after-range, before-range, called-early, Refused, refused-is}
 
 module _ (t : List ℕ) (a : Reading) where
   -- refused by 1 to 3, 16 or 4
@@ -34,6 +35,12 @@ module _ (t : List ℕ) (a : Reading) where
       → Refused t (read a) n
   unfolding questions
   read-early n e h = refused-is t (read a) n (before-range t (a .c) (a .r) (a .file) (a .offset) (a .count) _ n e h) h
+
+  -- by 1
+  pub read-one : wellFormed t ≡ false → Refused t (read a) 1 × (noted (a .called) 0 ≡ outcome t (read a) .called)
+  read-one e =
+      let n = range-one t (a .c) (a .r) (a .file) (a .offset) (a .count) e in
+      (read-early 1 n (omega arith), called-early t (aRead {a = a}) 1 n (omega arith))
 
   -- question 5: both lent lists
   abbrev five : Bool

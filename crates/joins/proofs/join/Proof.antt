@@ -23,24 +23,24 @@ abbrev joining : tie.Start → Joining
 joining s = record { name = s .args .name; county = s .args .county }
 
 -- question 1 is yes
-formed : (c : tie.Else1) → wellFormed (c .before .before .before .before .before .args .t .now) ≡ true
+formed : (c : tie.Else1) → wellFormed (c .before .before .before .before .before .before .args .t .now) ≡ true
 formed c = sym (c .before .ordered .ensures .0) ∙ not-false _ (c .if1 .left)
 
 -- question 13, as it was asked
-named : (c : tie.After-any) → let a = c .before .before .before .before .before .before .before .before .before .args in (between 1 (a .name) 65_535 && not (some (usedOf (a .t .now)) (λ i. eqb (nameOf (a .t .now) i) (a .name)))) ≡ not (c .any .result)
+named : (c : tie.After-any) → let a = c .before .before .before .before .before .before .before .before .before .before .args in (between 1 (a .name) 65_535 && not (some (usedOf (a .t .now)) (λ i. eqb (nameOf (a .t .now) i) (a .name)))) ≡ not (c .any .result)
 named c =
-    let a = c .before .before .before .before .before .before .before .before .before .args in
+    let a = c .before .before .before .before .before .before .before .before .before .before .args in
     ap (λ (b : Bool). between 1 (a .name) 65_535 && not b) (sym (c .before .place-of .ensures .1)) ∙ name-free (a .name) _ (omega arith) ∙ ap not (sym (c .any .ensures))
 
 -- and 14
-room : (c : tie.Else3) → let t = c .before .before .before .before .before .before .before .before .before .before .before .before .before .before .before .args .t .now in usedOf t < capacityOf t
+room : (c : tie.Else3) → let t = c .before .before .before .before .before .before .before .before .before .before .before .before .before .before .before .before .args .t .now in usedOf t < capacityOf t
 room c = omega (arith, c .before .capacity .ensures, c .before .before .before .used .ensures, c .if3 .left)
 
 -- and 20
-placed : (c : tie.Else4) → isCounty (c .before .before .before .before .before .before .before .before .before .before .before .before .before .before .before .before .before .args .county) ≡ true
+placed : (c : tie.Else4) → isCounty (c .before .before .before .before .before .before .before .before .before .before .before .before .before .before .before .before .before .before .args .county) ≡ true
 placed c = sym (c .before .is-county .ensures) ∙ not-false _ (c .if4 .left)
 
-passed : (c : tie.Else4) → let s = c .before .before .before .before .before .before .before .before .before .before .before .before .before .before .before .before .before in firstNo (questions (s .args .t .now) (join (joining s))) ≡ 0
+passed : (c : tie.Else4) → let s = c .before .before .before .before .before .before .before .before .before .before .before .before .before .before .before .before .before .before in firstNo (questions (s .args .t .now) (join (joining s))) ≡ 0
 passed c =
     let e = c .before .before in
     let y = e .before .before .before .before .before in
@@ -57,12 +57,12 @@ same-length c = search needs
 
 returns : tie.Need-returns
 returns c =
-    let s = c .before .before .before .before .before .before in
+    let s = c .before .before .before .before .before .before .before in
     let no = refused-is (s .args .t .now) (join (joining s)) 1 (join-answers _ _ false _ _ _ (sym (c .before .before .ordered .ensures .0) ∙ not-true _ (c .before .if1 .taken)) refl refl refl) (omega arith) in
     (c .result .ensures ∙ no .result, no .table)
 
 place-of-requires : tie.Need-place-of-requires
-place-of-requires c κs = let e = c .before .before in (formed e, e .before .ordered .ensures .1 (not-false _ (e .if1 .left)))
+place-of-requires c κs = let e = c .before .before in (formed e, e .before .ordered .ensures .1 (not-false _ (e .if1 .left)) .ordered)
 
 any-requires : tie.Need-any-requires
 any-requires c κs = search needs
@@ -75,7 +75,7 @@ same-length-2 c = search needs
 
 returns-2 : tie.Need-returns-2
 returns-2 c =
-    let s = c .before .before .before .before .before .before .before .before .before .before .before in
+    let s = c .before .before .before .before .before .before .before .before .before .before .before .before in
     let no = refused-is (s .args .t .now) (join (joining s)) 13 (join-answers _ _ true false _ _ (formed (c .before .before .before .before .before .before)) (named (c .before .before) ∙ ap not (c .before .if2 .taken)) refl refl) (omega arith) in
     (c .result2 .ensures ∙ no .result, no .table)
 
@@ -93,7 +93,7 @@ same-length-3 c = search needs
 
 returns-3 : tie.Need-returns-3
 returns-3 c =
-    let s = c .before .before .before .before .before .before .before .before .before .before .before .before .before .before .before .before in
+    let s = c .before .before .before .before .before .before .before .before .before .before .before .before .before .before .before .before .before in
     let y = c .before .before .before .before .before .before in
     let k = c .before .before in
     let full = le-ltb (usedOf (s .args .t .now)) (capacityOf (s .args .t .now)) (omega (arith, k .capacity .ensures, k .before .before .used .ensures, c .before .if3 .taken)) in
@@ -114,7 +114,7 @@ returns-4 c =
     let k = c .before .before in
     let e = k .before in
     let y = e .before .before .before .before .before in
-    let s = e .before .before .before .before .before .before .before .before .before .before .before .before .before .before .before in
+    let s = e .before .before .before .before .before .before .before .before .before .before .before .before .before .before .before .before in
     let no = refused-is (s .args .t .now) (join (joining s)) 20 (join-answers _ _ true true true false (formed (e .before .before .before .before .before .before .before .before .before .before)) (named (y .before) ∙ ap not (y .if2 .left)) (lt-ltb _ _ (room e)) (sym (k .is-county .ensures) ∙ not-true _ (c .before .if4 .taken))) (omega arith) in
     (c .result4 .ensures ∙ no .result, no .table)
 
@@ -126,7 +126,7 @@ admit-requires c κs =
     let e = c .before .before .before in
     let p = e .before .before .before .before .before .before .before in
     let f = formed (e .before .before .before .before .before .before .before .before .before .before) in
-    let s = e .before .before .before .before .before .before .before .before .before .before .before .before .before .before .before in
+    let s = e .before .before .before .before .before .before .before .before .before .before .before .before .before .before .before .before in
     (sized f, room e, rw (p .place-of .ensures .0) (before-used (s .args .t .now) f (s .args .name) (room e)))
 
 cast-result : tie.Need-cast-result
@@ -146,7 +146,7 @@ returns-5 c =
     let m = c .before .before .before in
     let l = m .before .before in
     let e = l .before .before in
-    let s = e .before .before .before .before .before .before .before .before .before .before .before .before .before .before .before in
+    let s = e .before .before .before .before .before .before .before .before .before .before .before .before .before .before .before .before in
     let yes = join-done (s .args .t .now) (joining s) _ _ _ (passed l) (e .before .before .before .used .ensures) (e .before .before .before .before .before .before .before .place-of .ensures .0) (m .admit .ensures) in
     (c .result5 .ensures ∙ yes .0, yes .1)
 
