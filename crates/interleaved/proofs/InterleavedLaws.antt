@@ -5,8 +5,8 @@ use mathlib.Core.List.{List, [], _∷_, _++_}
 use Prim.Native.Nat.{ℕ, zero, suc, _^_, _≤_, _<_}
 use native.Mathlib.Decide.{decLt, ℕ-discrete}
 use native.Mathlib.Omega.{arith}
-use lib.Dec.{eqb, ltb}
-use borrow.Author.Tests.{eq-eqb, ne-eqb, ltb-true}
+use lib.Dec.{eqb}
+use borrow.Author.Tests.{eq-eqb, ne-eqb}
 use Rattle.bools.proofs.BoolLaws.{clash}
 use lib.Bits.{bitOr}
 use Rattle.sets.specs.Upto.{Within}
@@ -16,16 +16,12 @@ use Rattle.sets.proofs.DigitLaws.{on, on-or, on-power}
 use Rattle.bytes.specs.Bytes.{part}
 use Rattle.blocks.specs.Blocks.{withBlock, withBlocks}
 use Rattle.fields.specs.Layout.{usedOf, rowLength, rowBytes, withRows}
-use Rattle.table.specs.WellFormed.{limit, wellFormed}
+use Rattle.table.specs.WellFormed.{wellFormed}
 use Rattle.table.proofs.FormLaws.{formed, well-formed-of, rows-room}
-use Rattle.protocol.specs.Polls.{highestEpoch, inForce}
-use Rattle.protocol.specs.Calls.{Call, founding, join, read, write, send, check, carry, Outcome, answers, questions, done, outcome}
-use Rattle.asking.specs.Asking.{firstNo}
+use Rattle.protocol.specs.Calls.{Call, founding, join, read, write, send, check, carry, Outcome, outcome}
 use Rattle.protocol.specs.Claims.{Answering, byRead, byWrite, bySend, byCheck, OnlyRowsOf, EqualIn, SameFor}
 use Rattle.protocol.proofs.FrameLaws.{SameFrame, same-used}
 use Rattle.protocol.proofs.FrameKept.{frame-itself, call-frame}
-use Rattle.protocol.proofs.QuestionLaws.{CheckYes, refusal-is, when-done, when-refused, write-yes, send-yes, check-yes}
-use Rattle.protocol.proofs.DoneLaws.{writing, writeTable, write-leaves, sendTable, send-leaves, checkList, checking, checkTable, check-leaves}
 use Rattle.protocol.proofs.Unanswered.{used-same, lengths, rest}
 use Rattle.history.specs.Book.{Book}
 use Rattle.history.specs.Demand3.{RefusedRight, Right}

@@ -6,7 +6,7 @@ use borrow.Author.Needs.{needs}
 use Rattle.questions.proofs.QuestionLaws.{by-answers}
 use Rattle.table.proofs.WellFormedLaws.{sized, long, few-rows}
 use Rattle.protocol.specs.Calls.{isUsed}
-use Rattle.table.specs.WellFormed.{between, onlyRows, wellFormed}
+use Rattle.table.specs.WellFormed.{between, onlyRows}
 use Rattle.fields.specs.Layout.{usedOf}
 use Rattle.questions.proofs.coordinator_asked.Statement.{statement}
 use Rattle.questions.proofs.coordinator_asked.Tie as tie

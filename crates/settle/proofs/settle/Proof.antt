@@ -16,7 +16,7 @@ use Rattle.protocol.specs.Polls.{polled, ownTry}
 use Rattle.counties.specs.Counties.{Frame, listQuorum, listChoice}
 use Rattle.grouping.specs.Grouped.{frameBy}
 use Rattle.grouping.proofs.GroupLaws.{frame-by}
-use Rattle.table.proofs.WellFormedLaws.{newest, sized, long, few-rows, linked}
+use Rattle.table.proofs.WellFormedLaws.{newest, sized, long, few-rows}
 use Rattle.table.proofs.FormLaws.{formed}
 use Rattle.table.specs.Contracts.{Listed}
 use Rattle.table.specs.Chain.{frameOf}
