@@ -45,38 +45,37 @@ fn all_in(t: &[u8], size: usize, used: usize, which: u8) -> bool
 }
 
 // The first rows, all in one county.
-fn whole(used: usize, county: u8) -> [u64; 8]
+fn whole(sets: &mut [u64; 8], used: usize, county: u8)
     requires { ⌜ county ≤ 8 ⌝ }
-    ensures { λ r. ⌜ (used ≤ 64 → Filled (λ i. county) used r) ⌝ }
+    ensures { λ r. ⌜ (used ≤ 64 → Filled (λ i. county) used (now (sets .exit))) ⌝ }
 {
-    let mut sets = [0u64; 8];
+    *sets = [0u64; 8];
     if county == 0 {
-        return sets;
+        return;
     }
     let rows = RowSet::first(used);
     sets[county as usize - 1] = rows.bits;
-    sets
 }
 
 // The used rows by their counties; those of one county at once.
-pub fn group(t: &[u8]) -> [u64; 8]
+pub fn group(t: &[u8], sets: &mut [u64; 8])
     requires { ⌜ Linked (now t) ⌝ }
-    ensures { λ r. ⌜ Grouped (now (t .entry)) r ⌝ }
+    ensures { λ r. ⌜ Grouped (now (t .entry)) (now (sets .exit)) ⌝ }
 {
     let size = table::row_length(t);
     let used = header::used(t);
     let first = fields::county(table::row_at(t, size, 1));
     if all_in(t, size, used, first) {
-        return whole(used, first);
+        whole(sets, used, first);
+        return;
     }
-    let mut sets = [0u64; 8];
+    *sets = [0u64; 8];
     let mut k = 0;
     while k < used {
         let county = fields::county(table::row_at(t, size, k + 1));
-        put(&mut sets, k, county);
+        put(sets, k, county);
         k += 1;
     }
-    sets
 }
 
 // The rows of which each has one of these counties, row 1 the first.

@@ -44,24 +44,24 @@ returns-3 : tie.Need-returns-3
 returns-3 c = (by-chain _ (linked-here (c .before .before .before)) (sym (c .before .follow .ensures .0) ∙ not-true _ (c .if3 .taken)), λ e. absurd (clash e), c .before .follow .ensures .2 ∙ left-linked _ _ (linked-here (c .before .before .before)), inr refl)
 
 group-requires : tie.Need-group-requires
-group-requires c κs = linked-here (c .before .before .before)
+group-requires c κs = linked-here (c .before .before .before .before)
 
 lists-right-requires : tie.Need-lists-right-requires
-lists-right-requires c κs = let g = c .before in (linked-here (g .before .before .before .before) .sized, g .group .ensures)
+lists-right-requires c κs = let g = c .before in (linked-here (g .before .before .before .before .before) .sized, g .group .ensures)
 
 returns-4 : tie.Need-returns-4
 returns-4 c =
-    let e = c .before .before .before .before in
+    let e = c .before .before .before .before .before in
     (by-lists _ (linked-here (e .before .before .before)) (chain-right e) (sym (c .before .lists-right .ensures) ∙ not-true _ (c .if4 .taken)), λ z. absurd (clash z), e .before .follow .ensures .2 ∙ left-linked _ _ (linked-here (e .before .before .before)), inl (c .before .before .before .group .ensures))
 
 unused-zero-requires : tie.Need-unused-zero-requires
-unused-zero-requires c κs = let e = c .before .before .before .before in linked-here (e .before .before .before) .sized
+unused-zero-requires c κs = let e = c .before .before .before .before .before in linked-here (e .before .before .before) .sized
 
 returns-5 : tie.Need-returns-5
 returns-5 c =
     let a = c .before in
     let g = a .before .before .before in
-    let e = g .before in (
+    let e = g .before .before in (
       c .unused-zero .ensures ∙ by-unused _ (linked-here (e .before .before .before)) (chain-right e) (sym (a .before .lists-right .ensures) ∙ not-false _ (a .if4 .left)),
       λ _. (e .before .follow .ensures .1 (not-false _ (e .if3 .left)), g .group .ensures),
       e .before .follow .ensures .2 ∙ left-linked _ _ (linked-here (e .before .before .before)),
