@@ -4,14 +4,13 @@ use mathlib.Core.Bool.{Bool, true, false, cond, _&&_, _||_}
 use mathlib.Core.Logic.{_⊎_, inl, inr}
 use mathlib.Core.List.{List, [], _++_}
 use Prim.Native.Nat.{ℕ, zero, suc, _+_, _-_, _*_, _≤_, _<_}
-use native.Mathlib.Nat.{zero-add}
 use native.Mathlib.Numerals.{add-one}
 use native.Mathlib.Decide.{decLe}
 use native.Mathlib.Omega.{arith}
-use lib.Dec.{eqb, leb, ltb}
+use lib.Dec.{leb, ltb}
 use lib.ListN.{length, take, drop, take-append-drop}
 use lib.Seq.{drop-drop}
-use borrow.Author.Tests.{le-leb, lt-leb, lt-ltb, le-ltb, leb-true, leb-false, eq-eqb, ne-eqb}
+use borrow.Author.Tests.{le-leb, lt-leb, lt-ltb, le-ltb, eq-eqb, ne-eqb}
 use Rattle.bools.proofs.BoolLaws.{and-assoc}
 use Rattle.sets.specs.Upto.{Within, every}
 use Rattle.blocks.specs.Blocks.{block, withBlock, withBlocks}
@@ -40,32 +39,38 @@ unfolding totalOf get total
 total-at s = refl
 
 -- ---- the pass over the lines: those of clubs 1 to k
-pub record Added (s : List ℕ) (k : ℕ) (all : Bool) (a b : ℕ) : Type 0 where
+pub record Added (s : List ℕ) (k : ℕ) (all : Bool) (m : ℕ) : Type 0 where
   pub right : all ≡ every k (lineRight s)
-  pub assured : a ≡ sum k (assuredOf s)
-  pub beyond : b ≡ sum k (λ x. countOf s x - assuredOf s x)
-  pub small : a ≤ k * 4_294_967_295
-  pub low : b ≤ k * 4_294_967_295
+  pub taken : m ≡ sum k (assuredOf s) + sum k (λ x. countOf s x - assuredOf s x)
+  pub low : m ≤ k * 4_294_967_295
 
-pub none-added : (s : List ℕ) → Added s 0 true 0 0
+pub none-added : (s : List ℕ) → Added s 0 true 0
 unfolding every sum
-none-added s = record { right = refl; assured = refl; beyond = refl; small = omega arith; low = omega arith }
+none-added s = record { right = refl; taken = refl; low = omega arith }
 
-pub one-added : (s : List ℕ) (k : ℕ) (right : Bool) (a b : ℕ) → Added s k right a b → (sure top count o : ℕ) (good next : Bool)
+-- the larger of two numbers is no larger than a third where neither is
+most-fits : (a b t : ℕ) → leb (a + (b - a)) t ≡ (leb a t && leb b t)
+most-fits a b t = go (decLe a t) (decLe b t)
+  where
+    go : Dec (a ≤ t) → Dec (b ≤ t) → leb (a + (b - a)) t ≡ (leb a t && leb b t)
+    go (yes h) (yes g) = rw (le-leb a t h, le-leb b t g, le-leb (a + (b - a)) t (omega arith))
+    go (yes h) (no g) = rw (le-leb a t h, lt-leb b t (omega arith), lt-leb (a + (b - a)) t (omega arith))
+    go (no h) d = rw (lt-leb a t (omega arith), lt-leb (a + (b - a)) t (omega arith))
+
+pub one-added : (s : List ℕ) (k : ℕ) (right : Bool) (m : ℕ) → Added s k right m → (sure top count most : ℕ) (good next : Bool)
     → sure ≡ number (part (k * 12) 4 s) → count ≡ number (part (k * 12 + 8) 4 s) → top ≡ number (part (k * 12 + 4) 4 s)
-    → good ≡ (leb top 1_000_000 && leb sure top && leb count top) → next ≡ (right && good) → o ≡ count - sure → sure < 4_294_967_296 → count < 4_294_967_296
-    → Added s (k + 1) next (a + sure) (b + o)
+    → most ≡ sure + (count - sure) → good ≡ (leb top 1_000_000 && leb most top) → next ≡ (right && good) → most < 4_294_967_296
+    → Added s (k + 1) next (m + most)
 unfolding every sum lineRight
-one-added s k right a b c sure top count o good next e f g h n d u v =
+one-added s k right m c sure top count most good next e f g d h n u =
     let p : sure ≡ assuredOf s (suc k) = e ∙ assured-at s k in
     let q : count ≡ countOf s (suc k) = f ∙ count-at s k in
     let r : top ≡ ceilingOf s (suc k) = g ∙ ceiling-at s k in
+    let z : most ≡ assuredOf s (suc k) + (countOf s (suc k) - assuredOf s (suc k)) = d ∙ ap₂ (λ (x y : ℕ). x + (y - x)) p q in
     rw (add-one k) (record {
-      right = n ∙ ap₂ (λ (x y : Bool). x && y) (c .right) (h ∙ rw (p, q, r));
-      assured = ap₂ (λ (x y : ℕ). x + y) (c .assured) p;
-      beyond = ap₂ (λ (x y : ℕ). x + y) (c .beyond) (d ∙ ap₂ (λ (x y : ℕ). x - y) q p);
-      small = omega (arith, c .small);
-      low = omega (arith, c .low, d);
+      right = n ∙ ap₂ (λ (x y : Bool). x && y) (c .right) (h ∙ rw (d, most-fits sure count top, p, q, r) (sym (and-assoc (leb (ceilingOf s (suc k)) 1_000_000) (leb (assuredOf s (suc k)) (ceilingOf s (suc k))) (leb (countOf s (suc k)) (ceilingOf s (suc k))))));
+      taken = omega (arith, c .taken, z);
+      low = omega (arith, c .low);
     })
 
 -- ---- assured numbers and counts beyond them against the total
@@ -85,18 +90,17 @@ one-left a b t = go (decLe t (a + b))
     go (yes h) = rw (le-ltb (a + b) t h, le-ltb b (t - a) (omega arith))
     go (no h) = rw (lt-ltb (a + b) t (omega arith), lt-ltb b (t - a) (omega arith))
 
-module _ (s : List ℕ) (long : length s ≡ 196) (lines : Bool) (a b t : ℕ) (is : lines ≡ every 16 (lineRight s)) (sure : a ≡ allAssured s) (over : b ≡ allBeyond s)
-    (whole : t ≡ number (part 192 4 s)) where
-  pub sheet-is : ((lines && leb t 1_000_000) && leb (a + b) t) ≡ sheetRight s
+module _ (s : List ℕ) (long : length s ≡ 196) (lines : Bool) (m t : ℕ) (is : lines ≡ every 16 (lineRight s)) (taken : m ≡ allAssured s + allBeyond s) (whole : t ≡ number (part 192 4 s)) where
+  pub sheet-is : ((lines && leb t 1_000_000) && leb m t) ≡ sheetRight s
   unfolding sheetRight remainder
   sheet-is =
       let w : t ≡ totalOf s = whole ∙ total-at s in
-      rw (both-fit a b t, eq-eqb (length s) 196 long, is, sure, over, w)
+      rw (taken, both-fit (allAssured s) (allBeyond s) t, eq-eqb (length s) 196 long, is, w)
       (sym (and-assoc (every 16 (lineRight s) && leb (totalOf s) 1_000_000) (leb (allAssured s) (totalOf s)) (leb (allBeyond s) (totalOf s - allAssured s))))
 
-  pub left-is : ltb (a + b) t ≡ ltb (allBeyond s) (remainder s)
+  pub left-is : ltb m t ≡ ltb (allBeyond s) (remainder s)
   unfolding remainder
-  left-is = let w : t ≡ totalOf s = whole ∙ total-at s in rw (one-left a b t, sure, over, w)
+  left-is = let w : t ≡ totalOf s = whole ∙ total-at s in rw (taken, one-left (allAssured s) (allBeyond s) t, w)
 
 pub other-length : (s : List ℕ) → (length s ≡ 196 → ⊥) → false ≡ sheetRight s
 unfolding sheetRight

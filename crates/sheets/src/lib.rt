@@ -3,8 +3,8 @@ use bools::both;
 ghost use mathlib.Core.Path.{_≡_};
 ghost use mathlib.Core.Bool.{true, cond, _&&_, _||_};
 ghost use mathlib.Core.List.{[]};
-ghost use Prim.Native.Nat.{_+_, _-_, _≤_};
-ghost use lib.Dec.{leb, ltb};
+ghost use Prim.Native.Nat.{_+_, _-_};
+ghost use lib.Dec.{ltb};
 ghost use lib.ListN.{length};
 ghost use Rattle.sets.specs.Upto.{Within, every};
 ghost use Rattle.asking.specs.Asking.{firstNo};
@@ -26,53 +26,38 @@ const TOTAL_AT: usize = 192;
 // No number of a sheet passes this.
 const LIMIT: u32 = 1_000_000;
 
-// Are a club's numbers right: the assured number, the ceiling, the count?
-fn line_right(assured: u32, ceiling: u32, count: u32) -> bool
-    ensures { λ r. ⌜ r ≡ (leb ceiling 1_000_000 && leb assured ceiling && leb count ceiling) ⌝ }
+// What a club takes of the total: its count, or its assured number where that is larger.
+fn taken_by(assured: u32, count: u32) -> u32
+    ensures { λ r. ⌜ r ≡ assured + (count - assured) ⌝ }
 {
-    let small = both(ceiling <= LIMIT, assured <= ceiling);
-    both(small, count <= ceiling)
-}
-
-// How far a count is beyond the assured number.
-fn over(count: u32, assured: u32) -> u32
-    ensures { λ r. ⌜ r ≡ count - assured ⌝ }
-{
-    if assured < count { count - assured } else { 0 }
+    if assured < count { count } else { assured }
 }
 
 // What the lines of a sheet come to.
 struct Lines {
     right: bool,
-    assured: u64,
-    beyond: u64,
+    taken: u64,
 }
 
-// The 16 lines in one pass.
+// The 16 lines in one pass: neither assured number nor count is above the ceiling where what the club takes is not.
 fn added(s: &[u8]) -> Lines
     requires { ⌜ length (now s) ≡ 196 ⌝ }
-    ensures { λ r. ⌜ (r .right ≡ every 16 (lineRight (now (s .entry)))) × (r .assured ≡ allAssured (now (s .entry))) × (r .beyond ≡ allBeyond (now (s .entry))) × (r .assured ≤ 68_719_476_720) × (r .beyond ≤ 68_719_476_720) ⌝ }
+    ensures { λ r. ⌜ (r .right ≡ every 16 (lineRight (now (s .entry)))) × (r .taken ≡ allAssured (now (s .entry)) + allBeyond (now (s .entry))) ⌝ }
 {
     let mut right = true;
-    let mut assured: u64 = 0;
-    let mut beyond: u64 = 0;
+    let mut taken: u64 = 0;
     let mut x = 0;
     while x < CLUBS {
         let at = x * LINE;
-        let sure = bytes::u32_at(s, at);
-        let count = bytes::u32_at(s, at + COUNT_AT);
-        right = both(
-            right,
-            line_right(sure, bytes::u32_at(s, at + CEILING_AT), count),
-        );
-        assured += sure as u64;
-        beyond += over(count, sure) as u64;
+        let ceiling = bytes::u32_at(s, at + CEILING_AT);
+        let most = taken_by(bytes::u32_at(s, at), bytes::u32_at(s, at + COUNT_AT));
+        right = both(right, both(ceiling <= LIMIT, most <= ceiling));
+        taken += most as u64;
         x += 1;
     }
     Lines {
         right: right,
-        assured: assured,
-        beyond: beyond,
+        taken: taken,
     }
 }
 
@@ -88,11 +73,10 @@ fn summed(s: &[u8]) -> Verdict
 {
     let lines = added(s);
     let total = bytes::u32_at(s, TOTAL_AT);
-    let taken = lines.assured + lines.beyond;
     let small = both(lines.right, total <= LIMIT);
     Verdict {
-        right: both(small, taken <= total as u64),
-        left: taken < total as u64,
+        right: both(small, lines.taken <= total as u64),
+        left: lines.taken < total as u64,
     }
 }
 

@@ -1,9 +1,7 @@
 use Rattle.sheets.proofs.CodeLaws.{sheet-is, left-is}
-use mathlib.Core.Path.{_≡_, sym, _∙_, ap, ap₂}
+use mathlib.Core.Path.{_∙_, ap}
 use mathlib.Core.Bool.{Bool, _&&_}
 use lib.Dec.{leb}
-use Prim.Native.Nat.{_+_}
-use native.Mathlib.Omega.{arith}
 use borrow.Author.Needs.{needs}
 use Rattle.sheets.proofs.summed.Statement.{statement}
 use Rattle.sheets.proofs.summed.Tie as tie
@@ -14,9 +12,6 @@ added-requires c κs = search needs
 u32-at-requires : tie.Need-u32-at-requires
 u32-at-requires c κs = search needs
 
-add-taken : tie.Need-add-taken
-add-taken c = search needs
-
 both-requires : tie.Need-both-requires
 both-requires c κs = search needs
 
@@ -26,19 +21,20 @@ cast-both c = search needs
 both-requires-2 : tie.Need-both-requires-2
 both-requires-2 c κs = search needs
 
-cast-t9 : tie.Need-cast-t9
-cast-t9 c = search needs
+cast-t8 : tie.Need-cast-t8
+cast-t8 c = search needs
 
 returns : tie.Need-returns
 returns c =
-    let b = c .before in
-    let u = b .before .before in
+    let b2 = c .before in
+    let b = b2 .before .before in
+    let u = b .before in
     let d = u .before in
     let s = d .before .before in
     let e = d .added .ensures in (
-      c .both2 .ensures ∙ ap (λ (x : Bool). x && leb (d .added .result .assured + d .added .result .beyond) (u .u32-at .result)) (b .both .ensures)
-          ∙ sheet-is (s .args .s .now) (s .pre) (d .added .result .right) (d .added .result .assured) (d .added .result .beyond) (u .u32-at .result) (e .0) (e .1) (e .2) (u .u32-at .ensures),
-      left-is (s .args .s .now) (s .pre) (d .added .result .right) (d .added .result .assured) (d .added .result .beyond) (u .u32-at .result) (e .0) (e .1) (e .2) (u .u32-at .ensures),
+      b2 .both2 .ensures ∙ ap (λ (x : Bool). x && leb (d .added .result .taken) (u .u32-at .result)) (b .both .ensures)
+          ∙ sheet-is (s .args .s .now) (s .pre) (d .added .result .right) (d .added .result .taken) (u .u32-at .result) (e .0) (e .1) (u .u32-at .ensures),
+      left-is (s .args .s .now) (s .pre) (d .added .result .right) (d .added .result .taken) (u .u32-at .result) (e .0) (e .1) (u .u32-at .ensures),
     )
 
 pub summed-spec : {M : Type 1} → statement M
@@ -47,9 +43,8 @@ summed-spec =
     (tie.spec
     added-requires
     u32-at-requires
-    add-taken
     both-requires
     cast-both
     both-requires-2
-    cast-t9
+    cast-t8
     returns)
