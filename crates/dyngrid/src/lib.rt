@@ -3,15 +3,16 @@ ghost use mathlib.Core.Path.{_≡_};
 ghost use Rattle.asking.specs.Asking.{result};
 ghost use Rattle.charting.specs.Charts.{charted};
 ghost use Rattle.choices.specs.Choosing.{chosen};
+ghost use Rattle.ordering.specs.Rounds.{roundIn};
 ghost use Rattle.telling.specs.Notices.{noticed};
 ghost use Rattle.protocol.specs.Calls.{founding, join, read, write, send, check, carry, resultOf, outcome};
 
 // The number of this interface: it rises with every change of a signature, so that header and archive can be compared.
 #[no_mangle]
 pub extern "C" fn grid_interface() -> u64
-    ensures { λ r. ⌜ r ≡ 10 ⌝ }
+    ensures { λ r. ⌜ r ≡ 11 ⌝ }
 {
-    10
+    11
 }
 
 #[no_mangle]
@@ -84,6 +85,19 @@ pub extern "C" fn grid_write(
         sheet,
         club,
     )
+}
+
+// A list of orders, 16 bytes each.
+#[no_mangle]
+pub extern "C" fn grid_round(
+    table: &mut [u8],
+    answering: u64,
+    orders: &[u8],
+    sheet: &mut [u8],
+) -> u64
+    ensures { λ r. ⌜ (let o = roundIn (now (table .entry)) (now (sheet .entry)) answering (now (orders .entry)) in (r ≡ result (o .refusal) (o .value)) × (now (table .exit) ≡ o .table) × (now (orders .exit) ≡ now (orders .entry)) × (now (sheet .exit) ≡ o .sheet)) ⌝ }
+{
+    rounds::round_in(table, answering, orders, sheet)
 }
 
 #[no_mangle]

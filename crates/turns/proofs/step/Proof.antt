@@ -1,0 +1,112 @@
+use mathlib.Core.List.{List, [], _∷_}
+use mathlib.Core.Path.{_≡_, refl, sym, _∙_, ap, subst}
+use Prim.Native.Nat.{ℕ, _≤_, _<_, _^_}
+use native.Mathlib.Omega.{arith}
+use borrow.Author.Needs.{needs}
+use Rattle.writes.proofs.WriteLaws.{may-count}
+use Rattle.protocol.specs.Calls.{Writing, write, outcome, resultOf}
+use Rattle.turns.specs.Turns.{Ready}
+use Rattle.turns.proofs.TurnLaws.{run, same-run, step-refused, step-65, one-done, one-refused, sum-fits, ready-after}
+use Rattle.turns.proofs.step.Statement.{statement}
+use Rattle.turns.proofs.step.Tie as tie
+
+-- the write that is made
+abbrev writing : tie.Start → Writing
+writing s = record { c = s .args .c; r = s .args .r; offset = s .args .offset; patch = s .args .patch .now; called = 0 ∷ []; file = s .args .file; sheet = s .args .sheet .now; club = s .args .club }
+
+abbrev start : tie.After-answer → tie.Start
+start k = k .before .before .before .before .before .before .before .before .before
+
+low : (k : tie.After-answer) → start k .args .sum < 64
+low k = omega (arith, k .before .before .before .before .if2 .left, k .before .before .before .before .before .if1 .left)
+
+ready : (k : tie.After-answer) → let s = start k in Ready (s .args .t .now) (s .args .sheet .now) (s .args .order .now) (s .args .sets .now)
+ready k = start k .pre (omega (arith, low k))
+
+answered : (k : tie.After-answer) → let o = outcome (start k .args .t .now) (write (writing (start k))) in (k .answer .result .result ≡ resultOf o) × (k .answer .last .0 ≡ o .table)
+answered k =
+    let s = start k in
+    let l = k .before .before .look in
+    let e = k .answer .ensures (0 ∷ []) (s .args .sheet .now) (s .args .club) refl (ready k .right) (l .ensures .1 (l .ensures .0 ∙ ready k .right)) in (e .0, e .1)
+
+returns : tie.Need-returns
+returns c = let s = c .before .before .before .before in
+    (step-refused (writing s) (s .args .t .now) (s .args .sheet .now) (s .args .sum) (c .if1 .taken), λ l. absurd (omega (arith, l, c .if1 .taken)))
+
+result-requires : tie.Need-result-requires
+result-requires c κs = search needs
+
+returns-2 : tie.Need-returns-2
+returns-2 c = let s = c .before .before .before .before .before .before in
+    (ap (λ (k : ℕ). run k (s .args .t .now) (s .args .sheet .now)) (c .result .ensures) ∙ step-65 (writing s) (s .args .t .now) (s .args .sheet .now) (s .args .sum) (c .before .if2 .taken), λ l. absurd (omega (arith, l, c .result .ensures)))
+
+look-requires : tie.Need-look-requires
+look-requires c κs = search needs
+
+answer-requires : tie.Need-answer-requires
+answer-requires c κs = c .before .before .before .before .before .before .before .before .pre (omega (arith, c .before .before .before .before .if1 .left)) .framed
+
+count-one-requires : tie.Need-count-one-requires
+count-one-requires c κs =
+    let k = c .before .before .before .before .before in may-count (start k .args .t .now) (writing (start k)) _ (answered k .0) (c .before .if3 .taken)
+
+add-result : tie.Need-add-result
+add-result c = search needs
+
+same-length : tie.Need-same-length
+same-length c = search needs
+
+same-length-2 : tie.Need-same-length-2
+same-length-2 c = search needs
+
+returns-3 : tie.Need-returns-3
+returns-3 c =
+    let w = c .before .before in
+    let f = w .before .before in
+    let k = f .before .before .before .before in
+    let s = start k in
+    let e = answered k in
+    let n = w .count-one .ensures in (
+      same-run refl refl n ∙ one-done (s .args .t .now) (writing s) (s .args .sum) _ _ (low k) (e .0) (e .1) (f .if3 .taken),
+      λ l. subst (λ (v : List ℕ). Ready (k .answer .last .0) v (s .args .order .now) (s .args .sets .now)) (sym n) (ready-after (s .args .t .now) (s .args .order .now) (s .args .sets .now) (writing s) _ _ (e .0) (e .1) (f .if3 .taken) (ready k)),
+    )
+
+add-result-2 : tie.Need-add-result-2
+add-result-2 c =
+    let f = c .before in
+    let k = f .before .before .before .before in
+    let s = start k in
+    record { fits = sum-fits (s .args .t .now) (writing s) (s .args .sum) _ _ (low k) (answered k .0) (answered k .1) (omega (arith, f .if3 .left)) (omega (arith, c .struct-known2)) }
+
+same-length-3 : tie.Need-same-length-3
+same-length-3 c = search needs
+
+same-length-4 : tie.Need-same-length-4
+same-length-4 c = search needs
+
+returns-4 : tie.Need-returns-4
+returns-4 c =
+    let f = c .before in
+    let k = f .before .before .before .before in
+    let s = start k in
+    let h : 2 ^ 32 ≤ k .answer .result .result = omega (arith, f .if3 .left) in
+    (one-refused (s .args .t .now) (writing s) (s .args .sum) _ _ (low k) (answered k .0) (answered k .1) h, λ l. absurd (omega (arith, l, h)))
+
+pub step-spec : {M : Type 1} → statement M
+step-spec =
+    tie.close
+    (tie.spec
+    returns
+    result-requires
+    returns-2
+    look-requires
+    answer-requires
+    count-one-requires
+    add-result
+    same-length
+    same-length-2
+    returns-3
+    add-result-2
+    same-length-3
+    same-length-4
+    returns-4)
