@@ -6,17 +6,19 @@
  *
  * Conventions
  *   A list is a pointer and then its length in bytes. Names, and sets in a chart, are two bytes each, low byte first; the set of
- *   a choice is eight bytes; counties are a byte each.
+ *   a choice is eight bytes; counties are a byte each, orders of a round 16.
  *   Rows have the numbers 1 upward, and so have files. In an answering set, bit i - 1 stands for row i (see grid_row).
  *   A result is the refusal number (0: done) times 2^32, plus the value (see grid_refusal, grid_value).
  *   A refused call has value 0 and alters no byte of the table, of a buffer, of a sheet or of anything else, but for the byte in
- *   which a read and a write say how many machines were called (see grid_read).
- *   A done call, founding and joining aside, alters only rows that answered; a move leaves its table and fills the second buffer.
+ *   which a read and a write say how many machines were called (see grid_read), and for a round: what it did before the refusal
+ *   stays, and the value tells how much that is (see grid_round).
+ *   A done call, founding and joining aside, alters only rows that answered, and so does a refused round; a move leaves its table
+ *   and fills the second buffer.
  *
  * Files
- *   A table is a group of 1 to 8 files of one length, on the same machines. A read, write or send names its file, counted from 1:
- *   it looks at the copies of that file and leaves all others, byte for byte. Epochs and lists are shared: one check serves all
- *   files.
+ *   A table is a group of 1 to 8 files of one length, on the same machines. A read, write, order or send names its file, counted
+ *   from 1: it looks at the copies of that file and leaves all others, byte for byte. Epochs and lists are shared: one check serves
+ *   all files.
  *   One stale file blocks changing checks for all files: unless the rows that answer are current for every file, a check that
  *   would change the list is refused by 7. Send that file from a row that has its newest version, and check again.
  *
@@ -28,13 +30,14 @@
  *   longer: while it is off the others can neither write nor check it out. Read docs/COUNTIES.md before a second county joins.
  *
  * Fair use
- *   Each write is by a club, 1 to 16, and each write and check is lent a sheet of 196 bytes (GRID_SHEET_BYTES), which says how many
- *   writes a club may make until the counts start anew: for each club an assured number, a ceiling and a count, and then a total,
- *   4 bytes each, low byte first, at most 1,000,000. Club x has its three numbers from byte 12 * (x - 1) on.
+ *   Each write is by a club, 1 to 16, an order of a round too, and each write, round and check is lent a sheet of 196 bytes
+ *   (GRID_SHEET_BYTES), which says how many writes a club may make until the counts start anew: for each club an assured number, a
+ *   ceiling and a count, and then a total, 4 bytes each, low byte first, at most 1,000,000. Club x has its three numbers from byte
+ *   12 * (x - 1) on.
  *   The assured numbers are the clubs' own: no other club can take them. Above its assured number a club takes, up to its ceiling,
- *   from what the total leaves beyond all assured numbers, which the clubs share. A done write adds one to its club's count, and a
- *   check that changes the list sets all counts to 0; no other call, and no refused one, touches a sheet. It is the caller's: hand
- *   the same one to every call, and keep it with the table.
+ *   from what the total leaves beyond all assured numbers, which the clubs share. A done write or order adds one to its club's
+ *   count, and a check that changes the list sets all counts to 0; no other call, and no refused one, touches a sheet. It is the
+ *   caller's: hand the same one to every call, and keep it with the table.
  *   Right is a sheet whose assured numbers and counts are at most their ceilings, whose total is no less than the assured numbers
  *   together, and what the counts have beyond assured numbers no more than the total leaves. Any other, or another length, is
  *   refused by 1.
@@ -63,8 +66,8 @@
  *   alter nothing of the table, and the library keeps no state of its own. Every other call has the table to itself.
  *
  * What a host must not do
- *   - pass slices of one call that overlap: a table and its buffer, patch, names, counties, sheet or lent list, or a move's two
- *     tables;
+ *   - pass slices of one call that overlap: a table and its buffer, patch, orders, names, counties, sheet or lent list, or a move's
+ *     two tables;
  *   - let two calls run on one table at once, unless both are reads, choices or moves, or touch a slice of a call while it runs
  *     (other reads, choices and moves of its table aside);
  *   - pass a length above 0 with a null pointer, or above what the pointer leads to. Null with length 0 is an empty list.
@@ -83,7 +86,7 @@ extern "C" {
 
 /* Rises with every signature in this header that is new or changed, and with nothing else: a new form of the table does not
    raise it, for a table tells its form itself, and one of another form is refused by 1. */
-#define DYNGRID_INTERFACE 10
+#define DYNGRID_INTERFACE 11
 
 /* The number of the archive. */
 uint64_t grid_interface(void);
@@ -104,8 +107,9 @@ enum grid_refusals {
                                       fair use */
     GRID_NO_SUCH_ROW = 2,          /* a row is not in use, or a send names one row twice */
     GRID_NOT_ANSWERING = 3,        /* the coordinator, or an end of a send, is not in the answering set */
-    GRID_OUT_OF_RANGE = 4,         /* the range is empty or ends beyond the file; a choice is neither a read's nor a write's; a
-                                      notice's call is none of 1 to 10 */
+    GRID_OUT_OF_RANGE = 4,         /* the range is empty or ends beyond the file; an order is not of 1 to 8 bytes, or the 65th, or its
+                                      list ends inside it; a choice is neither a read's nor a write's; a notice's call is none of 1
+                                      to 10 */
     GRID_WRONG_BUFFER = 5,         /* the buffer is not exactly as long as the range, or the list for the number called not one
                                       byte; a choice's list is not eight bytes; a chart's is shorter than 128 bytes; a notice's
                                       buffer is not 160 bytes */
@@ -137,7 +141,7 @@ enum grid_calls {
     GRID_CALL_SEND = 4,     /* grid_send */
     GRID_CALL_CHECK = 5,    /* grid_check; shows the coordinator's name */
     GRID_CALL_JOINING = 6,  /* grid_join */
-    GRID_CALL_ROUND = 7,    /* a round of writes, which the library does not have yet; shows the coordinator's name */
+    GRID_CALL_ROUND = 7,    /* grid_round; shows the coordinator's name: that of the order that was refused */
     GRID_CALL_MOVE = 8,     /* grid_move */
     GRID_CALL_CHART = 9,    /* grid_chart */
     GRID_CALL_NOTICE = 10   /* grid_notice */
@@ -145,6 +149,9 @@ enum grid_calls {
 
 /* The clubs, the bytes of a sheet, no more and no less, and the limit of its numbers. */
 enum grid_sheets { GRID_CLUBS = 16, GRID_SHEET_BYTES = 196, GRID_SHEET_LIMIT = 1000000 };
+
+/* The bytes of an order, how many of them a round can have, and how many bytes an order can write. */
+enum grid_orders { GRID_ORDER_BYTES = 16, GRID_MAX_ORDERS = 64, GRID_MAX_ORDER = 8 };
 
 /* The bytes of a notice, no more and no less. */
 enum grid_notice_bytes { GRID_NOTICE_BYTES = 160 };
@@ -182,7 +189,7 @@ enum grid_limits {
 #define GRID_ROW_BYTES(file_len, files) (GRID_ROW_HEADER + (files) * GRID_COPY_BYTES(file_len))
 #define GRID_TABLE_BYTES(capacity, file_len, files) (GRID_HEADER + (capacity) * GRID_ROW_BYTES(file_len, files))
 
-/* Offsets in the header, in the head of a row, in a copy and in a record of its window. */
+/* Offsets in the header, in the head of a row, in a copy and in a record of its window; and in an order of a round. */
 enum grid_offsets {
     GRID_AT_FORM = 0,
     GRID_AT_CAPACITY = 1,
@@ -207,7 +214,14 @@ enum grid_offsets {
     GRID_AT_YOUNGER = 0,
     GRID_AT_PATCH_LEN = 1,
     GRID_AT_PATCH_OFFSET = 2,
-    GRID_AT_PATCH = 4
+    GRID_AT_PATCH = 4,
+
+    GRID_AT_ORDER_BY = 0,
+    GRID_AT_ORDER_LEN = 1,
+    GRID_AT_ORDER_OFFSET = 2,
+    GRID_AT_ORDER_PATCH = 4,
+    GRID_AT_ORDER_FILE = 12,
+    GRID_AT_ORDER_CLUB = 13
 };
 
 /* The bytes of a record, and the patches that a window has room for. */
@@ -222,7 +236,7 @@ static inline uint32_t grid_refusal(uint64_t result)
     return (uint32_t)(result >> 32);
 }
 
-/* The value of a result; 0 if the call was refused. */
+/* The value of a result; 0 if the call was refused, but for a round, whose value is always the number of orders that are done. */
 static inline uint32_t grid_value(uint64_t result)
 {
     return (uint32_t)result;
@@ -339,6 +353,25 @@ static inline void grid_open_sheet(uint8_t *sheet)
     grid_set_total(sheet, GRID_SHEET_LIMIT);
 }
 
+/* Puts an order of a round into 16 bytes (GRID_ORDER_BYTES): what grid_write takes, each number as an order can hold it. It gives
+   1; or 0, and leaves them, if the patch is not of 1 to 8 bytes, or a number too high for an order: coordinator, file or club above
+   255, offset above 65,535. No table has such a row, file or club, and no file such an offset. */
+static inline int grid_set_order(uint8_t *order, uint64_t coordinator, uint64_t offset, const uint8_t *patch, size_t patch_len,
+                                 uint64_t file, uint64_t club)
+{
+    if (patch_len < 1 || patch_len > GRID_MAX_ORDER || coordinator > 255 || offset > 65535 || file > 255 || club > 255)
+        return 0;
+    memset(order, 0, GRID_ORDER_BYTES);
+    order[GRID_AT_ORDER_BY] = (uint8_t)coordinator;
+    order[GRID_AT_ORDER_LEN] = (uint8_t)patch_len;
+    order[GRID_AT_ORDER_OFFSET] = (uint8_t)offset;
+    order[GRID_AT_ORDER_OFFSET + 1] = (uint8_t)(offset >> 8);
+    memcpy(order + GRID_AT_ORDER_PATCH, patch, patch_len);
+    order[GRID_AT_ORDER_FILE] = (uint8_t)file;
+    order[GRID_AT_ORDER_CLUB] = (uint8_t)club;
+    return 1;
+}
+
 /* How many patches the window of a copy has; `copy` points to its first byte, and the file has so many bytes. */
 static inline unsigned grid_patches(const uint8_t *copy, size_t file_len)
 {
@@ -386,6 +419,29 @@ uint64_t grid_write(uint8_t *table, size_t table_len, uint64_t coordinator, uint
                     uint64_t offset, const uint8_t *patch, size_t patch_len,
                     uint8_t *called, size_t called_len, uint64_t file,
                     uint8_t *sheet, size_t sheet_len, uint64_t club);
+
+/* A round: up to 64 writes of 1 to 8 bytes, entered together. They are made singly, in their order, by the same answering set and
+   on the same sheet, up to the first that is refused: table and sheet are as those writes leave them. Value: how many are done.
+   Refusals: 1 to 3, 16, 4, 6, 7, 18, 19, 8.
+
+   The refusal is that of the first order that is refused, and the value the number of orders before it: WHAT THESE WROTE STAYS.
+   Those behind it are not looked at. So read grid_value of a refused round too, keep table and sheet, and enter the rest when the
+   reason is mended. How many machines were called a round does not tell.
+
+       byte      order of a round, 16 bytes; grid_set_order puts one together
+       0         coordinator
+       1         length of the patch, 1 to 8
+       2 to 3    its offset in the file
+       4 to 11   the patch; what is behind its length is not read
+       12        file
+       13        club
+       14 to 15  not read
+
+   An order of another length is refused by 4, after 1 to 3 and 16 of its own write; a 65th, when 64 are done, by 4 with 64, unread.
+   A round of no order is put question 1 (sheet and table) and, for the answering set, 2, and is done with 0. A list that ends
+   inside an order is put the same questions, and then refused by 4 with 0: none of it is done. */
+uint64_t grid_round(uint8_t *table, size_t table_len, uint64_t answering, const uint8_t *orders, size_t orders_len, uint8_t *sheet,
+                    size_t sheet_len);
 
 /* Brings the stale copy of the file in row `to` up to the state of that in row `from`. Value: the version it then has.
    Refusals: 1 to 3, 16, 9, 10.

@@ -15,7 +15,7 @@ const LONGEST_SHEET: usize = 500;
 
 pub struct Archive {
     table: Guard,
-    /// The other slice of a call: its names, buffer, patch, the list of a chart or a choice, or the second buffer of a move.
+    /// The other slice of a call: its names, buffer, patch, orders, the list of a chart or a choice, or the second buffer of a move.
     list: Guard,
     /// The list for the number of machines called, or the counties of a founding.
     second: Guard,
@@ -40,6 +40,7 @@ impl Archive {
             Call::Chart { list, .. } => list,
             Call::Choice { set, .. } => set,
             Call::Move { to, .. } => to,
+            Call::Round { orders, .. } => orders,
             Call::Send { .. } | Call::Check { .. } | Call::Join { .. } => &[],
         };
         self.table.place(table, self.edge);
@@ -61,7 +62,7 @@ impl Archive {
         }
         let written = call.lent().is_some();
         if !written && self.list.slice() != lent || called.is_none() && self.second.slice() != second {
-            return Err("the archive altered names, counties or patch".into());
+            return Err("the archive altered names, counties, patch or orders".into());
         }
         table.copy_from_slice(self.table.slice());
         let buffer = if written { self.list.slice().to_vec() } else { Vec::new() };
@@ -127,6 +128,9 @@ impl Archive {
                     raw::grid_choice(table, table_len, coordinator, kind, list, list_len)
                 }
                 Call::Move { form, .. } => raw::grid_move(table, table_len, form, list, list_len),
+                Call::Round { answering, .. } => {
+                    raw::grid_round(table, table_len, answering, list, list_len, sheet, sheet_len)
+                }
             }
         }
     }

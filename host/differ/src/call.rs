@@ -1,5 +1,6 @@
 //! One call with its arguments, and how it is shown.
 
+use reference::round::{Order, MOST_ORDERS, ORDER};
 use reference::{rows, Engine};
 use std::fmt;
 
@@ -63,11 +64,17 @@ pub enum Call {
         to: Vec<u8>,
         taken: bool,
     },
+    /// Orders of 16 bytes each, or bytes that end inside one.
+    Round {
+        answering: u64,
+        orders: Vec<u8>,
+        sheet: Vec<u8>,
+    },
 }
 
 /// What a call gave: its result, the bytes that its buffer, or the list of a chart or a choice, then holds (empty but for these),
-/// those that the list for the number called holds (empty but for a read and a write), and those of the sheet (empty but for a write
-/// and a check).
+/// those that the list for the number called holds (empty but for a read and a write), and those of the sheet (empty but for a write,
+/// a check and a round).
 #[derive(Clone, Debug, Default, PartialEq, Eq)]
 pub struct Answer {
     pub result: u64,
@@ -77,8 +84,8 @@ pub struct Answer {
 }
 
 impl Call {
-    pub const KINDS: [&'static str; 9] =
-        ["found", "read", "write", "send", "check", "join", "chart", "choice", "move"];
+    pub const KINDS: [&'static str; 10] =
+        ["found", "read", "write", "send", "check", "join", "chart", "choice", "move", "round"];
 
     /// Its place in `KINDS`.
     pub fn kind(&self) -> usize {
@@ -92,23 +99,66 @@ impl Call {
             Call::Chart { .. } => 6,
             Call::Choice { .. } => 7,
             Call::Move { .. } => 8,
+            Call::Round { .. } => 9,
         }
     }
 
-    /// The file that a read, write or send names.
+    /// The file that a read, write or send names, or every order of a round.
     pub fn file(&self) -> Option<u64> {
-        match *self {
-            Call::Read { file, .. } | Call::Write { file, .. } | Call::Send { file, .. } => Some(file),
+        match self {
+            Call::Read { file, .. } | Call::Write { file, .. } | Call::Send { file, .. } => Some(*file),
+            Call::Round { orders, .. } => {
+                let mut files = whole_orders(orders).map(|order| order.file);
+                let first = files.next()?;
+                files.all(|file| file == first).then_some(first.into())
+            }
             _ => None,
         }
     }
 
-    /// Lets a read, write or send name another file.
-    pub fn rename_file(&mut self, to: u64) {
+    /// The files of a group of so many that a read, write, send or round names: bit q - 1 for file q. None of another call, which is
+    /// made for all of them.
+    pub fn files(&self, count: usize) -> Option<u64> {
+        let of = |file: u64| if file <= count as u64 { rows::only(file as usize) } else { 0 };
         match self {
-            Call::Read { file, .. } | Call::Write { file, .. } | Call::Send { file, .. } => *file = to,
+            Call::Round { orders, .. } => {
+                Some(whole_orders(orders).fold(0, |set, order| set | of(order.file.into())))
+            }
+            _ => self.file().map(of),
+        }
+    }
+
+    /// Lets a read, write, send or round name other files.
+    pub fn rename_files(&mut self, to: impl Fn(u64) -> u64) {
+        match self {
+            Call::Read { file, .. } | Call::Write { file, .. } | Call::Send { file, .. } => *file = to(*file),
+            Call::Round { orders, .. } => {
+                for order in orders.as_chunks_mut::<ORDER>().0 {
+                    order[FILE] = to(order[FILE].into()) as u8;
+                }
+            }
             _ => {}
         }
+    }
+
+    /// The writes that a round stands for if none is refused; none if its list ends inside an order. They are not lent a sheet yet.
+    pub fn writes(&self) -> Option<impl Iterator<Item = Call> + '_> {
+        let Call::Round { answering, orders, .. } = self else { return None };
+        let orders = whole_orders(orders).take(if orders.len().is_multiple_of(ORDER) {
+            MOST_ORDERS as usize
+        } else {
+            0
+        });
+        Some(orders.map(|order| Call::Write {
+            coordinator: order.coordinator.into(),
+            answering: *answering,
+            offset: order.offset.into(),
+            patch: order.written().to_vec(),
+            called: vec![0],
+            file: order.file.into(),
+            sheet: Vec::new(),
+            club: order.club.into(),
+        }))
     }
 
     /// The list for the number of machines called.
@@ -119,18 +169,20 @@ impl Call {
         }
     }
 
-    /// The sheet that a write or a check is lent.
+    /// The sheet that a write, a check or a round is lent.
     pub fn sheet(&self) -> Option<&[u8]> {
         match self {
-            Call::Write { sheet, .. } | Call::Check { sheet, .. } => Some(sheet),
+            Call::Write { sheet, .. } | Call::Check { sheet, .. } | Call::Round { sheet, .. } => Some(sheet),
             _ => None,
         }
     }
 
-    /// Lends a write or a check another sheet.
+    /// Lends a write, a check or a round another sheet.
     pub fn lend(&mut self, lent: &[u8]) {
         match self {
-            Call::Write { sheet, .. } | Call::Check { sheet, .. } => *sheet = lent.to_vec(),
+            Call::Write { sheet, .. } | Call::Check { sheet, .. } | Call::Round { sheet, .. } => {
+                *sheet = lent.to_vec();
+            }
             _ => {}
         }
     }
@@ -162,9 +214,11 @@ impl Call {
             Call::Join { .. } => Some(0),
             Call::Choice { coordinator: coordinator @ 1..=64, .. } => Some(rows::only(coordinator as usize)),
             Call::Choice { .. } => Some(0),
-            Call::Read { .. } | Call::Write { .. } | Call::Send { .. } | Call::Check { .. } => {
-                self.answering()
-            }
+            Call::Read { .. }
+            | Call::Write { .. }
+            | Call::Send { .. }
+            | Call::Check { .. }
+            | Call::Round { .. } => self.answering(),
         }
     }
 
@@ -174,7 +228,8 @@ impl Call {
             Call::Read { answering, .. }
             | Call::Write { answering, .. }
             | Call::Send { answering, .. }
-            | Call::Check { answering, .. } => Some(answering),
+            | Call::Check { answering, .. }
+            | Call::Round { answering, .. } => Some(answering),
             _ => None,
         }
     }
@@ -185,7 +240,8 @@ impl Call {
             Call::Read { answering, .. }
             | Call::Write { answering, .. }
             | Call::Send { answering, .. }
-            | Call::Check { answering, .. } => *answering &= rows,
+            | Call::Check { answering, .. }
+            | Call::Round { answering, .. } => *answering &= rows,
             _ => {}
         }
     }
@@ -213,6 +269,7 @@ impl Call {
             Call::Chart { length, mark, .. } => engine.chart(*length, *mark, &mut lent),
             Call::Choice { coordinator, kind, .. } => engine.choice(table, *coordinator, *kind, &mut lent),
             Call::Move { form, .. } => engine.carry(table, *form, &mut lent),
+            Call::Round { answering, orders, .. } => engine.round(table, *answering, orders, &mut sheet),
         };
         Answer { result, buffer: lent, called: number, sheet }
     }
@@ -255,8 +312,44 @@ impl fmt::Display for Call {
                 let then = if *taken { "; the calls go on there" } else { "" };
                 write!(f, "grid_move(form {form}, to {}){then}", bytes_shown(to))
             }
+            Call::Round { answering, orders, sheet } => {
+                write!(f, "grid_round(answering {}", set_shown(*answering))?;
+                write!(f, ", orders of {} bytes: {}", orders.len(), orders_shown(orders))?;
+                write!(f, ", sheet {})", bytes_shown(sheet))
+            }
         }
     }
+}
+
+/// Where an order keeps its file.
+const FILE: usize = 12;
+
+/// The whole orders of a list; what is left over is no order.
+pub fn whole_orders(orders: &[u8]) -> impl Iterator<Item = Order> + '_ {
+    orders.as_chunks::<ORDER>().0.iter().map(Order::read)
+}
+
+/// Each order with all of its bytes, the same one so many times, and the bytes left over.
+fn orders_shown(orders: &[u8]) -> String {
+    let (whole, rest) = orders.as_chunks::<ORDER>();
+    let mut shown = Vec::new();
+    for run in whole.chunk_by(|one, next| one == next) {
+        let Order { coordinator, length, offset, patch, file, club } = Order::read(&run[0]);
+        let times = if run.len() > 1 { format!(" * {}", run.len()) } else { String::new() };
+        shown.push(format!(
+            "{{by {coordinator}, length {length}, offset {offset}, patch {}, file {file}, club {club}, unread {}}}{times}",
+            plain_hexadecimal(&patch),
+            plain_hexadecimal(&run[0][ORDER - 2..]),
+        ));
+    }
+    if !rest.is_empty() {
+        shown.push(format!("left over {}", plain_hexadecimal(rest)));
+    }
+    shown.join(", ")
+}
+
+fn plain_hexadecimal(bytes: &[u8]) -> String {
+    bytes.iter().map(|byte| format!("{byte:02x}")).collect()
 }
 
 /// A set of rows by number and by member.

@@ -4,8 +4,10 @@ use crate::call::Call;
 use crate::damage::{self, Damaged};
 use crate::ledger::Ledger;
 use crate::random::Random;
+use crate::rounds;
 use crate::sheets;
 use crate::tables::{self, Picture, Size};
+use reference::round::{Order, ORDER};
 use reference::window::LONGEST_PATCH;
 use reference::{
     rows, Engine, Layout, Part, Quorum, Rules, Sheet, Table, MAX_COUNTIES, MAX_FILE, MAX_FILES, MAX_ROWS,
@@ -48,7 +50,7 @@ pub struct Plan {
     moves: bool,
     /// The table as it was damaged.
     pub damage: Option<Damaged>,
-    /// The sheet that writes and checks are lent, as the last of them left it; none if each has one of its own.
+    /// The sheet that writes, checks and rounds are lent, as the last of them left it; none if each has one of its own.
     sheet: Option<Vec<u8>>,
 }
 
@@ -59,9 +61,10 @@ struct Straggler {
     writes: usize,
     /// The row, once it stays away.
     row: Option<usize>,
-    /// How many writes are left that it misses; the one with a long patch, if there is one.
+    /// How many writes are left that it misses; the one with a long patch, if there is one; are they entered in one round?
     missed: usize,
     long: Option<usize>,
+    together: bool,
     marked: bool,
 }
 
@@ -70,7 +73,9 @@ impl Straggler {
         let missed = random.pick(&[1, 15, 16, 17]);
         let long = random.chance(1, 4).then(|| random.between(1, missed));
         let file = random.between(1, files);
-        Straggler { file, writes: random.pick(&[0, 1, 17]), row: None, missed, long, marked: false }
+        let together = long.is_none() && random.chance(1, 3);
+        let writes = random.pick(&[0, 1, 17]);
+        Straggler { file, writes, row: None, missed, long, together, marked: false }
     }
 
     /// The next call; the send is the last one.
@@ -87,6 +92,10 @@ impl Straggler {
         if self.row.is_none() {
             self.row = Some(row);
             return (check(random, others), false);
+        }
+        if self.missed > 0 && self.together {
+            let count = std::mem::take(&mut self.missed);
+            return (round_of_file(random, table, others, count, file), false);
         }
         if self.missed > 0 {
             let long = self.long == Some(self.missed);
@@ -109,6 +118,32 @@ fn short_write(random: &mut Random, table: &Picture, file: usize, answering: u64
     let offset = random.between(0, table.file_len - length) as u64;
     let (coordinator, patch) = (random.row(answering), random.bytes(length));
     writing(random, coordinator, answering, offset, patch, vec![0xee], file as u64)
+}
+
+/// So many orders by these rows, one of which may be another.
+fn rounds_of(
+    random: &mut Random,
+    table: &Picture,
+    coordinators: u64,
+    count: usize,
+    other: Option<(usize, Order)>,
+) -> Vec<u8> {
+    let mut orders: Vec<Order> = (0..count).map(|_| rounds::order(random, table, coordinators)).collect();
+    if let Some((place, other)) = other {
+        orders[place] = other;
+    }
+    rounds::list(random, &orders)
+}
+
+/// So many orders of one file, by rows that all answer.
+fn round_of_file(random: &mut Random, table: &Picture, answering: u64, count: usize, file: usize) -> Call {
+    let mut call = Call::Round {
+        answering,
+        orders: rounds_of(random, table, answering, count, None),
+        sheet: Vec::new(),
+    };
+    call.rename_files(|_| file as u64);
+    call
 }
 
 /// A check; it is lent its sheet later.
@@ -252,6 +287,7 @@ impl Plan {
                     | Call::Chart { .. }
                     | Call::Choice { .. }
                     | Call::Move { .. }
+                    | Call::Round { .. }
                     | Call::Found { choice: 1.., .. }
                     | Call::Found { files: 0 | 2.., .. }
             );
@@ -440,6 +476,38 @@ impl Plan {
         Plan::of(start, calls)
     }
 
+    /// On a founded table of a few machines, rounds of every number of orders that must come with every number of bytes left over, and
+    /// rounds with an order at or beyond each limit as the first, the second and the last.
+    pub fn rounds(random: &mut Random) -> Plan {
+        let used = random.between(1, 9);
+        let (capacity, file_len) = (random.between(used, 11), random.between(8, 40));
+        let size = Size { used, capacity, file_len, files: random.between(1, 3) };
+        let (choice, counties) = (choice(random), tables::counties(random, used));
+        let mut plan = Plan::founded_as(random, size, choice, counties);
+        let mut founded = vec![0; plan.start.len()];
+        plan.opening[0].refer(Engine::default(), &mut founded);
+        let table = Picture::of(&founded).expect("founded");
+        let answering = table.all_used();
+        let mut calls = Vec::new();
+        for count in rounds::COUNTS {
+            for over in 0..ORDER {
+                let mut orders = rounds_of(random, &table, answering, count, None);
+                orders.extend(random.bytes(over));
+                calls.push(Call::Round { answering, orders, sheet: Vec::new() });
+            }
+        }
+        for place in [0, 1, 3] {
+            let some = rounds::order(random, &table, answering);
+            for wrong in rounds::wrong(some, &table) {
+                let orders = rounds_of(random, &table, answering, 4, Some((place, wrong)));
+                calls.push(Call::Round { answering, orders, sheet: Vec::new() });
+            }
+        }
+        plan.opening.extend(calls);
+        plan.calls = plan.opening.len();
+        plan
+    }
+
     /// These calls, and no others.
     fn of(start: Vec<u8>, calls: Vec<Call>) -> Plan {
         Plan {
@@ -484,7 +552,7 @@ impl Plan {
         }
     }
 
-    /// Lends a write or a check its sheet: that of the history, or one of its own, or now and then none that is right.
+    /// Lends a write, a check or a round its sheet: that of the history, or one of its own, or now and then none that is right.
     fn lend(&self, random: &mut Random, call: &mut Call) {
         if call.sheet().is_none() {
             return;
@@ -496,6 +564,10 @@ impl Plan {
         }
         match &self.sheet {
             Some(sheet) if !random.chance(1, other) => call.lend(sheet),
+            // Most sheets are spent before a long round is done.
+            _ if matches!(call, Call::Round { .. }) && random.chance(1, 3) => {
+                call.lend(&Sheet::OPEN.bytes());
+            }
             _ => call.lend(&sheets::right(random, true).bytes()),
         }
     }
@@ -646,7 +718,7 @@ fn fitting(random: &mut Random, table: &Picture, up: u64) -> Call {
     let coordinators = if random.chance(1, 4) && unlisted != 0 { unlisted } else { up };
     let coordinator = random.row(coordinators);
     let file = random.between(1, table.files) as u64;
-    match random.between(0, 107) {
+    match random.between(0, 115) {
         0..=29 => {
             let answering = answering(random, table, up, coordinator, Quorum::Read);
             let (offset, length) = range(random, table);
@@ -679,6 +751,7 @@ fn fitting(random: &mut Random, table: &Picture, up: u64) -> Call {
             choice_of(random, coordinators)
         }
         105..=106 => moving(random, table, false),
+        107..=114 => round(random, table, up, coordinator),
         _ => {
             let used = random.between(1, table.capacity);
             let (choice, counties) = (choice(random), tables::counties(random, used));
@@ -686,6 +759,37 @@ fn fitting(random: &mut Random, table: &Picture, up: u64) -> Call {
             founding(random, Size { used, capacity, file_len, files }, choice, counties)
         }
     }
+}
+
+/// A round, mostly with one coordinator; in a third of the rounds one order has something wrong, and few lists end inside an order.
+fn round(random: &mut Random, table: &Picture, up: u64, coordinator: usize) -> Call {
+    let count = rounds::count(random);
+    if count > 1 && random.chance(1, 8) {
+        return round_by_a_choice(random, table, coordinator, count);
+    }
+    let answering = answering(random, table, up, coordinator, Quorum::Write);
+    let coordinators = rounds::coordinators(random, coordinator, answering, table.all_used());
+    let other = (count > 0 && random.chance(1, 3)).then(|| {
+        let order = rounds::order(random, table, coordinators);
+        (random.between(0, count - 1), random.pick(&rounds::wrong(order, table)))
+    });
+    let mut orders = rounds_of(random, table, coordinators, count, other);
+    if random.chance(1, 10) {
+        let over = random.between(1, ORDER - 1);
+        orders.extend(random.bytes(over));
+    }
+    Call::Round { answering, orders, sheet: Vec::new() }
+}
+
+/// A round whose first order may be done by the own choice of its coordinator, and the others, by any that answer, not at all.
+fn round_by_a_choice(random: &mut Random, table: &Picture, coordinator: usize, count: usize) -> Call {
+    let own = table.row(coordinator);
+    let choice = Layout::of(own.list, &table.chain, &table.counties).choice(Quorum::Write, own.name);
+    let some = random.pick(&[table.all_used(), table.all_used() & !own.list.members]);
+    let answering = choice | rows::only(coordinator) | random.subset(some, 1, 3);
+    let first = rounds::order(random, table, rows::only(coordinator));
+    let orders = rounds_of(random, table, answering, count, Some((0, first)));
+    Call::Round { answering, orders, sheet: Vec::new() }
 }
 
 /// Who answers the coordinator: by turns all, those up, a quorum and a little less, some counties, and rows without a list.
@@ -812,7 +916,8 @@ fn length_in(form: u64, size: Size) -> usize {
 fn moving(random: &mut Random, table: &Picture, taken: bool) -> Call {
     let form = match table.rules {
         _ if random.chance(1, 5) => random.pick(&MOVE_FORMS),
-        Rules::Published | Rules::Windowless => 3,
+        Rules::Published => 3,
+        Rules::Windowless => random.pick(&[1, 3, 3]),
         Rules::OneFile => random.pick(&[1, 2]),
         Rules::OneCounty | Rules::Newest => random.pick(&[1, 2, 3, 4, 5]),
     };
@@ -890,6 +995,14 @@ fn spoil(random: &mut Random, call: &mut Call, table: &Picture) {
             0 => *coordinator = edge(random, used, *coordinator),
             1 => *kind = edge(random, 1, *kind),
             _ => set.resize(random.pick(&[0, 1, 7, 9, 16]), 0),
+        },
+        Call::Round { answering, orders, .. } => match random.between(0, 2) {
+            0 => *answering = bad_set(random, table),
+            1 => orders.truncate(random.between(0, orders.len())),
+            _ => {
+                let any = random.between(0, 2 * ORDER);
+                orders.extend(random.bytes(any));
+            }
         },
         Call::Move { form, to, .. } => match random.between(0, 1) {
             0 => *form = edge(random, 4, *form),
@@ -986,6 +1099,37 @@ mod tests {
                 (4 | 5, false) => vec![(12, 28), (15, 4)],
             };
             assert_eq!(answers.into_iter().collect::<Vec<_>>(), expected, "form {form}");
+        }
+    }
+
+    /// Every number of orders and of bytes left over, and every wrong order after none, one and three that were done.
+    #[test]
+    fn every_round_is_tried() {
+        for case in 0..20 {
+            let mut random = Random::new(6, case);
+            let mut plan = Plan::rounds(&mut random);
+            plan.sheet = None;
+            let mut table = plan.table();
+            let mut answers = std::collections::BTreeMap::new();
+            for number in 0..plan.calls() {
+                let mut call = plan.next(&mut random, &table);
+                call.lend(&Sheet::OPEN.bytes());
+                let result = call.refer(Engine::default(), &mut table).result;
+                if number > 0 {
+                    *answers.entry((result >> 32, result as u32)).or_insert(0) += 1;
+                }
+            }
+            let broken = answers.remove(&(4, 0)).expect("lists that end inside an order");
+            assert!(broken >= 7 * 15 + 4, "case {case}: {broken}");
+            let counts = [0, 1, 2, 63, 64].map(|count| answers.remove(&(0, count)).unwrap_or_default());
+            assert_eq!((counts, answers.remove(&(4, 64))), ([1; 5], Some(2)), "case {case}");
+            for done in [0, 1, 3] {
+                let refused = [2, 4, 16, 18].map(|by| answers.remove(&(by, done)).unwrap_or_default());
+                let lengths = if done == 0 { 0 } else { 4 };
+                assert!(refused[0] >= 4 && refused[1] >= lengths && refused[2] >= 5, "{refused:?}");
+                assert_eq!(refused[3], 3);
+            }
+            assert!(answers.keys().all(|&answer| answer == (0, 4)), "case {case}: {answers:?}");
         }
     }
 

@@ -8,6 +8,7 @@ use crate::ledger::Ledger;
 use crate::random::Random;
 use crate::tables::{self, names_in_bytes, Picture};
 use crate::trial::{Case, Trial};
+use reference::round::Order;
 use reference::sheet::Line;
 use reference::{rows, Engine, Rules, Sheet, Table, SEVERAL, TALL};
 
@@ -55,7 +56,7 @@ fn send(from: u64, to: u64, answering: &[usize]) -> Call {
 
 /// The same call with another file.
 fn of(file: u64, mut call: Call) -> Call {
-    call.rename_file(file);
+    call.rename_files(|_| file);
     call
 }
 
@@ -66,6 +67,19 @@ fn check(coordinator: u64, answering: &[usize]) -> Call {
 /// A sheet that turns nobody down.
 fn open() -> Vec<u8> {
     Sheet::OPEN.bytes().to_vec()
+}
+
+fn round(answering: &[usize], orders: &[Order]) -> Call {
+    Call::Round {
+        answering: set(answering),
+        orders: orders.iter().flat_map(Order::bytes).collect(),
+        sheet: open(),
+    }
+}
+
+/// As `write`.
+fn order(coordinator: u8) -> Order {
+    Order { coordinator, length: 1, offset: 0, patch: [b'a'; 8], file: 1, club: 1 }
 }
 
 fn join(name: u16) -> Call {
@@ -741,6 +755,135 @@ fn a_wrong_sheet_is_refused_first() {
     }
 }
 
+/// The walk with its writes in rounds, one of which is of two writes; what was done before a refusal is read.
+#[test]
+fn the_walk_in_rounds() {
+    expect(
+        &[1, 2, 3, 4],
+        &[
+            (round(&[1, 2, 3], &[order(1)]), 0, 1),
+            (read(4, &[3, 4]), 0, 1),
+            (round(&[1, 2, 4], &[order(2), order(1)]), 0, 2),
+            (read(4, &[3, 4]), 7, 0),
+            (read(1, &[1, 2]), 0, 3),
+            (send(3, 4, &[3, 4]), 10, 0),
+            (check(1, &[1, 2, 4]), 0, 1),
+            (round(&[3], &[order(3)]), 6, 0),
+            (round(&[1, 2, 4], &[order(1), order(3), order(1)]), 3, 1),
+            (round(&[1, 2, 4], &[order(1), order(255), order(1)]), 2, 1),
+            (round(&[1, 2, 4], &[order(2), Order { file: 2, ..order(1) }, order(1)]), 16, 1),
+            (round(&[1, 2, 4], &[order(2), Order { offset: 4, ..order(1) }, order(1)]), 4, 1),
+            (round(&[1, 2, 4], &[order(2), Order { length: 9, ..order(1) }, order(1)]), 4, 1),
+            (read(1, &[1, 2]), 0, 8),
+            (round(&[], &[]), 0, 0),
+            (round(&[1, 5], &[]), 2, 0),
+            (round(&[1, 5], &[order(1)]), 2, 0),
+            (round(&[], &[order(1)]), 3, 0),
+            (read(1, &[1, 2]), 0, 8),
+        ],
+    );
+}
+
+/// A row that joined coordinates an order by all that answered, since it has no choice; behind a write that it misses it is marked by the
+/// next one.
+#[test]
+fn rounds_by_a_row_that_joined() {
+    expect_in(
+        5,
+        &[10, 20, 30, 40],
+        &[
+            (join(25), 0, 5),
+            (round(&[1, 2, 3, 5], &[order(1), order(5), order(5)]), 0, 3),
+            (send(1, 5, &[1, 5]), 0, 3),
+            (send(1, 4, &[1, 4]), 10, 0),
+            (round(&[1, 2, 3, 4, 5], &[order(5)]), 0, 1),
+            (send(1, 4, &[1, 4]), 0, 4),
+        ],
+    );
+}
+
+/// Orders of two files: rows 3 and 4 are behind in the first one alone.
+#[test]
+fn a_round_of_two_files() {
+    let of = |file, by| Order { file, ..order(by) };
+    expect_of_two_files(&[
+        (round(&[1, 2, 3], &[of(2, 1), of(1, 1)]), 0, 2),
+        (round(&[1, 2, 4], &[of(1, 1)]), 0, 1),
+        (round(&[3, 4, 1], &[of(1, 3), of(1, 3), of(2, 3)]), 0, 3),
+        (check(1, &[1, 3, 4]), 0, 1),
+        (read(1, &[1, 3]), 0, 4),
+    ]);
+    expect_of_two_files(&[
+        (round(&[1, 2, 3], &[of(1, 1)]), 0, 1),
+        (round(&[1, 2, 4], &[of(1, 1)]), 0, 1),
+        (check(1, &[1, 3, 4]), 0, 1),
+        (round(&[3, 4], &[of(2, 3), of(2, 4), of(1, 3), of(2, 3)]), 7, 2),
+    ]);
+}
+
+#[test]
+fn at_most_sixty_four_orders() {
+    let all = [1, 2, 3, 4];
+    let calls = [
+        (round(&all, &[order(1); 63]), 0, 63),
+        (round(&all, &[order(1); 64]), 0, 64),
+        (round(&all, &[order(1); 65]), 4, 64),
+        (round(&all, &[vec![order(2); 64], vec![order(0); 6]].concat()), 4, 64),
+        (round(&all, &[vec![order(2); 63], vec![order(0); 7]].concat()), 2, 63),
+        (read(1, &all), 0, 63 + 3 * 64 + 63),
+    ];
+    expect(&[10, 20, 30, 40], &calls);
+}
+
+/// The counts of one sheet are the writes done, orders among them; an order meets what those before it counted.
+#[test]
+fn clubs_take_their_own_in_rounds() {
+    let all = [1, 2, 3, 4];
+    let by = |clubs: &[u8], refusal| {
+        let orders: Vec<Order> = clubs.iter().map(|&club| Order { club, ..order(1) }).collect();
+        (round(&all, &orders), 0, refusal)
+    };
+    expect_shares(&[by(&[1, 1, 1, 1], 18), by(&[], 0), by(&[2, 2, 2, 2], 19), by(&[3], 18), by(&[17], 18)]);
+    expect_shares(&[
+        by(&[2, 1, 2, 2, 2, 1, 2], 19),
+        by(&[2], 19),
+        by(&[1], 19),
+        (check(1, &[1, 2, 3]), 0, 0),
+        by(&[1, 2], 0),
+    ]);
+}
+
+#[test]
+fn a_round_with_a_wrong_sheet_or_list() {
+    let right = open();
+    let over = |mut call: Call, bytes: usize| {
+        if let Call::Round { orders, .. } = &mut call {
+            orders.resize(orders.len() + bytes, 1);
+        }
+        call
+    };
+    for sheet in [&[][..], &right[..195], &[&right[..], &[0]].concat()] {
+        let wrong = |call| (lent(call, sheet, 1), 1, 0);
+        let calls = [
+            wrong(round(&[1, 2], &[])),
+            wrong(round(&[5], &[])),
+            wrong(over(round(&[5], &[order(1)]), 3)),
+            wrong(round(&[1, 2], &[order(0), order(1)])),
+        ];
+        expect(&[10, 20], &calls);
+    }
+    for (orders, bytes) in [0, 1, 64, 65].into_iter().flat_map(|orders| [1, 15].map(|bytes| (orders, bytes)))
+    {
+        let list = vec![order(1); orders];
+        let calls = [
+            (over(round(&[1, 2], &list), bytes), 4, 0),
+            (over(round(&[], &list), bytes), 4, 0),
+            (over(round(&[1, 3], &list), bytes), 2, 0),
+        ];
+        expect(&[10, 20], &calls);
+    }
+}
+
 #[test]
 fn joinings_are_refused_for_the_name_first() {
     expect_in(
@@ -883,7 +1026,7 @@ fn a_send_by_window_where_no_founding_leads() {
 fn a_table_of_the_scope_answers_as_by_the_scope_alone() {
     let mut archive = Archive::new();
     let scope = Engine { rules: Rules::Published, ..Engine::default() };
-    let (mut made, mut fives) = ([0; 5], 0);
+    let (mut made, mut fives) = ([0; Call::KINDS.len()], 0);
     for case in 0..600 {
         let mut random = Random::new(12, case);
         let mut plan = Plan::from_the_scope(&mut random);
@@ -906,7 +1049,8 @@ fn a_table_of_the_scope_answers_as_by_the_scope_alone() {
             assert_eq!(tables::alone(&newest, 1, scope.rules), older, "case {case}: {call}");
         }
     }
-    assert!(made[1..].iter().all(|&done| done > 300) && fives > 50, "{made:?} {fives}");
+    let such = [1, 2, 3, 4, 9].map(|kind| made[kind]);
+    assert!(such.iter().all(|&done| done > 200) && fives > 50, "{made:?} {fives}");
 }
 
 #[test]
@@ -984,6 +1128,8 @@ fn gathered_pictures_give_the_same_as_the_whole_table() {
 struct Explorer {
     archive: Archive,
     calls: u64,
+    /// The last call is a round.
+    rounds: bool,
 }
 
 impl Explorer {
@@ -998,13 +1144,18 @@ impl Explorer {
     }
 
     fn explore_from(table: &[u8], ledger: &Ledger, depth: u8) -> u64 {
-        let mut explorer = Explorer { archive: Archive::new(), calls: 0 };
+        Explorer::explore_to(table, ledger, depth, false)
+    }
+
+    fn explore_to(table: &[u8], ledger: &Ledger, depth: u8, rounds: bool) -> u64 {
+        let mut explorer = Explorer { archive: Archive::new(), calls: 0, rounds };
         explorer.descend(table, ledger, depth);
         explorer.calls
     }
 
     fn descend(&mut self, table: &[u8], ledger: &Ledger, depth: u8) {
-        for call in every_call(table, depth) {
+        let last = self.rounds && depth == 1;
+        for call in if last { every_round(table) } else { every_call(table, depth) } {
             let mut trial =
                 Trial::resume(&mut self.archive, Engine::default(), table.to_vec(), ledger.clone());
             trial.step(&call).unwrap_or_else(|what| panic!("{call}: {what}"));
@@ -1051,6 +1202,21 @@ fn every_call(table: &[u8], mark: u8) -> Vec<Call> {
     calls.extend(table.rows.iter().map(|row| join_in(row.name + 1, row.county.into())));
     let last = table.row(table.at(table.used - 1));
     calls.push(join_in(last.name + 1, u64::from(last.county) % 8 + 1));
+    calls
+}
+
+/// Rounds of two orders by any rows, of any files, whoever answers.
+fn every_round(table: &[u8]) -> Vec<Call> {
+    let table = Picture::of(table).expect("a founded history");
+    let orders = (1..=table.used as u8).flat_map(|row| files_of(&table).map(move |file| (row, file as u8)));
+    let orders: Vec<Order> = orders.map(|(row, file)| Order { file, ..order(row) }).collect();
+    let mut calls = Vec::new();
+    for answering in 0..=table.all_used() {
+        let members: Vec<usize> = rows::members(answering).collect();
+        for (&first, &second) in orders.iter().flat_map(|one| orders.iter().map(move |other| (one, other))) {
+            calls.push(round(&members, &[first, Order { patch: [b'b'; 8], ..second }]));
+        }
+    }
     calls
 }
 
@@ -1149,6 +1315,27 @@ fn all_short_histories_of_several_counties() {
     let calls = Explorer::explore(4, 1, &found(4, &[10, 21, 35], 1, WIDE_TABLE), 3);
     println!("3 machines and one of another county, 3 calls deep: {calls} calls");
     assert!(calls > 0);
+}
+
+#[test]
+fn all_rounds_of_two_orders_after_short_histories() {
+    for (names, counties, choice, files, depth) in [
+        (&[5, 6][..], &[1, 1][..], WIDE_TABLE, 2, 4),
+        (&[31, 500, 501], &[1, 1, 1], WIDE_TABLE, 1, 4),
+        (&[31, 500, 501], &[2, 1, 1], WIDE_TABLE, 2, 3),
+        (&[10, 21, 35, 64], &[1; 4], WIDE_TABLE, 1, 3),
+        (&[10, 21, 35, 64, 70], &[1; 5], TALL_TABLE, 1, 2),
+    ] {
+        let capacity = names.len();
+        let founding = in_counties(found_group(capacity, names, 1, choice, files), counties);
+        let mut archive = Archive::new();
+        let mut trial = Trial::new(&mut archive, Engine::default(), &blank_group(capacity, 1, files));
+        trial.step(&founding).expect("no difference");
+        let (table, ledger) = trial.into_state();
+        let calls = Explorer::explore_to(&table, &ledger, depth, true);
+        println!("{capacity} machines, {files} files, a round after {} calls: {calls} calls", depth - 1);
+        assert!(calls > 0);
+    }
 }
 
 #[test]

@@ -1,7 +1,7 @@
 //! Keeps the plain books of a history's files beside it, and compares the answers with them.
 
 use crate::call::{result_shown, set_shown, Answer, Call};
-use reference::{rows, Book, Counties, Quorum, Rules, Shape, Sheet, MAX_FILES};
+use reference::{rows, sheet, Book, Counties, Quorum, Rules, Shape, Sheet, MAX_FILES};
 
 /// Closed until a founding is done.
 #[derive(Clone, Debug, Default)]
@@ -10,12 +10,13 @@ pub struct Ledger {
     rules: Rules,
     /// The book of file q at place q - 1. Each is fed every check and joining, and the writes and sends of its file.
     books: Vec<Book>,
-    /// The writes done since the last changing check, or founding, and the sheet that they and the checks were lent.
+    /// The writes done since the last changing check, or founding, orders of rounds among them, and the sheet that they and the checks
+    /// were lent.
     since: u64,
     sheet: OneSheet,
 }
 
-/// The sheet that every write and check since the founding was lent, if it was one.
+/// The sheet that every write, check and round since the founding was lent, if it was one.
 #[derive(Clone, Debug, Default, PartialEq, Eq)]
 enum OneSheet {
     /// None was made yet.
@@ -125,15 +126,52 @@ impl Ledger {
                     return Err(format!("{}, but the book has {rows} rows", result_shown(answer.result)));
                 }
             }
+            Call::Round { .. } => self.hear_round(call, answer)?,
             _ => {}
         }
         self.follow(call, answer)
     }
 
-    /// If their counts were 0 at the founding and each write and check since was lent this one sheet, the clubs' counts sum to the
+    /// A round stands for its writes up to the first refusal, the refused one included; each is lent what the one before left of the sheet.
+    /// A list without a whole order, one that ends inside an order and a 65th order stand for none.
+    fn hear_round(&mut self, call: &Call, answer: &Answer) -> Result<(), String> {
+        let (refusal, done) = (answer.result >> 32, answer.result as u32 as usize);
+        let writes: Vec<Call> = call.writes().into_iter().flatten().collect();
+        if done > writes.len() {
+            return Err(format!(
+                "{}, but by the book it has {} writes",
+                result_shown(answer.result),
+                writes.len()
+            ));
+        }
+        let mut counted = call.sheet().unwrap_or_default().to_vec();
+        for (place, mut write) in writes.into_iter().enumerate().take(done + usize::from(refusal != 0)) {
+            write.lend(&counted);
+            let is_done = place < done;
+            if let (Call::Write { club, .. }, true) = (&write, is_done) {
+                let sheet = Sheet::judge(&counted).filter(|sheet| sheet.line(*club).is_some());
+                sheet.ok_or("an order with a wrong sheet, or of no club, was done")?;
+                sheet::add(&mut counted, *club);
+            }
+            // What a write's answer holds besides its refusal is no part of a round's.
+            let result = if is_done { 0 } else { refusal << 32 };
+            let heard = Answer { result, sheet: counted.clone(), ..Answer::default() };
+            self.hear(&write, &heard).map_err(|what| format!("order {}: {what}", place + 1))?;
+        }
+        if counted != answer.sheet {
+            return Err("the sheet does not count the orders that were done".into());
+        }
+        Ok(())
+    }
+
+    /// If their counts were 0 at the founding and each write, check and round since was lent this one sheet, the clubs' counts sum to the
     /// writes done since the last changing check, or founding.
     fn follow(&mut self, call: &Call, answer: &Answer) -> Result<(), String> {
         let Some(lent) = call.sheet() else { return Ok(()) };
+        if call.writes().is_some_and(|mut writes| writes.next().is_some()) {
+            // Each write of a round was followed by itself.
+            return Ok(());
+        }
         let writes = |bytes: &[u8]| Sheet::judge(bytes).map(|sheet| sheet.writes());
         let is_one = match &self.sheet {
             OneSheet::Unlent => writes(lent) == Some(0),
@@ -266,7 +304,8 @@ mod tests {
     /// leads to two marks in one epoch, or to two shapes in one table; the book keeps no charts, and does not look at a list
     /// for the number called that has another length than one byte, nor in which order a write's file, range and that list are
     /// asked for, or a county or a sheet and what comes before it, nor at the list of a choice that was refused, nor at the sheet of a
-    /// check that changes nothing; it lists no sends; a send goes whole where a window is shorter than it should be; no history comes
+    /// check that changes nothing or of a round without orders, nor in which order such a round, or the length of an order, and what comes
+    /// before it are asked for; it lists no sends; a send goes whole where a window is shorter than it should be; no history comes
     /// to a version of 1,000,000; and none has moves.
     #[test]
     fn the_book_alone_finds_all_other_blunders() {
@@ -297,6 +336,9 @@ mod tests {
             Blunder::SheetAfterRows,
             Blunder::SheetOfChangesOnly,
             Blunder::LimitBeforeClub,
+            Blunder::BrokenListFirst,
+            Blunder::OrdersLengthFirst,
+            Blunder::EmptyRoundsSheet,
         ];
         for blunder in Blunder::ALL {
             let is_hidden = hidden.contains(&blunder);

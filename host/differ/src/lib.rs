@@ -13,6 +13,7 @@ mod log;
 mod random;
 mod relay;
 mod report;
+mod rounds;
 mod sheets;
 mod shrink;
 mod tables;
@@ -91,7 +92,7 @@ impl Run {
         archive::now_in(self.seed, number);
         let mut random = Random::new(self.seed, number);
         let edge = if random.chance(1, 2) { Edge::Start } else { Edge::End };
-        // The first cases try every chart, and every choice and move on a few tables, in lists against one edge and against the other.
+        // The first cases try every chart, and every choice, move and round on a few tables, in lists against one edge and against the other.
         let (edge, mut plan) = match number {
             0 => (Edge::Start, Plan::charts(&mut random)),
             1 => (Edge::End, Plan::charts(&mut random)),
@@ -102,6 +103,8 @@ impl Run {
                 let (form, published) = (MOVED_FORMS[(number as usize - 8) / 4], number % 4 < 2);
                 (edge, Plan::moves(&mut random, form, published))
             }
+            36 => (Edge::Start, Plan::rounds(&mut random)),
+            37 => (Edge::End, Plan::rounds(&mut random)),
             _ => (edge, Plan::pick(&mut random)),
         };
         if let Some(damaged) = &plan.damage {

@@ -1,8 +1,9 @@
 //! A case as a log, which `gridctl replay` takes: the answers are the reference's, so that the archive's first difference is shown.
 
-use crate::call::{Answer, Call};
+use crate::call::{whole_orders, Answer, Call};
 use crate::trial::Case;
 use gridctl::bytes_told;
+use reference::round::{Order, ORDER};
 use reference::{rows, Engine};
 
 const ALIKE: &str =
@@ -82,10 +83,28 @@ fn call_told(call: &Call, names: &Names, length: usize) -> Result<String, &'stat
         Call::Check { coordinator, answering, .. } => {
             format!("check {} with {}", names.one(*coordinator), names.set(*answering))
         }
+        Call::Round { answering, orders, .. } => round_told(*answering, orders, names)?,
         Call::Chart { .. } | Call::Choice { .. } | Call::Move { .. } => {
             return Err("it has a call that a log does not have");
         }
     })
+}
+
+/// A round, an order after the other; zeros stand where nobody reads.
+fn round_told(answering: u64, orders: &[u8], names: &Names) -> Result<String, &'static str> {
+    let mut told = format!("round with {}", names.set(answering));
+    if !orders.len().is_multiple_of(ORDER) {
+        return Err("a round's list ends inside an order");
+    }
+    for order in whole_orders(orders) {
+        if order.written().is_empty() {
+            return Err("an order has no byte, or more than eight");
+        }
+        let (by, patch) = (names.one(order.coordinator.into()), bytes_told(order.written()));
+        let Order { file, club, offset, .. } = order;
+        told.push_str(&format!(" order {by} file {file} club {club} at {offset} {patch}"));
+    }
+    Ok(told)
 }
 
 /// A log founds a table of the length that the founding needs.
@@ -114,7 +133,7 @@ fn answer_told(call: &Call, answer: &Answer) -> String {
     let (refusal, value) = ((answer.result >> 32) as u32, answer.result as u32);
     let told = gridctl::Answer {
         refusal,
-        value: (refusal == 0).then_some(value),
+        value: (refusal == 0 || matches!(call, Call::Round { .. })).then_some(value),
         called: answer.called.first().map(|&called| called.into()),
         bytes: matches!(call, Call::Read { .. } if refusal == 0).then(|| answer.buffer.clone()),
     };
@@ -178,5 +197,6 @@ mod tests {
     }
 
     /// Where the test looks besides at the calls of a case.
-    const ELSEWHERE: [&str; 2] = ["with a row that did not answer in another county", "sends of file"];
+    const ELSEWHERE: [&str; 3] =
+        ["with a row that did not answer in another county", "sends of file", "of a round, write"];
 }

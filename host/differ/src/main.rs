@@ -110,10 +110,12 @@ fn compare(seed: u64, options: &Options) -> bool {
     let [others, alone] = run.counts.on_files();
     let [unmoved, moved] = run.counts.moved_counties();
     let [shares, sums] = run.counts.sheets();
+    let [rounds, orders] = run.counts.rounds();
     println!(
         "differ: {calls} calls ({} by the scope's rules alone too, {} decided by a grid mark, {own} by an own choice, {all} not, \
          {} through a relay too, {alone} file by file, {} by the rules of form 4), {} twins, {others} with other files and {} with \
-         another county, {moved} of which answered otherwise, {shares} writes with other shares, {sums} sums of a sheet, {like} sends by window like whole ones, {unlike} not, {tables} tables with \
+         another county, {moved} of which answered otherwise, {shares} writes with other shares, {sums} sums of a sheet, {rounds} rounds \
+         like their writes, {orders} orders of which were done, {like} sends by window like whole ones, {unlike} not, {tables} tables with \
          {sends} sends by the wrapper in {:.1} s, no difference (seed {seed})",
         run.counts.published(),
         run.counts.decided(),
@@ -169,15 +171,15 @@ fn finds(seed: u64, blunder: Mistake) -> bool {
     let name = blunder.name();
     let mut run = Run::new(seed, Some(blunder));
     let Some(failed) = run.cases(SELF_TEST_CALLS, |_| {}) else {
-        println!("{name:22} NOT found in {SELF_TEST_CALLS} calls");
+        println!("{name:24} NOT found in {SELF_TEST_CALLS} calls");
         return false;
     };
     if Run::new(seed, None).case(failed.number).is_some() {
-        println!("{name:22} NOT found: the archive differs without it");
+        println!("{name:24} NOT found: the archive differs without it");
         return false;
     }
     let calls = run.counts.total() + 1;
     let (case, failure) = run.shrink(&failed);
-    println!("{name:22} found after {calls:>5} calls, cut down to {}: {}", case.calls.len(), failure.what);
+    println!("{name:24} found after {calls:>5} calls, cut down to {}: {}", case.calls.len(), failure.what);
     true
 }

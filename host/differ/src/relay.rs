@@ -1,11 +1,12 @@
 //! A relay that holds only rows that answered: each machine keeps its own row, and for each call a table is put together from
-//! the rows that it may look at, for a read, write or send with the parts of its file alone. Its answers, and the rows on the
-//! machines, must be those of the one table.
+//! the rows that it may look at, for a read, write, send or round with the parts of its files alone. Its answers, and the rows on the
+//! machines, must be those of the one table. A round has one answering set, so that it is one call on one such table, and what all
+//! its orders changed is shipped at once.
 
 use crate::archive::Archive;
 use crate::call::{result_shown, Answer, Call};
-use dyngrid::{File, Rows, Table};
-use reference::{Counties, Rules, Shape, COUNTY, HEADER, ROW_HEADER, TALL};
+use dyngrid::{Rows, Table};
+use reference::{rows, Counties, Rules, Shape, COUNTY, HEADER, TALL};
 
 /// Where a row keeps its link, its list and the mark of the list's grid.
 const LINK: usize = 2;
@@ -135,11 +136,9 @@ impl Relay {
     /// What a machine gives for a call: its row, without the parts of other files than the call names.
     fn given(&self, row: usize, call: &Call) -> Vec<u8> {
         let mut bytes = self.machines[row - 1].clone();
-        let named = call.file().map(|file| self.frame.file(file as usize));
-        if let Some(part) = named.and_then(File::range) {
-            bytes[ROW_HEADER..part.start].fill(0);
-            bytes[part.end..].fill(0);
-        }
+        let Some(named) = call.files(self.frame.files()) else { return bytes };
+        let others = (1..=self.frame.files()).filter(|&file| !rows::has(named, file));
+        others.filter_map(|file| self.frame.file(file).range()).for_each(|part| bytes[part].fill(0));
         bytes
     }
 

@@ -1,10 +1,11 @@
 //! How often each call was done and refused, on which kinds of tables, and at which sizes its twin was asked.
 
-use crate::call::Call;
+use crate::call::{whole_orders, Call};
 use crate::damage::{self, Damaged};
 use crate::generate::MOVE_FORMS;
 use crate::sheets;
 use crate::tables::Picture;
+use reference::round::{Order, MOST_ORDERS, ORDER};
 use reference::window::RECORDS;
 use reference::{Quorum, Rules, Shape, Sheet, MAX_COUNTIES, MAX_FILES, SEVERAL};
 use std::collections::{BTreeMap, BTreeSet};
@@ -86,6 +87,10 @@ pub struct Counts {
     other_sheets: u64,
     /// How many times the counts of one sheet were the writes done since the last changing check, 0 of them and more.
     summed: [u64; 2],
+    /// How many rounds were of each of `ROUNDS`, how many lists left over each number of bytes, and how many orders were done.
+    rounds: [u64; ROUNDS.len()],
+    left_over: [u64; ORDER],
+    ordered: u64,
     /// How many well-formed tables were looked at through the wrapper, and how many sends would be done there.
     looked: u64,
     sends: u64,
@@ -192,11 +197,12 @@ const CHECKS: [Known<Checked>; 5] = [
     ),
 ];
 
-/// The kinds of calls that name a file: read, write, send; those that files have a part in; and those that are made on each file alone
-/// too.
+/// The kinds of calls that name a file: read, write, send; those that files have a part in; those that are made on each file alone
+/// too; and those that other files have no part in.
 const NAMING: RangeInclusive<usize> = 1..=3;
-const ON_FILES: [usize; 7] = [0, 1, 2, 3, 4, 5, 7];
-const ALONE: [usize; 6] = [1, 2, 3, 4, 5, 7];
+const ON_FILES: [usize; 8] = [0, 1, 2, 3, 4, 5, 7, 9];
+const ALONE: [usize; 7] = [1, 2, 3, 4, 5, 7, 9];
+const WITHIN: [usize; 4] = [1, 2, 3, 9];
 
 /// The files that a group does not have and that must be named, by their number and how many there are.
 const ABSENT: [Known<(u64, usize)>; 4] = [
@@ -270,8 +276,172 @@ const SHARES: [Share; 11] = [
     ("with nothing left to share", 19, |sheet, _| sheet.remainder() == 0),
 ];
 
-/// The kinds of calls that are lent a sheet: write and check.
-const SHEETED: [usize; 2] = [2, 4];
+/// The kinds of calls that are lent a sheet: write, check and round.
+const SHEETED: [usize; 3] = [2, 4, 9];
+
+/// What a round was, and what it came to.
+#[derive(Clone, Copy, Debug, PartialEq, Eq)]
+pub struct Round {
+    /// In a founded history?
+    pub founded: bool,
+    /// How many whole orders the list has, and how many bytes are left over.
+    pub orders: usize,
+    pub over: usize,
+    /// 0 if it was done, and how many orders were.
+    pub refusal: u32,
+    pub done: usize,
+    /// The order that was refused, if one was.
+    pub refused: Option<Order>,
+    /// Did done orders name more than one file, club and coordinator?
+    pub several: [bool; 3],
+    /// Would the sheet as it was lent have let the refused order pass?
+    pub by_own_counts: bool,
+    pub sheet_is_right: bool,
+    pub nobody_answers: bool,
+    /// How many files the table has, if it is well formed.
+    pub files: Option<usize>,
+    /// Did the wrapper enter it too?
+    pub wrapped: bool,
+}
+
+impl Round {
+    pub fn of(call: &Call, result: u64, files: Option<usize>) -> Round {
+        let list = if let Call::Round { orders, .. } = call { &orders[..] } else { &[] };
+        let (refusal, done) = ((result >> 32) as u32, result as u32 as usize);
+        let orders: Vec<Order> = whole_orders(list).collect();
+        let over = list.len() % ORDER;
+        let is_order = refusal != 0 && over == 0 && done < MOST_ORDERS as usize;
+        let refused = orders.get(done).copied().filter(|_| is_order);
+        let several =
+            |of: fn(&Order) -> u8| orders.iter().take(done).map(of).collect::<BTreeSet<u8>>().len() > 1;
+        let sheet = call.sheet().and_then(Sheet::judge);
+        let share = sheet.zip(refused).and_then(|(sheet, order)| sheet.refusal(order.club.into()));
+        Round {
+            founded: false,
+            orders: orders.len(),
+            over,
+            refusal,
+            done,
+            refused,
+            several: [
+                several(|order| order.file),
+                several(|order| order.club),
+                several(|order| order.coordinator),
+            ],
+            by_own_counts: matches!(refusal, 18 | 19) && share.is_none(),
+            sheet_is_right: sheet.is_some(),
+            nobody_answers: call.answering() == Some(0),
+            files,
+            wrapped: false,
+        }
+    }
+
+    /// Of no order at all?
+    fn is_empty(self) -> bool {
+        self.orders == 0 && self.over == 0
+    }
+
+    /// Of so many orders, all done?
+    fn is_done(self, orders: usize) -> bool {
+        self.refusal == 0 && self.orders == orders
+    }
+
+    /// Refused by this number for an order, behind some that were done?
+    fn stopped(self, refusal: u32) -> bool {
+        self.refusal == refusal && self.done > 0 && self.refused.is_some()
+    }
+
+    /// Was such an order refused by this number?
+    fn refused(self, refusal: u32, is_such: impl Fn(Order) -> bool) -> bool {
+        self.refusal == refusal && self.refused.is_some_and(is_such)
+    }
+
+    /// Does the list end inside an order, and was it refused by this number?
+    fn is_broken(self, refusal: u32) -> bool {
+        self.over > 0 && self.refusal == refusal
+    }
+}
+
+/// The kinds of rounds that must come.
+const ROUNDS: [Known<Round>; 55] = [
+    ("of no order, done", |round| round.is_empty() && round.refusal == 0),
+    ("of no order, nobody answering, done", |round| {
+        round.is_empty() && round.refusal == 0 && round.nobody_answers
+    }),
+    ("of no order, refused by 1 for the table", |round| {
+        round.is_empty() && round.refusal == 1 && round.sheet_is_right
+    }),
+    ("of no order, refused by 1 for the sheet", |round| {
+        round.is_empty() && round.refusal == 1 && round.files.is_some()
+    }),
+    ("of no order, refused by 2", |round| round.is_empty() && round.refusal == 2),
+    ("that ends inside its first order, refused by 4", |round| round.is_broken(4) && round.orders == 0),
+    ("that ends inside an order behind others, refused by 4", |round| round.is_broken(4) && round.orders > 0),
+    ("that ends inside an order behind 64, refused by 4", |round| round.is_broken(4) && round.orders == 64),
+    ("that ends inside an order behind 65 and more, refused by 4", |round| {
+        round.is_broken(4) && round.orders > 64
+    }),
+    ("that ends inside an order, refused by 1 for the table", |round| {
+        round.is_broken(1) && round.sheet_is_right
+    }),
+    ("that ends inside an order, refused by 1 for the sheet", |round| {
+        round.is_broken(1) && round.files.is_some()
+    }),
+    ("that ends inside an order, refused by 2", |round| round.is_broken(2)),
+    ("of 1 order, done", |round| round.is_done(1)),
+    ("of 2 orders, done", |round| round.is_done(2)),
+    ("of 63 orders, done", |round| round.is_done(63)),
+    ("of 64 orders, done", |round| round.is_done(64)),
+    ("of 65 orders, 64 done", |round| round.orders == 65 && round.done == 64),
+    ("of 70 orders, 64 done", |round| round.orders == 70 && round.done == 64),
+    ("of 65 and more orders, refused before", |round| round.orders > 64 && round.refused.is_some()),
+    ("of 64 orders done in a founded history", |round| round.is_done(64) && round.founded),
+    ("refused by 2 behind done orders", |round| round.stopped(2)),
+    ("refused by 3 behind done orders", |round| round.stopped(3)),
+    ("refused by 4 behind done orders", |round| round.stopped(4)),
+    ("refused by 6 behind done orders", |round| round.stopped(6)),
+    ("refused by 7 behind done orders", |round| round.stopped(7)),
+    ("refused by 8 behind done orders", |round| round.stopped(8)),
+    ("refused by 16 behind done orders", |round| round.stopped(16)),
+    ("refused by 18 behind done orders", |round| round.stopped(18)),
+    ("refused by 19 behind done orders", |round| round.stopped(19)),
+    ("refused by 7 behind done orders in a founded history", |round| round.stopped(7) && round.founded),
+    ("refused by 19 behind done orders in a founded history", |round| round.stopped(19) && round.founded),
+    ("refused by 18 for what its own orders counted", |round| round.by_own_counts && round.refusal == 18),
+    ("refused by 19 for what its own orders counted", |round| round.by_own_counts && round.refusal == 19),
+    ("with an order by row 0", |round| round.refused(2, |order| order.coordinator == 0)),
+    ("with an order by row 255", |round| round.refused(2, |order| order.coordinator == 255)),
+    ("with an order of length 0", |round| round.refused(4, |order| order.length == 0)),
+    ("with an order of length 9", |round| round.refused(4, |order| order.length == 9)),
+    ("with an order of length 255", |round| round.refused(4, |order| order.length == 255)),
+    ("with an order at offset 65,535", |round| round.refused(4, |order| order.offset == 65_535)),
+    ("with an order of file 0", |round| round.refused(16, |order| order.file == 0)),
+    ("with an order of the file behind the last", |round| {
+        round.refused(16, |order| Some(usize::from(order.file)) == round.files.map(|files| files + 1))
+    }),
+    ("with an order of file 9", |round| round.refused(16, |order| order.file == 9)),
+    ("with an order of file 255", |round| round.refused(16, |order| order.file == 255)),
+    ("with an order by club 0", |round| round.refused(18, |order| order.club == 0)),
+    ("with an order by club 17", |round| round.refused(18, |order| order.club == 17)),
+    ("with an order by club 255", |round| round.refused(18, |order| order.club == 255)),
+    ("with an order of a wrong length by a row that is none", |round| {
+        round.refused(2, |order| order.written().is_empty())
+    }),
+    ("with an order of a wrong length of a file that is none", |round| {
+        round.refused(16, |order| order.written().is_empty())
+    }),
+    ("with an order of a wrong length by a club that is none", |round| {
+        round.refused(4, |order| order.written().is_empty() && order.club == 17)
+    }),
+    ("with done orders of several files", |round| round.several[0]),
+    ("with done orders by several clubs", |round| round.several[1]),
+    ("with done orders by several rows", |round| round.several[2]),
+    ("done by the wrapper", |round| round.wrapped && round.done > 0 && round.refusal == 0),
+    ("refused by the wrapper behind done orders", |round| {
+        round.wrapped && round.done > 0 && round.refused.is_some()
+    }),
+    ("of more than 64 orders by the wrapper", |round| round.wrapped && round.orders > 64 && round.done == 64),
+];
 
 /// How many files a table has that its files are asked of alone.
 const GROUPS: [&str; 2] = ["of one", "of several"];
@@ -321,6 +491,7 @@ const POSSIBLE: [&[u32]; KINDS] = [
     &[0, 5, 17],
     &[0, 1, 2, 4, 5],
     &[0, 1, 12, 15],
+    &[0, 1, 2, 3, 4, 6, 7, 8, 16, 18, 19],
 ];
 
 /// The kinds of calls that are not asked what the table holds: founding and chart.
@@ -329,14 +500,14 @@ const TABLELESS: [usize; 2] = [0, 6];
 /// A move looks at every row: it has no twin.
 const MOVE: usize = 8;
 
-/// The kinds of calls that the scope alone puts question 1 to.
-const PUBLISHED: RangeInclusive<usize> = 1..=4;
+/// The kinds of calls that the scope's rules alone judge too: those it puts question 1 to, and a round, which stands for such calls.
+const PUBLISHED: [usize; 5] = [1, 2, 3, 4, 9];
 
 /// The kinds of calls that the grid of a list decides: read, write, check, choice.
 const BY_GRID: [usize; 4] = [1, 2, 4, 7];
 
 /// The kinds of calls that the rules of form 4 judge too: all but a chart.
-const BY_FORM_4: [usize; 8] = [0, 1, 2, 3, 4, 5, 7, 8];
+const BY_FORM_4: [usize; 9] = [0, 1, 2, 3, 4, 5, 7, 8, 9];
 
 /// The kinds of calls that say how many machines were called: read and write.
 const CALLING: [usize; 2] = [1, 2];
@@ -492,6 +663,8 @@ pub struct Step {
     pub other_sheet: bool,
     /// The writes done since the last changing check, if they were compared with the counts of one sheet.
     pub summed: Option<u64>,
+    /// What a round was, and what it came to.
+    pub round: Option<Round>,
 }
 
 /// What the counties had to do with a list that judged a call.
@@ -532,6 +705,7 @@ impl Step {
             moved_county: None,
             other_sheet: false,
             summed: None,
+            round: None,
         }
     }
 }
@@ -572,6 +746,9 @@ impl Default for Counts {
             wrong_sheets: Default::default(),
             other_sheets: 0,
             summed: Default::default(),
+            rounds: [0; ROUNDS.len()],
+            left_over: [0; ORDER],
+            ordered: 0,
             looked: 0,
             sends: 0,
         }
@@ -618,6 +795,12 @@ impl Counts {
         self.add_files(call, answer, &step);
         self.add_counties(call, answer, &step);
         self.add_sheet(call, answer, &step);
+        if let Some(round) = step.round {
+            let counts = ROUNDS.iter().zip(&mut self.rounds);
+            counts.for_each(|((_, is_such), count)| *count += u64::from(is_such(round)));
+            self.left_over[round.over] += 1;
+            self.ordered += round.done as u64;
+        }
         self.looked += u64::from(step.sends.is_some());
         self.sends += step.sends.unwrap_or(0) as u64;
         self.grounds[call.kind()][step.ground as usize] += 1;
@@ -714,6 +897,11 @@ impl Counts {
     /// How many writes were made again with other lines of the sheet, and how often the counts of one sheet were summed.
     pub fn sheets(&self) -> [u64; 2] {
         [self.other_sheets, self.summed.iter().sum()]
+    }
+
+    /// How many rounds were compared with their writes, and how many of their orders were done.
+    pub fn rounds(&self) -> [u64; 2] {
+        [self.left_over.iter().sum(), self.ordered]
     }
 
     /// How often the rules of form 4 judged a call too.
@@ -819,6 +1007,7 @@ impl Counts {
         self.missing_files(&mut missing);
         self.missing_counties(&mut missing);
         self.missing_sheets(&mut missing);
+        self.missing_rounds(&mut missing);
         let untold = CHOICES.into_iter().zip(self.chosen).filter(|&(_, count)| count == 0);
         missing.extend(untold.map(|(choice, _)| format!("choice of a {choice}")));
         let not_relayed = Call::KINDS.into_iter().zip(self.relayed).filter(|&(_, count)| count == 0);
@@ -857,6 +1046,8 @@ impl Counts {
             missing.extend(never.map(|(file, _)| format!("{name} of file {file}")));
             let never = ABSENT.iter().zip(self.absent[kind]).filter(|&(_, count)| count == 0);
             missing.extend(never.map(|((file, _), _)| format!("{name} of {file}")));
+        }
+        for (kind, name) in WITHIN.map(|kind| (kind, Call::KINDS[kind])) {
             let never = numbers(self.other_files[kind]).filter(|&(files, _)| files > 1);
             missing
                 .extend(never.map(|(files, _)| format!("{name} among {files} files with other other files")));
@@ -912,6 +1103,14 @@ impl Counts {
         if self.summed.contains(&0) {
             missing.push("counts of one sheet summed, 0 and more".into());
         }
+    }
+
+    /// What never came of rounds.
+    fn missing_rounds(&self, missing: &mut Vec<String>) {
+        let never = ROUNDS.iter().zip(self.rounds).filter(|&(_, count)| count == 0);
+        missing.extend(never.map(|((round, _), _)| format!("round {round}")));
+        let never = self.left_over.iter().enumerate().filter(|&(_, &count)| count == 0);
+        missing.extend(never.map(|(over, _)| format!("round with {over} bytes left over")));
     }
 
     /// How often a read or write stayed with its own choice, and how often it did not, where that can be told.
@@ -1001,8 +1200,12 @@ mod tests {
             Call::Chart { length: 1, mark: 0, list: vec![0; 128] },
             Call::Choice { coordinator: 1, kind: 0, set: vec![0; 8] },
             Call::Move { form: 3, to: vec![0; 8], taken: false },
+            Call::Round { answering: 1, orders: ONE.bytes().to_vec(), sheet: Sheet::OPEN.bytes().to_vec() },
         ]
     }
+
+    /// An order for the first byte of the first file.
+    const ONE: Order = Order { coordinator: 1, length: 1, offset: 0, patch: [0; 8], file: 1, club: 1 };
 
     /// A call that gave this answer, on a table whose rows all have a list in the published grid.
     fn step(answer: u32) -> Step {
@@ -1019,12 +1222,12 @@ mod tests {
                 let other_files = call.file().map(|_| number);
                 let alone = ALONE.contains(&call.kind()).then_some(number);
                 let step = Step { files: Some(number), other_files, alone, ..step(0) };
-                call.rename_file(number as u64);
+                call.rename_files(|_| number as u64);
                 counts.add(&call, step);
             }
             if call.file().is_some() {
                 for file in [0, 8, 9, (1 << 32) + 1] {
-                    call.rename_file(file);
+                    call.rename_files(|_| file);
                     counts.add(&call, Step { files: Some(7), ..step(16) });
                 }
             }
@@ -1097,7 +1300,7 @@ mod tests {
 
     /// Writes with every share, and writes and checks with each rule of a sheet broken.
     fn every_kind_of_sheet(counts: &mut Counts) {
-        for (kind, answer) in [(2, 18), (2, 19), (2, 1), (4, 1)] {
+        for (kind, answer) in [(2, 18), (2, 19), (2, 1), (4, 1), (9, 1)] {
             counts.add(&calls()[kind], step(answer));
         }
         let mut lines = [Line::default(); 16];
@@ -1133,9 +1336,121 @@ mod tests {
                 counts.add(&call, step(1));
             }
         }
-        assert_eq!(counts.missing().len(), missing_before - SHARES.len() - 2 * sheets::RULES.len());
+        assert_eq!(counts.missing().len(), missing_before - SHARES.len() - 3 * sheets::RULES.len());
         counts.add(&calls()[2], Step { other_sheet: true, summed: Some(0), ..step(0) });
         counts.add(&calls()[2], Step { summed: Some(1), ..step(0) });
+    }
+
+    /// So many orders, the last of which may be another, and so many bytes left over; gave this on a table of two files.
+    fn round(count: usize, other: Option<Order>, over: usize, refusal: u32, done: u32) -> Round {
+        let mut orders = vec![ONE; count];
+        if let (Some(last), Some(other)) = (orders.last_mut(), other) {
+            *last = other;
+        }
+        let mut orders: Vec<u8> = orders.iter().flat_map(Order::bytes).collect();
+        orders.resize(orders.len() + over, 0);
+        let call = Call::Round { answering: 1, orders, sheet: Sheet::OPEN.bytes().to_vec() };
+        Round::of(&call, u64::from(refusal) << 32 | u64::from(done), Some(2))
+    }
+
+    /// Each kind of round, and every number of bytes left over.
+    fn every_kind_of_round(counts: &mut Counts) {
+        let done = |count| round(count, None, 0, 0, count as u32);
+        let broken = |count, refusal| round(count, None, 1, refusal, 0);
+        let wrong = |other, refusal| round(2, Some(other), 0, refusal, 1);
+        let by_table = |round| Round { files: None, ..round };
+        let by_sheet = |round| Round { sheet_is_right: false, ..round };
+        let in_history = |round| Round { founded: true, ..round };
+        let by_counts = |refusal, by_own_counts| Round { by_own_counts, ..wrong(ONE, refusal) };
+        let several = |several| Round { several, ..done(3) };
+        let wrapped = |round| Round { wrapped: true, ..round };
+        // Each is of one more kind that has not come yet than the one before.
+        let no_length = Order { length: 0, ..ONE };
+        let rounds = [
+            done(0),
+            Round { nobody_answers: true, ..done(0) },
+            by_table(round(0, None, 0, 1, 0)),
+            by_sheet(round(0, None, 0, 1, 0)),
+            round(0, None, 0, 2, 0),
+            broken(0, 4),
+            broken(1, 4),
+            broken(64, 4),
+            broken(65, 4),
+            by_table(broken(1, 1)),
+            by_sheet(broken(1, 1)),
+            broken(1, 2),
+            done(1),
+            done(2),
+            done(63),
+            done(64),
+            round(65, None, 0, 4, 64),
+            round(70, None, 0, 4, 64),
+            round(66, None, 0, 6, 0),
+            in_history(done(64)),
+            wrong(ONE, 2),
+            wrong(ONE, 3),
+            wrong(ONE, 4),
+            wrong(ONE, 6),
+            wrong(ONE, 7),
+            wrong(ONE, 8),
+            wrong(ONE, 16),
+            by_counts(18, false),
+            by_counts(19, false),
+            in_history(wrong(ONE, 7)),
+            in_history(by_counts(19, false)),
+            by_counts(18, true),
+            by_counts(19, true),
+            wrong(Order { coordinator: 0, ..ONE }, 2),
+            wrong(Order { coordinator: 255, ..ONE }, 2),
+            wrong(no_length, 4),
+            wrong(Order { length: 9, ..ONE }, 4),
+            wrong(Order { length: 255, ..ONE }, 4),
+            wrong(Order { offset: 65_535, ..ONE }, 4),
+            wrong(Order { file: 0, ..ONE }, 16),
+            wrong(Order { file: 3, ..ONE }, 16),
+            wrong(Order { file: 9, ..ONE }, 16),
+            wrong(Order { file: 255, ..ONE }, 16),
+            wrong(Order { club: 0, ..ONE }, 18),
+            wrong(Order { club: 17, ..ONE }, 18),
+            wrong(Order { club: 255, ..ONE }, 18),
+            wrong(Order { coordinator: 7, ..no_length }, 2),
+            wrong(Order { file: 7, ..no_length }, 16),
+            wrong(Order { club: 17, ..no_length }, 4),
+            several([true, false, false]),
+            several([false, true, false]),
+            several([false, false, true]),
+            wrapped(done(1)),
+            wrapped(wrong(ONE, 3)),
+            wrapped(round(65, None, 0, 4, 64)),
+        ];
+        for over in 0..ORDER {
+            counts.add(&calls()[9], Step { round: Some(round(3, None, over, 3, 0)), ..step(3) });
+        }
+        for made in rounds {
+            let missing_before = counts.missing().len();
+            counts.add(&calls()[9], Step { round: Some(made), ..step(made.refusal) });
+            assert!(counts.missing().len() < missing_before, "{made:?}");
+        }
+        assert!(counts.rounds.iter().all(|&count| count > 0));
+        let orders = rounds.iter().map(|round| round.done as u64).sum();
+        assert_eq!(counts.rounds(), [ROUNDS.len() as u64 + 16, orders]);
+    }
+
+    /// What a round came to is read off the call and its answer.
+    #[test]
+    fn rounds_are_told_apart() {
+        let last = Order { coordinator: 2, file: 2, club: 3, ..ONE };
+        let refused = round(3, Some(last), 0, 19, 2);
+        assert_eq!((refused.refused, refused.several, refused.by_own_counts), (Some(last), [false; 3], true));
+        assert_eq!(round(3, Some(last), 0, 0, 3).several, [true; 3]);
+        assert_eq!(round(3, None, 5, 4, 0).refused, None, "it ends inside an order");
+        assert_eq!(round(65, None, 0, 4, 64).refused, None, "the 65th is no order");
+        assert_eq!(
+            (round(64, Some(last), 0, 7, 63).refused, round(1, None, 0, 1, 0).refused),
+            (Some(last), Some(ONE))
+        );
+        let no_club = round(3, Some(Order { club: 17, ..ONE }), 0, 18, 2);
+        assert!(!no_club.by_own_counts && !round(3, Some(last), 0, 7, 2).by_own_counts);
     }
 
     #[test]
@@ -1155,20 +1470,32 @@ mod tests {
         let moves = 5 * 8 * 3 + 4 * 2 + 4;
         let last: Vec<usize> =
             (0..damage::RULES.len()).filter(|&rule| damage::RULES[rule].1.of_a_file()).collect();
-        let files = last.len() + 7 * 8 + 3 * (8 + 4 + 7) + 6 * 2 + 5;
-        let counties = 7 * MAX_COUNTIES + NO_COUNTIES.len() + 4 * (2 * 4 + 2) + 1 + 8;
-        let of_tables = answers + 6 * 64 + 7 * Ground::ALL.len() + 4 + 16;
+        let files = last.len() + 8 * 8 + 3 * (8 + 4) + 4 * 7 + 7 * 2 + 5;
+        let counties = 8 * MAX_COUNTIES + NO_COUNTIES.len() + 4 * (2 * 4 + 2) + 1 + 9;
+        let of_tables = answers + 7 * 64 + 8 * Ground::ALL.len() + 5 + 16;
         let of_forms = broken.len() + moves;
-        let sheets = SHARES.len() + 2 * sheets::RULES.len() + 2;
+        let sheets = SHARES.len() + 3 * sheets::RULES.len() + 2;
+        let rounds = ROUNDS.len() + ORDER;
         assert_eq!(
             counts.missing().len(),
-            of_tables + called + choices + relayed + listed + windows + of_forms + files + counties + sheets
+            of_tables
+                + called
+                + choices
+                + relayed
+                + listed
+                + windows
+                + of_forms
+                + files
+                + counties
+                + sheets
+                + rounds
         );
         broken.into_iter().for_each(|(rules, rule)| counts.damages[rules as usize][rule] += 1);
         last.into_iter().for_each(|rule| counts.damaged_last[rule] += 1);
         every_kind_of_group(&mut counts);
         every_kind_of_county(&mut counts);
         every_kind_of_sheet(&mut counts);
+        every_kind_of_round(&mut counts);
         for from in Rules::ALL {
             for (form, (_, over)) in
                 MOVE_FORMS.into_iter().flat_map(|form| BUFFERS.map(|buffer| (form, buffer)))
@@ -1245,15 +1572,15 @@ mod tests {
         for call in calls() {
             counts.add(&call, Step { ground: Ground::Malformed, published: true, ..step(1) });
         }
-        let rules =
-            ["read", "write", "send", "check"].map(|name| format!("{name} by the scope's rules alone"));
+        let rules = ["read", "write", "send", "check", "round"]
+            .map(|name| format!("{name} by the scope's rules alone"));
         let decided = ["read", "write", "check", "choice"]
             .map(|name| MARKS.map(|list| format!("{name} decided by {list}")));
         assert_eq!(counts.missing(), [&rules, decided.as_flattened()].concat());
-        for call in &calls()[PUBLISHED] {
-            counts.add(call, Step { published: true, ..step(0) });
+        for kind in PUBLISHED {
+            counts.add(&calls()[kind], Step { published: true, ..step(0) });
         }
-        assert_eq!((counts.missing(), counts.published()), (decided.as_flattened().to_vec(), 4));
+        assert_eq!((counts.missing(), counts.published()), (decided.as_flattened().to_vec(), 5));
         for kind in BY_GRID {
             for mark in [0, 1, 2, 3] {
                 counts.add(&calls()[kind], Step { decided: Some(mark), ..step(0) });
@@ -1266,7 +1593,7 @@ mod tests {
     #[test]
     fn no_other_answer_may_come() {
         let mut counts = Counts::default();
-        for (call, answer) in calls().iter().zip([13, 14, 15, 8, u32::MAX, 12, 6, 3, 2]) {
+        for (call, answer) in calls().iter().zip([13, 14, 15, 8, u32::MAX, 12, 6, 3, 2, 5]) {
             counts.add(call, step(answer));
         }
         let others = [
@@ -1279,6 +1606,7 @@ mod tests {
             "chart 6",
             "choice 3",
             "move 2",
+            "round 5",
         ];
         assert_eq!(counts.impossible(), others);
     }

@@ -3,6 +3,7 @@
 use crate::call::Call;
 use crate::ledger::Ledger;
 use crate::trial::{Case, Failure};
+use reference::round::{Order, ORDER};
 use reference::{rows, Sheet, Table, MAX_FILE, MAX_FILES, MAX_ROWS};
 
 /// Tries shorter cases as long as one of them fails.
@@ -127,9 +128,7 @@ fn with_fewer_files(case: &Case, count: usize) -> Option<Case> {
     fewer.table = vec![0; Table::length(*capacity as usize, *file_len as usize, count)];
     fewer.ledger = Ledger::default();
     for call in &mut fewer.calls {
-        if let Some(file) = call.file().filter(|&file| file <= before) {
-            call.rename_file(file.min(count as u64));
-        }
+        call.rename_files(|file| if file <= before { file.min(count as u64) } else { file });
     }
     Some(fewer)
 }
@@ -231,7 +230,47 @@ fn plainer(call: &Call) -> Vec<Call> {
             let with = |answering| Call::Check { coordinator: *coordinator, answering, sheet: sheet.clone() };
             fewer(*answering).map(with).chain(with_open_sheet(call)).collect()
         }
+        Call::Round { answering, orders, sheet } => {
+            let with = |answering, orders| Call::Round { answering, orders, sheet: sheet.clone() };
+            let shorter =
+                fewer_orders(orders).chain(plainer_orders(orders)).map(|orders| with(*answering, orders));
+            let sets = fewer(*answering).map(|set| with(set, orders.clone()));
+            shorter.chain(sets).chain(with_open_sheet(call)).collect()
+        }
     }
+}
+
+/// The list without each stretch of orders, long stretches first, and without the bytes left over.
+fn fewer_orders(orders: &[u8]) -> impl Iterator<Item = Vec<u8>> + '_ {
+    let count = orders.len() / ORDER;
+    let halves =
+        std::iter::successors(Some(count), |stretch| Some(stretch / 2)).take_while(|&stretch| stretch > 0);
+    let stretches = halves.flat_map(move |stretch| {
+        (0..=count - stretch).step_by(stretch).map(move |start| ORDER * start..ORDER * (start + stretch))
+    });
+    let without =
+        move |stretch: std::ops::Range<usize>| [&orders[..stretch.start], &orders[stretch.end..]].concat();
+    let over = (orders.len() > ORDER * count).then(|| orders[..ORDER * count].to_vec());
+    stretches.map(without).chain(over)
+}
+
+/// The list with each order in turn made plainer: zeros where nobody reads, one byte, the first one, of the first file, for club 1.
+fn plainer_orders(orders: &[u8]) -> impl Iterator<Item = Vec<u8>> + '_ {
+    let whole = orders.as_chunks::<ORDER>().0;
+    whole.iter().enumerate().flat_map(move |(place, bytes)| {
+        let order = Order::read(bytes);
+        let mut patch = [0; 8];
+        patch[..order.written().len()].copy_from_slice(order.written());
+        let read = Order { patch, ..order };
+        let plainer =
+            [read, Order { length: 1, ..read }, Order { offset: 0, ..read }, Order { file: 1, ..read }];
+        let plainer = plainer.into_iter().chain([Order { club: 1, ..read }]);
+        plainer.map(|order| order.bytes()).filter(move |plain| plain != bytes).map(move |plain| {
+            let mut list = orders.to_vec();
+            list[ORDER * place..ORDER * (place + 1)].copy_from_slice(&plain);
+            list
+        })
+    })
 }
 
 /// The call with the sheet that turns nobody down, if it has another.

@@ -522,11 +522,11 @@ pub fn twin_of_another_county(
     })
 }
 
-/// The same table with other bytes in every part of every other file; header and heads stay.
-pub fn twin_within_others(random: &mut Random, bytes: &[u8], table: &Table, file: Option<usize>) -> Vec<u8> {
+/// The same table with other bytes in every part of every file but these (bit q - 1 for file q); header and heads stay.
+pub fn twin_within_others(random: &mut Random, bytes: &[u8], table: &Table, files: u64) -> Vec<u8> {
     let mut twin = bytes.to_vec();
     for row in 1..=table.used {
-        let others = (1..=table.files).filter(|&other| Some(other) != file);
+        let others = (1..=table.files).filter(|&other| !rows::has(files, other));
         others.for_each(|other| put_any_part(random, table, &mut twin, row, other));
     }
     twin
@@ -553,16 +553,16 @@ mod tests {
             let table = Table::decode(&bytes).expect("well formed");
             let answering = random.next();
             assert!(Table::decode(&twin(&mut random, &bytes, &table, answering)).is_some());
-            let file = random.pick(&[None, Some(1), Some(table.files)]);
-            let twin = twin_within_others(&mut random, &bytes, &table, file);
+            let files = random.pick(&[0, rows::only(1), rows::only(table.files), u64::MAX]);
+            let twin = twin_within_others(&mut random, &bytes, &table, files);
             assert!(Table::decode(&twin).is_some());
-            // What stays: header, heads, unused rows and the parts of the file.
+            // What stays: header, heads, unused rows and the parts of the files.
             let head = |bytes: &[u8], row| bytes[table.row_at(row)..table.part_at(row, 1)].to_vec();
             assert!((1..=table.used).all(|row| head(&twin, row) == head(&bytes, row)));
             let part = |bytes: &[u8], row, file| {
                 bytes[table.part_at(row, file)..table.part_at(row, file + 1)].to_vec()
             };
-            if let Some(file) = file {
+            for file in (1..=table.files).filter(|&file| rows::has(files, file)) {
                 assert!((1..=table.used).all(|row| part(&twin, row, file) == part(&bytes, row, file)));
             }
         }

@@ -1,15 +1,17 @@
 //! One case, call by call: archive against reference, against the book, and against itself.
 
 use crate::archive::Archive;
-use crate::call::{result_shown, set_shown, Answer, Call};
+use crate::call::{result_shown, set_shown, whole_orders, Answer, Call};
 use crate::guard::Edge;
 use crate::ledger::Ledger;
 use crate::random::Random;
 use crate::relay::{Relay, Slip};
-use crate::report::{choice_told, Added, Checked, Ground, Judged, Moved, Sent, Step, OTHERWISE};
+use crate::report::{choice_told, Added, Checked, Ground, Judged, Moved, Round, Sent, Step, OTHERWISE};
+use crate::rounds;
 use crate::sheets;
 use crate::tables::{self, Picture};
 use crate::wrapper;
+use reference::round::{MOST_ORDERS, ORDER};
 use reference::sheet;
 use reference::{lay_in_chain_order, rows, Counties, Engine, Grid, Laid, Layout, Part, Quorum, Rules};
 use reference::{Shape, Sheet, Table, COUNTY, FORM, HEADER, SEVERAL, TALL};
@@ -147,6 +149,7 @@ impl<'a> Trial<'a> {
             step.moved_county = self.ask_twin_of_another_county(call, &answer, &before, table)?;
             step.other_sheet = self.ask_with_another_sheet(call, &answer, &before)?;
         }
+        step.round = self.ask_round(call, &answer, &before, judged.as_ref())?;
         self.ledger.hear(call, &answer)?;
         step.summed = self.ledger.summed().filter(|_| call.sheet().is_some());
         step.relayed = self.relay.is_some();
@@ -162,6 +165,63 @@ impl<'a> Trial<'a> {
         }
         step.sends = self.look(&before)?;
         Ok(step)
+    }
+
+    /// Compares a round with the writes that it stands for, and with a round that differs only where nobody reads.
+    fn ask_round(
+        &mut self,
+        call: &Call,
+        answer: &Answer,
+        before: &[u8],
+        table: Option<&Picture>,
+    ) -> Result<Option<Round>, String> {
+        let Call::Round { answering, orders, sheet } = call else { return Ok(None) };
+        self.ask_singly(call, answer, before)?;
+        let used = table.map(|table| table.all_used());
+        let mut random = Random::new(*answering, answer.result ^ orders.len() as u64);
+        let unread = rounds::unread(&mut random, orders, answer.result, used, *answering);
+        let other = Call::Round { answering: *answering, orders: unread.clone(), sheet: sheet.clone() };
+        let mut left = before.to_vec();
+        if self.archive.call(&mut left, &other)? != *answer || left != self.table {
+            return Err(format!("bytes that nobody reads alter the round: {other}"));
+        }
+        let wrapped = !is_long(before) && wrapper::round(call, answer, before, &self.table)?;
+        let (founded, files) = (self.ledger.is_open(), table.map(|table| table.files));
+        Ok(Some(Round { founded, wrapped, ..Round::of(call, answer.result, files) }))
+    }
+
+    /// Table and sheet after a round, its refusal and the number done are those of its writes, made singly up to the first refusal: by the
+    /// archive, and each of these by the reference too. A 65th order comes after 64 that were done.
+    fn ask_singly(&mut self, call: &Call, answer: &Answer, before: &[u8]) -> Result<(), String> {
+        let (Call::Round { orders, sheet, .. }, Some(writes)) = (call, call.writes()) else { return Ok(()) };
+        let writes: Vec<Call> = writes.collect();
+        if writes.is_empty() {
+            return Ok(());
+        }
+        let (mut left, mut counted, mut done, mut refusal) = (before.to_vec(), sheet.clone(), 0, 0);
+        for mut write in writes {
+            write.lend(&counted);
+            let (mut expected_left, given) = (left.clone(), self.archive.call(&mut left, &write)?);
+            let expected = write.refer(self.reference, &mut expected_left);
+            compare(&given, &left, &expected, &expected_left)
+                .map_err(|what| format!("of a round, write {} made singly: {what}", done + 1))?;
+            counted = given.sheet;
+            refusal = given.result >> 32;
+            if refusal != 0 {
+                break;
+            }
+            done += 1;
+        }
+        if refusal == 0 && orders.len() > ORDER * MOST_ORDERS as usize {
+            refusal = 4;
+        }
+        let singly = refusal << 32 | done;
+        if answer.result != singly {
+            let [round, singly] = [answer.result, singly].map(result_shown);
+            return Err(format!("a round: {round}, but its writes singly: {singly}"));
+        }
+        same_bytes("table of a round and of its writes singly,", &self.table, &left)?;
+        same_bytes("sheet of a round and of its writes singly,", &answer.sheet, &counted)
     }
 
     /// Looks through the wrapper at the table, if it is the first one or a call altered it: at every small table, and at one in
@@ -285,6 +345,7 @@ impl<'a> Trial<'a> {
             Call::Found { .. } | Call::Chart { .. } | Call::Move { .. } => return Ok(None),
             Call::Check { .. } | Call::Join { .. } => (1..=table.files).collect(),
             Call::Choice { .. } => vec![table.files],
+            // Of a round whose orders name several files, none is alone.
             _ => match call.file().and_then(|file| table.file(file)) {
                 Some(file) => vec![file],
                 None => return Ok(None),
@@ -293,7 +354,7 @@ impl<'a> Trial<'a> {
         let rules = if table.several(table.all_used()) { Rules::Newest } else { Rules::OneFile };
         let engine = Engine { rules, ..self.reference };
         let mut of_one_file = call.clone();
-        of_one_file.rename_file(1);
+        of_one_file.rename_files(|_| 1);
         let left = Table::decode(&self.table);
         let mut refused_by_7 = false;
         for file in files {
@@ -438,7 +499,7 @@ impl<'a> Trial<'a> {
         Ok(true)
     }
 
-    /// Other files have no part in a read, write or send: another group that differs only within them gives the same, and keeps
+    /// Other files have no part in a read, write, send or round: another group that differs only within them gives the same, and keeps
     /// its own parts of them. Gives the number of files, if there is such a group.
     fn ask_twin_within_others(
         &mut self,
@@ -447,15 +508,15 @@ impl<'a> Trial<'a> {
         before: &[u8],
         table: &Picture,
     ) -> Result<Option<usize>, String> {
-        let Some(number) = call.file() else { return Ok(None) };
-        let file = table.file(number);
-        if is_long(before) || file.is_some() && table.files == 1 {
+        let Some(named) = call.files(table.files) else { return Ok(None) };
+        let files = (1..=table.files).filter(|&file| rows::has(named, file));
+        if is_long(before) || files.clone().count() == table.files {
             return Ok(None);
         }
-        let mut random = Random::new(number, answer.result ^ before.len() as u64);
-        let mut twin = tables::twin_within_others(&mut random, before, table, file);
+        let mut random = Random::new(named, answer.result ^ before.len() as u64);
+        let mut twin = tables::twin_within_others(&mut random, before, table, named);
         let mut expected = twin.clone();
-        for (row, file) in (1..=table.used).filter_map(|row| Some((row, file?))) {
+        for (row, file) in (1..=table.used).flat_map(|row| files.clone().map(move |file| (row, file))) {
             let part = table.part_at(row, file)..table.part_at(row, file + 1);
             expected[part.clone()].copy_from_slice(&self.table[part]);
         }
@@ -612,8 +673,8 @@ fn difference(one: &[u8], other: &[u8]) -> Option<usize> {
     one.iter().zip(other).position(|(one, other)| one != other)
 }
 
-/// A refused call has value 0 and alters nothing but the number called; a done one, founding and joining aside, alters only rows that
-/// answered, and a write or send of these only the parts of its file.
+/// A refused call has value 0 and alters nothing but the number called, a round aside; a done one, founding and joining aside, alters only
+/// rows that answered, and a write or send of these only the parts of its file.
 fn frame(
     call: &Call,
     answer: &Answer,
@@ -621,7 +682,9 @@ fn frame(
     before: &[u8],
     after: &[u8],
 ) -> Result<(), String> {
-    if answer.result >> 32 != 0 {
+    if let Call::Round { answering, orders, .. } = call {
+        return round_frame(*answering, orders, answer.result, table, before, after);
+    } else if answer.result >> 32 != 0 {
         let lent_kept = call.lent().is_none_or(|lent| lent == answer.buffer);
         if before != after || !lent_kept || answer.result as u32 != 0 {
             return Err(format!("refused with {}, and something altered", result_shown(answer.result)));
@@ -656,6 +719,42 @@ fn frame(
         }
     }
     Ok(())
+}
+
+/// A round, done or refused, has as its value how many of its orders were done, at most 64: all of them if it was done, none of a list
+/// that ends inside an order. It alters only rows that answered, and of these only the parts of files that its done orders name.
+fn round_frame(
+    answering: u64,
+    orders: &[u8],
+    result: u64,
+    table: Option<&Picture>,
+    before: &[u8],
+    after: &[u8],
+) -> Result<(), String> {
+    let (refusal, done) = (result >> 32, result as u32 as usize);
+    let (count, is_whole) = (orders.len() / ORDER, orders.len().is_multiple_of(ORDER));
+    let most = if is_whole { count.min(MOST_ORDERS as usize) } else { 0 };
+    if done > most || refusal == 0 && (done != count || !is_whole) {
+        return Err(format!("a round of {} bytes: {}", orders.len(), result_shown(result)));
+    }
+    if before == after {
+        return if done == 0 { Ok(()) } else { Err(format!("{done} orders were done, and nothing altered")) };
+    }
+    let table = table.ok_or("a malformed table altered")?;
+    let mut expected = before.to_vec();
+    for order in whole_orders(orders).take(done) {
+        let file = table.file(order.file.into()).ok_or("an order of no file was done")?;
+        for row in rows::members(answering) {
+            let place = table.part_at(row, file)..table.part_at(row, file + 1);
+            expected[place.clone()].copy_from_slice(&after[place]);
+        }
+    }
+    match difference(&expected, after) {
+        Some(at) => {
+            Err(format!("byte {at} altered, in no row that answered or not of a file of done orders"))
+        }
+        None => Ok(()),
+    }
 }
 
 /// A done send leaves the receiver unmarked with the sender's version and window, and its contents as they were but for the
@@ -782,18 +881,24 @@ fn called_frame(call: &Call, answer: &Answer, table: Option<&Picture>) -> Result
     }
 }
 
-/// A done write adds one to the count of its club; a check that changes the table sets all counts to 0; every other byte of a sheet
-/// stays, and a refused call leaves it as it was. It is right after a done call.
+/// A done write adds one to the count of its club, and so does each done order of a round; a check that changes the table sets all counts
+/// to 0; every other byte of a sheet stays, and any other refused call leaves it as it was. It is right after a done call.
 fn sheet_frame(call: &Call, answer: &Answer, changed: bool) -> Result<(), String> {
     let Some(lent) = call.sheet() else { return same_bytes("sheet", &answer.sheet, &[]) };
     let mut expected = lent.to_vec();
-    if answer.result >> 32 == 0 {
+    let orders = if let Call::Round { .. } = call { answer.result as u32 as usize } else { 0 };
+    if answer.result >> 32 == 0 || orders > 0 {
         let mut sheet = Sheet::judge(lent).ok_or("a call with a wrong sheet was done")?;
+        let mut count = |club: u64| {
+            sheet.line(club).ok_or("a write of no club was done")?;
+            sheet.lines[club as usize - 1].count += 1;
+            Ok::<(), &str>(())
+        };
         match call {
-            Call::Write { club, .. } if sheet.line(*club).is_some() => {
-                sheet.lines[*club as usize - 1].count += 1;
+            Call::Write { club, .. } => count(*club)?,
+            Call::Round { orders: list, .. } => {
+                whole_orders(list).take(orders).try_for_each(|order| count(order.club.into()))?;
             }
-            Call::Write { .. } => return Err("a write of no club was done".into()),
             _ if changed => sheet.lines.iter_mut().for_each(|line| line.count = 0),
             _ => {}
         }
@@ -888,6 +993,7 @@ fn joining_frame(name: u16, county: u64, value: u64, before: &[u8], after: &[u8]
 mod tests {
     use super::*;
     use crate::tables::{self, Size};
+    use reference::round::Order;
 
     /// Every byte counts: with another value in any one of them the joining is found out.
     #[test]
@@ -1193,6 +1299,75 @@ mod tests {
         let refused = Some(Checked::NotCurrent { only: Some(2), files: 3 });
         assert_eq!(asked(&two, 7 << 32, &before, &before), (Ok(Some(3)), refused));
         assert!(asked(&two, 2, &before, &before).0.is_err(), "the second file is not");
+    }
+
+    /// Orders that a list of bytes begins with, and a sheet.
+    fn round_of(orders: &[Order], over: usize, sheet: &Sheet) -> Call {
+        let mut orders: Vec<u8> = orders.iter().flat_map(Order::bytes).collect();
+        orders.resize(orders.len() + over, 0);
+        Call::Round { answering: 0b0111, orders, sheet: sheet.bytes().to_vec() }
+    }
+
+    const ONE: Order = Order { coordinator: 1, length: 1, offset: 0, patch: [9; 8], file: 1, club: 5 };
+
+    /// Rows that answered may alter in the files of done orders, refused or not; nothing else may, nor may the number done be another.
+    #[test]
+    fn a_wrong_round_is_found_out() {
+        let (mut archive, before) = (Archive::new(), group());
+        let table = Picture::of(&before).expect("well formed");
+        let [third, nobody] = [Order { file: 3, ..ONE }, Order { coordinator: 9, ..ONE }];
+        for (orders, refusal, done) in [(&[ONE, third][..], 0, 2), (&[ONE, third, nobody, ONE], 2, 2)] {
+            let call = round_of(orders, 0, &Sheet::OPEN);
+            let mut after = before.clone();
+            let answer = call.refer(Engine::default(), &mut after);
+            assert_eq!(answer.result, refusal << 32 | done);
+            let kept =
+                |answer: &Answer, after: &[u8]| frame(&call, answer, Some(&table), &before, after).is_ok();
+            assert!(kept(&answer, &after) && !kept(&answer, &before));
+            for at in 0..after.len() {
+                let of_done = |row| [1, 3].into_iter().any(|file| part_of(&table, row, file).contains(&at));
+                let mut altered = after.clone();
+                altered[at] ^= 1;
+                assert_eq!(kept(&answer, &altered), (1..=3).any(of_done), "byte {at}");
+            }
+            let mut asked = |answer: &Answer, after: &[u8]| {
+                let mut trial =
+                    Trial::resume(&mut archive, Engine::default(), after.to_vec(), Ledger::default());
+                trial.ask_round(&call, answer, &before, Some(&table)).is_ok()
+            };
+            assert!(asked(&answer, &after));
+            for result in [answer.result ^ 1, answer.result ^ 1 << 32, 0] {
+                let wrong = Answer { result, ..answer.clone() };
+                assert!(!asked(&wrong, &after), "{}", result_shown(result));
+            }
+            for at in [8, 5 * sheet::LINE - 4, 195] {
+                let mut wrong = answer.clone();
+                wrong.sheet[at] ^= 1;
+                assert!(!asked(&wrong, &after) && sheet_frame(&call, &wrong, true).is_err(), "byte {at}");
+            }
+            let mut altered = after.clone();
+            altered[table.contents_at(1, 1)] ^= 1;
+            assert!(!asked(&answer, &altered) && sheet_frame(&call, &answer, true).is_ok());
+        }
+        // None of a list that ends inside an order, nor more than 64 or than it has; all of it if it was done.
+        let told = |call: &Call, result, after: &[u8]| {
+            frame(call, &Answer { result, ..Answer::default() }, Some(&table), &before, after).is_ok()
+        };
+        let mut after = before.clone();
+        round_of(&[ONE; 70], 0, &Sheet::OPEN).refer(Engine::default(), &mut after);
+        let seventy = round_of(&[ONE; 70], 0, &Sheet::OPEN);
+        assert!(told(&seventy, 4 << 32 | 64, &after));
+        assert!(![4 << 32 | 65, 64, 65, 70].into_iter().any(|result| told(&seventy, result, &after)));
+        let broken = round_of(&[ONE; 2], 3, &Sheet::OPEN);
+        assert!(told(&broken, 4 << 32, &before) && !told(&broken, 4 << 32, &after));
+        assert!(![4 << 32 | 1, 0, 2].into_iter().any(|result| told(&broken, result, &after)));
+        let empty = round_of(&[], 0, &Sheet::OPEN);
+        assert!(told(&empty, 0, &before) && told(&empty, 2 << 32, &before));
+        assert!(!told(&empty, 0, &after) && !told(&empty, 2 << 32 | 1, &before));
+    }
+
+    fn part_of(table: &Table, row: usize, file: usize) -> std::ops::Range<usize> {
+        table.part_at(row, file)..table.part_at(row, file + 1)
     }
 
     /// Every byte of a sheet counts after a write and after a check, done or refused.

@@ -1,9 +1,10 @@
 //! What the wrapper tells of a table, against the reference: its rows with their copies of each file and the windows on them, and
-//! the sends that would be done; and the moves that it makes.
+//! the sends that would be done; and the moves and rounds that it makes.
 
-use crate::call::Answer;
+use crate::call::{result_shown, whole_orders, Answer, Call};
 use crate::tables::Picture;
-use dyngrid::{Form3Table, OlderForm, Table};
+use dyngrid::{Form3Table, OlderForm, Order, Rows, Stopped, Table};
+use reference::round::ORDER;
 use reference::{window, Engine, Sheet};
 
 /// Looks at a table, which is judged by the reference; gives how many sends would be done, or says how the wrapper differs. None
@@ -118,6 +119,31 @@ pub fn carry(bytes: &[u8], form: u64, answer: &Answer) -> Result<(), String> {
     }
 }
 
+/// Enters a round through the wrapper, if its table, sheet and orders are such as that takes; it must give what the archive gave, and
+/// leave table and sheet as that did. Says whether it took them.
+pub fn round(call: &Call, answer: &Answer, before: &[u8], after: &[u8]) -> Result<bool, String> {
+    let Call::Round { answering, orders, sheet } = call else { return Ok(false) };
+    let ordered = whole_orders(orders).map(|order| {
+        let told = Order::new(order.coordinator.into(), order.offset.into(), order.written()).ok()?;
+        Some(told.in_file(order.file.into()).by_club(order.club.into()))
+    });
+    let ordered = ordered.collect::<Option<Vec<Order>>>().filter(|_| orders.len().is_multiple_of(ORDER));
+    let table = Table::from_bytes(before.to_vec()).ok();
+    let (Some(ordered), Some(mut table), Ok(mut sheet)) = (ordered, table, dyngrid::Sheet::from_bytes(sheet))
+    else {
+        return Ok(false);
+    };
+    let told = match table.round_with(&mut sheet, Rows::from_bits(*answering), &ordered) {
+        Ok(done) => done as u64,
+        Err(Stopped { done, refusal }) => u64::from(refusal.number()) << 32 | done as u64,
+    };
+    if told == answer.result && table.as_bytes() == after && sheet.as_bytes() == answer.sheet {
+        Ok(true)
+    } else {
+        Err(format!("a round by the wrapper: {}", result_shown(told)))
+    }
+}
+
 #[cfg(test)]
 mod tests {
     use super::*;
@@ -196,6 +222,43 @@ mod tests {
             }
         }
         assert!(drawn_so.iter().all(|&count| count > 20), "{drawn_so:?}");
+    }
+
+    /// Another answer, table or sheet than the wrapper's is found out; a list that ends inside an order, or an order of a wrong length, is
+    /// not taken.
+    #[test]
+    fn a_round_by_the_wrapper_is_compared() {
+        let size = Size { used: 4, capacity: 5, file_len: 9, files: 2 };
+        let founding = [4, 0, 5, 0, 6, 0, 9, 0];
+        let mut before = vec![0; reference::Table::length(size.capacity, size.file_len, size.files)];
+        Engine::default().found(&mut before, 5, 9, &founding, 0, 2, &[1; 4]);
+        let one = |coordinator, length| reference::round::Order {
+            coordinator,
+            length,
+            offset: 1,
+            patch: [7; 8],
+            file: 2,
+            club: 3,
+        };
+        let called = |orders: &[reference::round::Order], over| {
+            let mut orders: Vec<u8> = orders.iter().flat_map(|order| order.bytes()).collect();
+            orders.resize(orders.len() + over, 0);
+            Call::Round { answering: 0b1111, orders, sheet: Sheet::OPEN.bytes().to_vec() }
+        };
+        for (orders, refusal) in [(&[one(1, 8)][..], 0), (&[one(1, 1), one(2, 8), one(255, 3)], 2)] {
+            let (call, mut after) = (called(orders, 0), before.clone());
+            let answer = call.refer(Engine::default(), &mut after);
+            assert_eq!((round(&call, &answer, &before, &after), answer.result >> 32), (Ok(true), refusal));
+            let wrong = Answer { result: answer.result ^ 1, ..answer.clone() };
+            assert!(round(&call, &wrong, &before, &after).is_err());
+            let wrong = Answer { sheet: Sheet::OPEN.bytes().to_vec(), ..answer.clone() };
+            assert!(round(&call, &wrong, &before, &after).is_err());
+            assert!(round(&call, &answer, &before, &before).is_err());
+        }
+        for call in [called(&[one(1, 1)], 1), called(&[one(1, 9)], 0), called(&[one(1, 0)], 0)] {
+            let answer = call.refer(Engine::default(), &mut before.clone());
+            assert_eq!((round(&call, &answer, &before, &before), answer.result), (Ok(false), 4 << 32));
+        }
     }
 
     /// Each rule broken: an error that says so, and never a panic.

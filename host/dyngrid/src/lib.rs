@@ -7,7 +7,7 @@
 //! Rows and files have numbers of one type, `usize`, from 1 on. What a row tells is a [`RowView`], and `println!("{table}")` shows
 //! them all; the latest patches of a copy are its [window](File::window). A [`chart()`] needs no table. Tables that an older
 //! library left are no [`Table`], and at most a [`Form3Table`]. Where clubs are to have fair shares of the writes, these are lent a
-//! [`Sheet`].
+//! [`Sheet`]. Up to 64 short writes are entered together by a [round](Table::round).
 //!
 //! ```
 //! use dyngrid::{Rows, Shape, Table};
@@ -36,6 +36,7 @@ mod not_a_table;
 mod notice;
 pub mod raw;
 mod refusal;
+mod round;
 mod rows;
 mod sheet;
 mod table;
@@ -54,6 +55,7 @@ pub use grid::{Grid, Layout};
 pub use not_a_table::NotATable;
 pub use notice::{Call, Notice};
 pub use refusal::Refusal;
+pub use round::{NotAnOrder, Order, Stopped};
 pub use rows::{Rows, RowsIter};
 pub use sheet::{Allowance, ClubView, NotASheet, Sheet};
 pub use table::{Shape, Table};

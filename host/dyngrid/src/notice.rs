@@ -22,7 +22,7 @@ pub enum Call {
     Check = 5,
     /// A joining; its notice shows the name 0.
     Joining = 6,
-    /// A round of writes, which the library does not have yet; its notice shows the coordinator's name.
+    /// A round; its notice shows the name of the coordinator whose order was refused.
     Round = 7,
     /// A move; its notice shows the name 0.
     Move = 8,

@@ -1,7 +1,7 @@
 //! The functions of the archive as `dyngrid.h` declares them.
 //!
 //! A list is a pointer and then its length in bytes. Files are counted from 1. A result is the refusal number times 2^32, plus the
-//! value.
+//! value, which is 0 where a call was refused, but for a round.
 //! The slices of one call must not overlap. Reads, choices and moves of one table may run at the same time, each with its own
 //! buffer or list; while any other call runs on a table, nothing else may touch it.
 //!
@@ -12,7 +12,7 @@ use std::sync::OnceLock;
 
 /// Rises with every signature below that is new or changed, as in the archive, and with nothing else: a table tells its form
 /// itself.
-pub const INTERFACE: u64 = 10;
+pub const INTERFACE: u64 = 11;
 
 /// The choices of a founding: a wide table, or a tall one.
 pub const WIDE: u64 = 0;
@@ -91,6 +91,18 @@ extern "C" {
         club: u64,
     ) -> u64;
 
+    /// Makes the writes of a list of up to 64 orders of 16 bytes, in their order, up to the first that is refused; each counts for its
+    /// club. Value, of a refused round too: how many are done.
+    pub fn grid_round(
+        table: *mut u8,
+        table_len: usize,
+        answering: u64,
+        orders: *const u8,
+        orders_len: usize,
+        sheet: *mut u8,
+        sheet_len: usize,
+    ) -> u64;
+
     /// Brings the stale copy of a file in row `to` up to the state of that in row `from`. Value: the version it then has.
     pub fn grid_send(table: *mut u8, table_len: usize, from: u64, to: u64, answering: u64, file: u64) -> u64;
 
@@ -141,9 +153,9 @@ mod tests {
 
     #[test]
     #[should_panic(
-        expected = "has interface 11, and this wrapper needs 10: build archive and wrapper from one checkout"
+        expected = "has interface 12, and this wrapper needs 11: build archive and wrapper from one checkout"
     )]
     fn another_archive_is_refused() {
-        agree(11);
+        agree(12);
     }
 }

@@ -2,7 +2,8 @@ use crate::{Call, Notice};
 use std::error::Error;
 use std::fmt;
 
-/// Why a call was refused. A refused call alters nothing of its table or its buffer.
+/// Why a call was refused. A refused call alters nothing of its table or its buffer; of a [round](crate::Table::round) the orders before
+/// the refused one are done.
 ///
 /// Later versions of the library refuse for more reasons, so a `match` needs an arm for all others.
 #[derive(Clone, Copy, Debug, PartialEq, Eq, Hash)]
@@ -14,8 +15,8 @@ pub enum Refusal {
     NoSuchRow,
     /// 3: the coordinator, or an end of a send, did not answer.
     NotAnswering,
-    /// 4: the range is empty or ends beyond the file; in C also a choice that is neither a read's nor a write's, and
-    /// a notice of a call that there is not.
+    /// 4: the range is empty or ends beyond the file, or a round has a 65th order; in C also an order of a wrong length, a choice
+    /// that is neither a read's nor a write's, and a notice of a call that there is not.
     OutOfRange,
     /// 5: the buffer is not exactly as long as the range, the list for the number called not one byte, a choice's list not
     /// eight, a chart's shorter than 128, or a notice's buffer not 160. From this wrapper it never comes.

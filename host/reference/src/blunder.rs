@@ -168,10 +168,34 @@ pub enum Blunder {
     SheetOfChangesOnly,
     /// A longer sheet is taken for its first 196 bytes.
     LongSheet,
+    /// A 65th order of a round is done, too.
+    SixtyFifthDone,
+    /// A refused round has value 0.
+    RefusedRoundsTellNone,
+    /// Of a list that ends inside an order the whole ones are done.
+    BrokenListBegun,
+    /// A list that ends inside an order is refused before anything is asked.
+    BrokenListFirst,
+    /// An order of more than eight bytes is taken for one of eight.
+    NineAsEight,
+    /// An order's length is looked at before its other questions are put.
+    OrdersLengthFirst,
+    /// All orders of a round go to the file of the first.
+    FirstOrdersFile,
+    /// All orders of a round count for the club of the first.
+    FirstOrdersClub,
+    /// A round without orders does not look at the sheet.
+    EmptyRoundsSheet,
+    /// A round goes on after an order that was refused.
+    RoundGoesOn,
+    /// A refused round undoes what was done before.
+    RoundUndone,
+    /// A round counts its orders when all are done: each is judged by the sheet as it was lent.
+    CountedAtTheEnd,
 }
 
 impl Blunder {
-    pub const ALL: [Blunder; 79] = [
+    pub const ALL: [Blunder; 91] = [
         Blunder::OutsidersCount,
         Blunder::ShortColumnWhole,
         Blunder::DesiredIgnored,
@@ -251,6 +275,18 @@ impl Blunder {
         Blunder::SheetAfterRows,
         Blunder::SheetOfChangesOnly,
         Blunder::LongSheet,
+        Blunder::SixtyFifthDone,
+        Blunder::RefusedRoundsTellNone,
+        Blunder::BrokenListBegun,
+        Blunder::BrokenListFirst,
+        Blunder::NineAsEight,
+        Blunder::OrdersLengthFirst,
+        Blunder::FirstOrdersFile,
+        Blunder::FirstOrdersClub,
+        Blunder::EmptyRoundsSheet,
+        Blunder::RoundGoesOn,
+        Blunder::RoundUndone,
+        Blunder::CountedAtTheEnd,
     ];
 
     /// Its name on a command line.
@@ -335,6 +371,18 @@ impl Blunder {
             Blunder::SheetAfterRows => "sheet-after-rows",
             Blunder::SheetOfChangesOnly => "sheet-of-changes-only",
             Blunder::LongSheet => "long-sheet",
+            Blunder::SixtyFifthDone => "sixty-fifth-done",
+            Blunder::RefusedRoundsTellNone => "refused-rounds-tell-none",
+            Blunder::BrokenListBegun => "broken-list-begun",
+            Blunder::BrokenListFirst => "broken-list-first",
+            Blunder::NineAsEight => "nine-as-eight",
+            Blunder::OrdersLengthFirst => "orders-length-first",
+            Blunder::FirstOrdersFile => "first-orders-file",
+            Blunder::FirstOrdersClub => "first-orders-club",
+            Blunder::EmptyRoundsSheet => "empty-rounds-sheet",
+            Blunder::RoundGoesOn => "round-goes-on",
+            Blunder::RoundUndone => "round-undone",
+            Blunder::CountedAtTheEnd => "counted-at-the-end",
         }
     }
 

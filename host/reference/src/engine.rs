@@ -3,6 +3,7 @@
 use crate::blunder::{self, Blunder};
 use crate::chart::{Chart, CHART_PLACES, LONGEST_CHARTED};
 use crate::county::is_county;
+use crate::round::{self, MOST_ORDERS, ORDER};
 use crate::rows::{self, Order};
 use crate::sheet::{self, Sheet, CLUBS};
 use crate::window;
@@ -129,9 +130,26 @@ impl Engine {
     ) -> u64 {
         let mut lent = Called { length: called.len(), size: 0 };
         let asked = Asked { coordinator, answering, file };
-        let answer = self.try_write(bytes, asked, offset, patch, &mut lent, Share { sheet, club });
+        let answer = self.judge(bytes).and_then(|table| {
+            self.try_write(&table, bytes, asked, offset, patch, &mut lent, Share { sheet, club })
+        });
         self.note(called, lent.size, answer);
         result(answer)
+    }
+
+    /// A list of orders, of 16 bytes each. A refusal leaves what was done before it, and has their number as its value.
+    pub fn round(&self, bytes: &mut [u8], answering: u64, orders: &[u8], sheet: &mut [u8]) -> u64 {
+        let undone = self.makes(Blunder::RoundUndone).then(|| (bytes.to_vec(), sheet.to_vec()));
+        let mut done = 0;
+        let Err(refusal) = self.try_round(bytes, answering, orders, sheet, &mut done) else {
+            return done.into();
+        };
+        if let Some((before, lent)) = undone {
+            bytes.copy_from_slice(&before);
+            sheet.copy_from_slice(&lent);
+        }
+        let value = if self.makes(Blunder::RefusedRoundsTellNone) { 0 } else { done };
+        u64::from(refusal) << 32 | u64::from(value)
     }
 
     pub fn send(&self, bytes: &mut [u8], from: u64, to: u64, answering: u64, file: u64) -> u64 {
@@ -239,7 +257,8 @@ impl Engine {
         buffer: &mut [u8],
         called: &mut Called,
     ) -> Answer {
-        let (table, file) = self.admit(bytes, asked, offset, length)?;
+        let table = self.judge(bytes)?;
+        let file = self.admit(&table, asked, offset, length)?;
         ask(5, buffer.len() as u64 == length && called.length == 1)?;
         let (_, poll) = self.settle(&table, bytes, asked, file, Quorum::Read, called)?;
         // The set is current, so there is a good row.
@@ -253,8 +272,10 @@ impl Engine {
         Ok(poll.version)
     }
 
+    /// On a table that is well formed, and so remains.
     fn try_write(
         &self,
+        table: &Table,
         bytes: &mut [u8],
         asked: Asked,
         offset: u64,
@@ -271,16 +292,16 @@ impl Engine {
         ask(1, judged.is_some() || self.makes(Blunder::SheetAfterRows))?;
         if self.makes(Blunder::CalledLengthFirst) {
             // The first byte is a range that fits.
-            self.admit(bytes, asked, 0, 1)?;
+            self.admit(table, asked, 0, 1)?;
             ask(5, called.length == 1)?;
         }
-        let (table, file) = self.admit(bytes, asked, offset, patch.len() as u64)?;
+        let file = self.admit(table, asked, offset, patch.len() as u64)?;
         let judged = judged.ok_or(1_u32)?;
         ask(5, called.length == 1)?;
         if self.makes(Blunder::ClubBeforeQuorum) {
             ask(18, judged.line(club).is_some())?;
         }
-        let (set, poll) = self.settle(&table, bytes, asked, file, Quorum::Write, called)?;
+        let (set, poll) = self.settle(table, bytes, asked, file, Quorum::Write, called)?;
         if self.makes(Blunder::LimitBeforeClub) {
             ask(8, poll.version < LIMIT)?;
         }
@@ -301,7 +322,7 @@ impl Engine {
                     let contents = table.contents_mut(bytes, row, file);
                     contents[offset as usize..][..patch.len()].copy_from_slice(patch);
                     part.oldest =
-                        self.add_patch(&table, bytes, row, file, part.oldest, offset as usize, patch);
+                        self.add_patch(table, bytes, row, file, part.oldest, offset as usize, patch);
                 }
             } else {
                 part.mark(desired);
@@ -312,6 +333,74 @@ impl Engine {
             sheet::add(sheet, if self.makes(Blunder::ClubOfAByte) { club & 0xff } else { club });
         }
         Ok(version)
+    }
+
+    /// Makes the writes of a round one after the other, and counts those done; the first refusal ends it. A list that has no order, or
+    /// ends inside one, is asked about table, sheet and rows alone. A write leaves header, names, links and counties, and a well-formed
+    /// table, so that this is judged once.
+    fn try_round(
+        &self,
+        bytes: &mut [u8],
+        answering: u64,
+        orders: &[u8],
+        sheet: &mut [u8],
+        done: &mut u32,
+    ) -> Result<(), u32> {
+        let (whole, rest) = orders.as_chunks::<ORDER>();
+        let ends = || ask(4, rest.is_empty());
+        if self.makes(Blunder::BrokenListFirst) {
+            ends()?;
+        }
+        let table = self.judge(bytes)?;
+        let begun = rest.is_empty() || self.makes(Blunder::BrokenListBegun);
+        let Some(first) = whole.first().map(round::Order::read).filter(|_| begun) else {
+            ask(1, self.judge_sheet(sheet).is_some() || self.makes(Blunder::EmptyRoundsSheet))?;
+            ask(2, only_used(&table, answering))?;
+            return ends();
+        };
+        let most = if self.makes(Blunder::SixtyFifthDone) { MOST_ORDERS + 1 } else { MOST_ORDERS };
+        let lent = self.makes(Blunder::CountedAtTheEnd).then(|| sheet.to_vec());
+        let mut answer = Ok(());
+        for order in whole.iter().map(round::Order::read) {
+            let order = match self.blunder {
+                Some(Blunder::FirstOrdersFile) => round::Order { file: first.file, ..order },
+                Some(Blunder::FirstOrdersClub) => round::Order { club: first.club, ..order },
+                Some(Blunder::NineAsEight) => round::Order { length: order.length.min(8), ..order },
+                _ => order,
+            };
+            let entered = ask(4, *done < most).and_then(|()| match &lent {
+                Some(lent) => self.enter(&table, bytes, answering, &order, &mut lent.clone()),
+                None => self.enter(&table, bytes, answering, &order, sheet),
+            });
+            match entered {
+                Ok(_) => *done += 1,
+                Err(refusal) if self.makes(Blunder::RoundGoesOn) => answer = answer.and(Err(refusal)),
+                Err(refusal) => return Err(refusal),
+            }
+            if lent.is_some() {
+                sheet::add(sheet, order.club.into());
+            }
+        }
+        answer.and_then(|()| ends())
+    }
+
+    /// An order is a write; nobody is told how many it called.
+    fn enter(
+        &self,
+        table: &Table,
+        bytes: &mut [u8],
+        answering: u64,
+        order: &round::Order,
+        sheet: &mut [u8],
+    ) -> Answer {
+        if self.makes(Blunder::OrdersLengthFirst) {
+            ask(4, !order.written().is_empty())?;
+        }
+        let (coordinator, file, club) = (order.coordinator.into(), order.file.into(), order.club.into());
+        let asked = Asked { coordinator, answering, file };
+        let mut called = Called { length: 1, size: 0 };
+        let share = Share { sheet, club };
+        self.try_write(table, bytes, asked, order.offset.into(), order.written(), &mut called, share)
     }
 
     /// Question 1, put to a sheet.
@@ -573,17 +662,16 @@ impl Engine {
         judged.ok_or(1)
     }
 
-    /// Questions 1 to 3, 16 and 4 of a read or write; gives the file that it names.
-    fn admit(&self, bytes: &[u8], asked: Asked, offset: u64, length: u64) -> Result<(Table, usize), u32> {
-        let table = self.judge(bytes)?;
-        ask(2, is_used(&table, asked.coordinator) && only_used(&table, asked.answering))?;
+    /// Questions 2, 3, 16 and 4 of a read or write; gives the file that it names.
+    fn admit(&self, table: &Table, asked: Asked, offset: u64, length: u64) -> Result<usize, u32> {
+        ask(2, is_used(table, asked.coordinator) && only_used(table, asked.answering))?;
         ask(3, answers(asked.answering, asked.coordinator))?;
         if self.makes(Blunder::FileAfterRange) {
-            ask(4, range_fits(&table, offset, length))?;
+            ask(4, range_fits(table, offset, length))?;
         }
-        let file = self.in_group(&table, asked.file)?;
-        ask(4, range_fits(&table, offset, length))?;
-        Ok((table, file))
+        let file = self.in_group(table, asked.file)?;
+        ask(4, range_fits(table, offset, length))?;
+        Ok(file)
     }
 
     /// Question 16: gives the file that this number names.

@@ -10,6 +10,7 @@ mod chart;
 mod county;
 mod engine;
 mod grid;
+pub mod round;
 pub mod rows;
 pub mod sheet;
 mod table;

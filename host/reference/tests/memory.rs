@@ -1,5 +1,6 @@
 //! No call takes memory: the benchmark's yardstick must not waste time.
 
+use reference::round::Order;
 use reference::{rows, Engine, Rules, Sheet, Table};
 use std::alloc::{GlobalAlloc, Layout, System};
 use std::cell::Cell;
@@ -55,6 +56,8 @@ fn every_call(choice: u64, files: usize, counties: u8) {
         older
     });
     let last = files as u64;
+    let order = Order { coordinator: 1, length: 8, patch: [3; 8], file: files as u8, club: 1, offset: 0 };
+    let orders = [order.bytes(); 65];
     let before = TAKEN.get();
     let results = [
         engine.found(&mut table, 64, 100, &names, choice, last, &counties),
@@ -106,9 +109,25 @@ fn every_call(choice: u64, files: usize, counties: u8) {
         engine.carry(&[], 3, &mut []),
         engine.carry(&table, 3, &mut up),
         engine.read(&table, 1, all, 0, 100, &mut buffer, &mut called, last + 1),
+        engine.round(&mut table, all, orders[..64].as_flattened(), &mut Sheet::OPEN.bytes()),
+        engine.round(&mut table, all, orders.as_flattened(), &mut Sheet::OPEN.bytes()),
+        engine.round(&mut table, all, &[], &mut Sheet::OPEN.bytes()),
+        engine.round(&mut table, all, &[0; 17], &mut Sheet::OPEN.bytes()),
     ];
     assert_eq!(TAKEN.get(), before);
-    let refused = [(2, 13), (3, 14), (17, 6), (19, 17), (21, 4), (24, 12), (25, 1), (26, 12), (27, 16)];
+    let refused = [
+        (2, 13),
+        (3, 14),
+        (17, 6),
+        (19, 17),
+        (21, 4),
+        (24, 12),
+        (25, 1),
+        (26, 12),
+        (27, 16),
+        (29, 4),
+        (31, 4),
+    ];
     for (call, result) in results.into_iter().enumerate() {
         let number = refused.iter().find(|(refused, _)| *refused == call).map_or(0, |(_, number)| *number);
         assert_eq!(result >> 32, number, "call {call}");
