@@ -2,7 +2,7 @@
 
 use crate::arguments::Arguments;
 use crate::{
-    carry, chart, explain, next, page, replay, sheet, show, train, unusable, weak, whom, Stop, Told,
+    carry, chart, explain, next, page, replay, round, sheet, show, train, unusable, weak, whom, Stop, Told,
 };
 
 pub struct Command {
@@ -63,7 +63,7 @@ const LOOKS: [Command; 9] = [
     Command {
         usage: "replay LOG [FILE]",
         does: "makes the calls of a log, and shows the first answer that differs",
-        text: "A line of a log is a call and, behind =, its answer:\n\n    found 10,20,30,40 length 16 = done 4\n    write 10 with 10,20,30 at 0 \"1-0\" = done 1 called 3\n    read 40 with 30,40 at 0 length 4 = done 1 called 4 \"1-0\".00\n    check 10 with 10,20,40 = done 1\n    send 10 40 with 10,40 = done 1\n    join 25 = refused 14\n\nA founding may name capacity, files, tall and counties behind its length, a joining a county, and reads, writes and sends a file\nbehind those who answered, a write its club behind that. sheet BYTES lends a sheet from then on; counted BYTES says what it is then.\ntable BYTES begins with a table instead; leaves BYTES says what the table is then. Bytes are text in quotes, figures of base\nsixteen, or one byte so many times, with points between them. ?7 is row 7, for rows that no machine has. # begins a comment. An\nanswer that is left out is not compared. With FILE, the table is kept there if nothing differs.",
+        text: "A line of a log is a call and, behind =, its answer:\n\n    found 10,20,30,40 length 16 = done 4\n    write 10 with 10,20,30 at 0 \"1-0\" = done 1 called 3\n    read 40 with 30,40 at 0 length 4 = done 1 called 4 \"1-0\".00\n    check 10 with 10,20,40 = done 1\n    send 10 40 with 10,40 = done 1\n    join 25 = refused 14\n    round with 10,20,40 order 10 at 0 \"1/2\" order 20 at 15 \"1-0\" = refused 4 1\n\nA founding may name capacity, files, tall and counties behind its length, a joining a county, and reads, writes and sends a file\nbehind those who answered, a write its club behind that, an order both behind its machine. Behind the refusal of a round stands how\nmany orders are done. sheet BYTES lends a sheet from then on; counted BYTES says what it is then.\ntable BYTES begins with a table instead; leaves BYTES says what the table is then. Bytes are text in quotes, figures of base\nsixteen, or one byte so many times, with points between them. ?7 is row 7, for rows that no machine has. # begins a comment. An\nanswer that is left out is not compared. With FILE, the table is kept there if nothing differs.",
         options: &[],
         run: replay::replay,
     },
@@ -83,7 +83,7 @@ const LOOKS: [Command; 9] = [
     },
 ];
 
-const CALLS: [Command; 8] = [
+const CALLS: [Command; 9] = [
     Command {
         usage: "found FILE NAMES [--length N] [--capacity N] [--files N] [--tall] [--counties N,..]",
         does: "founds a table on these machines, as in 10,20,30",
@@ -111,6 +111,13 @@ const CALLS: [Command; 8] = [
         text: "From the file's first byte on, unless --at says otherwise. With --hex, TEXT is bytes in figures of base sixteen.\nIt counts for a club on a sheet; without --sheet there are no limits.",
         options: &[("--file", true), ("--at", true), ("--hex", false), ("--sheet", true), ("--club", true)],
         run: train::write,
+    },
+    Command {
+        usage: "round FILE LIST [OFF,..] [--sheet SHEET] [--from LINE] [--hex]",
+        does: "enters the results of a list together, up to the first that is refused",
+        text: "LIST is a file of plain text with up to 64 lines, or - for what is typed or piped in. A line is the machine in charge, the place in the\nfile and 1 to 8 bytes of text:\n\n    # round 3\n    10 at 0 1-0\n    10 at 4 0-1 club 2\n    20 at 0 \"0 47\" file 2\n\nIt is of file 1 and counts for club 1, unless file and club say otherwise. # begins a comment, and a text with spaces stands in\nquotes. With --hex, texts are bytes in figures of base sixteen. A line that cannot be used is told before anything is done.\nWhere an order is refused, those before it are done and stay: --from enters the list from that line on. Without --sheet there\nare no limits.",
+        options: &[("--sheet", true), ("--from", true), ("--hex", false)],
+        run: round::round,
     },
     Command {
         usage: "send FILE FROM TO [OFF,..] [--file N]",
@@ -166,7 +173,7 @@ pub fn overview() -> String {
         commands.iter().map(|command| format!("  {:8} {}\n", command.name(), command.does)).collect()
     };
     format!(
-        "gridctl: looks at a table of the dynamic grid, and makes calls to train on\n\nTo look and to ask (nothing is changed):\n{}\nTo train (FILE is changed, unless the call is refused):\n{}\n{BELOW}",
+        "gridctl: looks at a table of the dynamic grid, and makes calls to train on\n\nTo look and to ask (nothing is changed):\n{}\nTo train (FILE is changed, unless the call is refused; by a round as far as it came):\n{}\n{BELOW}",
         listed(&LOOKS),
         listed(&CALLS)
     )

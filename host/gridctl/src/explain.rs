@@ -24,7 +24,7 @@ fn told_of(refusal: Refusal) -> (Call, &'static str) {
         Refusal::Malformed => (Call::Read, "gridctl show FILE says what is wrong with it; take another machine's copy."),
         Refusal::NoSuchRow => (Call::Read, "gridctl show FILE lists the machines by their names."),
         Refusal::NotAnswering => (Call::Read, "let a machine that is on make the call."),
-        Refusal::OutOfRange => (Call::Read, "gridctl show FILE tells how long the files are; a range has a byte at least."),
+        Refusal::OutOfRange => (Call::Read, "gridctl show FILE tells how long the files are; a range has a byte at least, and a round 64 orders of 8 at most."),
         Refusal::WrongBuffer => (Call::Read, "tell whoever keeps the program."),
         Refusal::NoQuorum => (Call::Write, "gridctl if FILE OFF,.. names those to switch on, OFF being those that are off."),
         Refusal::NotCurrent => {
@@ -48,6 +48,11 @@ fn told_of(refusal: Refusal) -> (Call, &'static str) {
         Refusal::NoChart => (Call::Chart, "of more machines ask gridctl if FILE OFF,.. instead."),
         _ => (Call::Write, "what to do is what the sentence says."),
     }
+}
+
+/// What to do about a refusal.
+pub fn to_do(refusal: Refusal) -> &'static str {
+    told_of(refusal).1
 }
 
 pub fn explain(arguments: &mut Arguments) -> Told {

@@ -46,6 +46,12 @@ impl<'a> Picture<'a> {
         several.map_or(Vec::new(), |layout| layout.counties().lines().map(<[usize]>::to_vec).collect())
     }
 
+    /// Have those of a county who are on what such a call needs in its grid?
+    pub fn counts(&self, asked: Asked, county: usize) -> bool {
+        let mut grids = self.layout.iter().flat_map(Layout::grids);
+        grids.any(|(of, grid)| of == county && self.lack(asked, grid).is_none())
+    }
+
     /// The files of which a row's copy is marked as stale.
     fn stale_files(&self, row: usize) -> Vec<usize> {
         let copies = self.table.row(row).map(|view| view.copies).unwrap_or_default();

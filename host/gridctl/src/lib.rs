@@ -14,6 +14,7 @@ mod names;
 mod next;
 mod page;
 mod replay;
+mod round;
 mod sheet;
 mod show;
 mod store;
@@ -35,16 +36,27 @@ pub type Told = Result<String, Stop>;
 pub enum Stop {
     /// The library refused the call, or answers otherwise than a log says.
     Refused(String),
+    /// The library refused a round at one of its orders: what is to be told of the others, and why.
+    Partly { told: String, why: String },
     /// The arguments, or a file, cannot be used.
     Unusable(String),
 }
 
 impl Stop {
+    /// What was done all the same.
+    #[must_use]
+    pub fn told(&self) -> &str {
+        match self {
+            Stop::Partly { told, .. } => told,
+            Stop::Refused(_) | Stop::Unusable(_) => "",
+        }
+    }
+
     /// The status to exit with.
     #[must_use]
     pub fn status(&self) -> u8 {
         match self {
-            Stop::Refused(_) => 1,
+            Stop::Refused(_) | Stop::Partly { .. } => 1,
             Stop::Unusable(_) => 2,
         }
     }
@@ -53,7 +65,7 @@ impl Stop {
 impl fmt::Display for Stop {
     fn fmt(&self, f: &mut fmt::Formatter) -> fmt::Result {
         match self {
-            Stop::Refused(why) | Stop::Unusable(why) => f.write_str(why),
+            Stop::Refused(why) | Stop::Partly { why, .. } | Stop::Unusable(why) => f.write_str(why),
         }
     }
 }

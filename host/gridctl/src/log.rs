@@ -7,15 +7,17 @@
 //! check 10 with 10,20,40 = done 1
 //! send 10 40 with 10,40 = done 1
 //! join 25 = refused 14
+//! round with 10,20,40 order 10 at 0 "1/2" order 20 at 15 "1-0" = refused 4 1
 //! ```
 //!
-//! `found` may name `capacity`, `files`, `tall` and `counties`, a joining a `county`; reads, writes and sends a `file`, and a write its
-//! `club`. `sheet BYTES` lends that sheet to the writes and checks behind it, and `counted BYTES` says what it is then. `table BYTES` begins with a table instead of a
-//! founding, and `leaves BYTES` says what the table is then. `?7` is row 7, for rows that no machine has. What stands behind `=` is
-//! compared, as far as it is told; `#` begins a comment.
+//! `found` may name `capacity`, `files`, `tall` and `counties`, a joining a `county`; reads, writes, orders and sends a `file`, and a write
+//! or order its `club`. A round has an `order` for each of its writes, and behind its refusal stands how many are done. `sheet BYTES` lends
+//! that sheet to the writes, rounds and checks behind it, and `counted BYTES` says what it is then. `table BYTES` begins with a table
+//! instead of a founding, and `leaves BYTES` says what the table is then. `?7` is row 7, for rows that no machine has. What stands behind
+//! `=` is compared, as far as it is told; `#` begins a comment.
 
 use crate::train::{Founding, Joining};
-use dyngrid::{Shape, Sheet};
+use dyngrid::{Order, Shape, Sheet};
 use std::fmt;
 use std::iter::Peekable;
 use std::vec::IntoIter;
@@ -36,7 +38,7 @@ pub enum Line {
     Call(Made, Option<Answer>),
 }
 
-/// A call; those who answered are `with`.
+/// A call; those who answered are `with`. An order comes with the machine that coordinates it, whose row is not known yet.
 pub enum Made {
     Found(Founding),
     Join(Joining),
@@ -44,6 +46,7 @@ pub enum Made {
     Write { by: Machine, with: Vec<Machine>, file: usize, club: usize, at: usize, patch: Vec<u8> },
     Send { from: Machine, to: Machine, with: Vec<Machine>, file: usize },
     Check { by: Machine, with: Vec<Machine> },
+    Round { with: Vec<Machine>, orders: Vec<(Machine, Order)> },
 }
 
 /// What a call gave, as far as it is told. The value of a founding and of a joining is how many machines there then are.
@@ -51,7 +54,7 @@ pub enum Made {
 pub struct Answer {
     /// 0 if it was done.
     pub refusal: u32,
-    /// None of a refused call.
+    /// None of a refused call, but of a round how many orders are done.
     pub value: Option<u32>,
     pub called: Option<usize>,
     /// What was read.
@@ -63,7 +66,7 @@ impl Answer {
     pub fn as_far_as(&self, other: &Answer) -> Answer {
         Answer {
             refusal: self.refusal,
-            value: self.value.filter(|_| other.value.is_some() || other.refusal != 0),
+            value: self.value.filter(|_| other.value.is_some()),
             called: self.called.filter(|_| other.called.is_some()),
             bytes: self.bytes.clone().filter(|_| other.bytes.is_some()),
         }
@@ -111,7 +114,7 @@ pub fn line(text: &str) -> Result<Option<Line>, String> {
 }
 
 /// Words with spaces between them, which may stand in quotes; up to a comment.
-fn words(text: &str) -> Result<Vec<String>, String> {
+pub fn words(text: &str) -> Result<Vec<String>, String> {
     let (mut words, mut word, mut quoted) = (Vec::new(), String::new(), false);
     for letter in text.chars() {
         match letter {
@@ -200,6 +203,17 @@ impl Words {
                 Made::Send { from, to, with, file: self.told_or("file", 1)? }
             }
             "check" => Made::Check { by: self.machine()?, with: self.with()? },
+            "round" => {
+                let (with, mut orders) = (self.with()?, Vec::new());
+                while self.has("order") {
+                    let (by, file, club) =
+                        (self.machine()?, self.told_or("file", 1)?, self.told_or("club", 1)?);
+                    let (at, patch) = (self.told("at")?, self.bytes()?);
+                    let order = Order::new(0, at, &patch).map_err(|error| error.to_string())?;
+                    orders.push((by, order.in_file(file).by_club(club)));
+                }
+                Made::Round { with, orders }
+            }
             _ => return Err(format!("there is no call {call}")),
         })
     }
@@ -356,6 +370,13 @@ mod tests {
             ("join 70000", "70000 is no number"),
             ("join 50 county", "county is missing"),
             ("found 10,20 length 4 counties 1,x", "x is no county"),
+            ("round order 10 at 0 00", "with, and those who answered, is missing"),
+            ("round with 10 order 10 at 0", "BYTES is missing"),
+            ("round with 10 order 10 at 0 00 20 at 1 00", "what is 20?"),
+            (
+                "round with 10 order 10 at 0 \"\"",
+                "an order writes 1 to 8 bytes, and here are none: leave it out",
+            ),
         ] {
             assert_eq!(line(text).err().as_deref(), Some(problem), "{text}");
         }

@@ -5,7 +5,7 @@ use crate::log::{self, Answer, Line, Machine, Made};
 use crate::names::names;
 use crate::store::Kept;
 use crate::{unusable, Stop, Told};
-use dyngrid::{Done, Refusal, Refused, Rows, Sheet, Table};
+use dyngrid::{Done, Order, Refusal, Refused, Rows, Sheet, Stopped, Table};
 
 pub fn replay(arguments: &mut Arguments) -> Told {
     let path = arguments.word("LOG")?;
@@ -58,7 +58,7 @@ pub fn difference(log: &str) -> Result<Option<Difference>, String> {
 #[derive(Default)]
 struct Player {
     table: Option<Table>,
-    /// Without it each write and check is lent an open one.
+    /// Without it each write, round and check is lent an open one.
     sheet: Option<Sheet>,
     calls: usize,
     compared: usize,
@@ -152,6 +152,21 @@ impl Player {
                 let table = self.begun()?;
                 let (by, with) = (row(table, *by)?, rows(table, with)?);
                 let answer = value(table.check_with(&mut sheet, by, with));
+                self.keep(sheet);
+                answer
+            }
+            Made::Round { with, orders } => {
+                let mut sheet = self.lent();
+                let table = self.begun()?;
+                let with = rows(table, with)?;
+                let orders: Result<Vec<Order>, String> =
+                    orders.iter().map(|(by, order)| Ok(order.by_row(row(table, *by)?))).collect();
+                let answer = match table.round_with(&mut sheet, with, &orders?) {
+                    Ok(done) => value(Ok(done as u32)),
+                    Err(Stopped { done, refusal }) => {
+                        Answer { value: Some(done as u32), ..value(Err(refusal)) }
+                    }
+                };
                 self.keep(sheet);
                 answer
             }

@@ -1,4 +1,5 @@
-//! The calls, to train on: `found`, `join`, `read`, `write`, `send`, `check`. Each changes the file, unless it is refused.
+//! The calls, to train on: `found`, `join`, `read`, `write`, `send`, `check`; `round` is told elsewhere. Each changes the file, unless it is
+//! refused.
 
 use crate::arguments::Arguments;
 use crate::log::{bytes_told, hexadecimal};
@@ -180,7 +181,7 @@ pub fn check(arguments: &mut Arguments) -> Told {
 }
 
 /// Keeps a sheet that was lent from a file.
-fn keep(path: Option<&str>, sheet: &Sheet) -> Result<(), Stop> {
+pub fn keep(path: Option<&str>, sheet: &Sheet) -> Result<(), Stop> {
     path.map_or(Ok(()), |path| sheet::keep(path, sheet))
 }
 
@@ -189,6 +190,6 @@ fn machines(count: usize) -> String {
 }
 
 /// A refused call, as members read of it.
-fn told(refusal: Refusal, call: Call, name: u16) -> Stop {
+pub fn told(refusal: Refusal, call: Call, name: u16) -> Stop {
     Stop::Refused(refusal.notice(call, name).to_string())
 }

@@ -19,10 +19,15 @@ fn folder(name: &str) -> PathBuf {
     folder
 }
 
-/// Runs a command of a session: `gridctl`, with its output into a file where it says so; or one of the few others.
+/// Runs a command of a session: `gridctl`, with its input out of a file and its output into one where it says so; or one of the few
+/// others.
 fn run(folder: &Path, command: &str) -> String {
     let (command, into) = match command.split_once(" > ") {
         Some((command, into)) => (command, Some(into)),
+        None => (command, None),
+    };
+    let (command, out_of) = match command.split_once(" < ") {
+        Some((command, out_of)) => (command, Some(out_of)),
         None => (command, None),
     };
     let words: Vec<&str> = command.split(' ').collect();
@@ -49,6 +54,9 @@ fn run(folder: &Path, command: &str) -> String {
         }
         ["gridctl", ref arguments @ ..] => {
             let mut gridctl = Command::new(env!("CARGO_BIN_EXE_gridctl"));
+            if let Some(out_of) = out_of {
+                gridctl.stdin(fs::File::open(folder.join(out_of)).expect("a file to read"));
+            }
             let output = gridctl.args(arguments).current_dir(folder).output().expect("gridctl runs");
             let text = |bytes: Vec<u8>| String::from_utf8(bytes).expect("text");
             let (mut told, errors) = (text(output.stdout), text(output.stderr));
@@ -102,7 +110,7 @@ macro_rules! sessions {
     ($($name:ident)*) => { $(#[test] fn $name() { session(stringify!($name)); })* };
 }
 
-sessions! { helps look train files folders errors explained replayed carried drawn many counties sheets }
+sessions! { helps look train files folders errors explained replayed carried drawn many counties sheets rounds }
 
 /// Every command has its place in the man page, with its usage, and every session is run.
 #[test]
@@ -126,10 +134,20 @@ fn the_man_page_has_every_command() {
 fn the_log_in_the_help_has_no_difference() {
     let help = run(&folder("help"), "gridctl replay --help");
     let log: Vec<&str> = help.lines().filter_map(|line| line.strip_prefix("    ")).collect();
-    assert_eq!(log.len(), 6, "{help}");
+    assert_eq!(log.len(), 7, "{help}");
     assert_eq!(gridctl::difference(&log.join("\n")), Ok(None));
     let page = include_str!("../gridctl.1").replace("\\-", "-");
     assert!(log.iter().all(|line| page.contains(&format!("\n    {line}\n"))));
+}
+
+/// The list that the help and the man page show is the one that the sessions enter.
+#[test]
+fn the_list_in_the_help_is_entered() {
+    let help = run(&folder("list"), "gridctl round --help");
+    let list: Vec<&str> = help.lines().filter_map(|line| line.strip_prefix("    ")).collect();
+    assert_eq!(list, include_str!("outputs/round-3.list").lines().collect::<Vec<_>>());
+    let page = include_str!("../gridctl.1").replace("\\-", "-");
+    assert!(list.iter().all(|line| page.contains(&format!("\n    {line}\n"))));
 }
 
 /// The first page shows a command as the sessions have it.
