@@ -21,7 +21,7 @@ pub struct Sizes {
 }
 
 /// All writes are this club's.
-const CLUB: u64 = 1;
+pub const CLUB: u64 = 1;
 
 /// Calls on a table's bytes, all with the same arguments for both engines.
 pub trait Calls {
@@ -31,6 +31,8 @@ pub trait Calls {
     /// By club 1.
     fn write(&self, table: &mut [u8], asked: Asked, patch: &[u8], called: &mut [u8], sheet: &mut [u8])
         -> u64;
+    /// Of orders in bytes.
+    fn round(&self, table: &mut [u8], answering: u64, orders: &[u8], sheet: &mut [u8]) -> u64;
     fn send(&self, table: &mut [u8], from: u64, to: u64, answering: u64, file: u64) -> u64;
     fn check(&self, table: &mut [u8], coordinator: u64, answering: u64, sheet: &mut [u8]) -> u64;
     /// In county 1.
@@ -111,6 +113,12 @@ impl Calls for Library {
         }
     }
 
+    fn round(&self, table: &mut [u8], answering: u64, orders: &[u8], sheet: &mut [u8]) -> u64 {
+        let (lent, length) = (sheet.as_mut_ptr(), sheet.len());
+        let (list, bytes) = (orders.as_ptr(), orders.len());
+        unsafe { raw::grid_round(table.as_mut_ptr(), table.len(), answering, list, bytes, lent, length) }
+    }
+
     fn send(&self, table: &mut [u8], from: u64, to: u64, answering: u64, file: u64) -> u64 {
         unsafe { raw::grid_send(table.as_mut_ptr(), table.len(), from, to, answering, file) }
     }
@@ -159,6 +167,10 @@ impl Calls for Engine {
     ) -> u64 {
         let Asked { coordinator, answering, file, offset } = asked;
         Engine::write(self, table, coordinator, answering, offset, patch, called, file, sheet, CLUB)
+    }
+
+    fn round(&self, table: &mut [u8], answering: u64, orders: &[u8], sheet: &mut [u8]) -> u64 {
+        Engine::round(self, table, answering, orders, sheet)
     }
 
     fn send(&self, table: &mut [u8], from: u64, to: u64, answering: u64, file: u64) -> u64 {

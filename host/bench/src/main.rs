@@ -18,8 +18,9 @@ use tasks::Task;
 const RUNS: usize = 60;
 /// About how long a run lasts.
 const RUN_TIME: Duration = Duration::from_millis(1);
-/// Few enough that no version or epoch comes to its limit.
+/// Few enough that no version, epoch or count comes to its limit.
 const MOST_CALLS: u32 = 20_000;
+const MOST_WRITES: u32 = 500_000;
 
 /// Processes that measure; the best one counts: where the code and the bytes of a process lie makes a difference.
 const PROCESSES: usize = 5;
@@ -83,7 +84,7 @@ fn time(state: &State, task: Task) -> Timing {
     assert!(task.run(&Library, state, TRIAL).1 == left, "{}: {task}: the engines differ", state.title);
 
     let calls = (RUN_TIME.as_nanos() / (trial.as_nanos() / u128::from(TRIAL)).max(1)) as u32;
-    let calls = calls.clamp(10, MOST_CALLS);
+    let calls = calls.clamp(10, MOST_CALLS.min(MOST_WRITES / task.writes()));
     let each = |time: Duration| time.as_nanos() as f64 / f64::from(calls);
     let mut best = Timing {
         state: state.title.clone(),

@@ -1,6 +1,6 @@
 //! What was measured, as a page in Markdown.
 
-use crate::tasks::Carried;
+use crate::tasks::{Carried, Task, ORDER_BYTES};
 use std::fmt::Write;
 use std::process::Command;
 
@@ -74,6 +74,21 @@ fn carried(timings: &[Timing]) -> String {
     text
 }
 
+/// An order of a round against a single write of as many bytes in the same table, both the library's.
+fn orders(timings: &[Timing]) -> String {
+    let (write, round) = (Task::Write(ORDER_BYTES).to_string(), Task::Round.to_string());
+    let mut text =
+        format!("| table | {write}, ns | an order of a round, ns | order / write |\n|---|---:|---:|---:|\n");
+    for timing in timings.iter().filter(|timing| timing.call == round) {
+        let single = timings.iter().find(|other| other.state == timing.state && other.call == write);
+        let single = single.expect("timed beside the round").library;
+        let order = timing.library / f64::from(Task::Round.writes());
+        writeln!(text, "| {} | {single:.0} | {order:.0} | {:.2} |", timing.state, order / single)
+            .expect("a string takes all");
+    }
+    text
+}
+
 /// How often the library is slower, and by how much.
 pub fn verdict(timings: &[Timing]) -> String {
     let mut ratios: Vec<f64> = timings.iter().map(Timing::ratio).collect();
@@ -115,12 +130,17 @@ pub fn page(timings: &[Timing], load: &str, runs: usize, processes: usize) -> St
          \x20 once, to see that the table is well formed; then a read, write or send polls the copies of its file, a check those of all eight.\n\n\
          Row 1 coordinates, if nothing else is said. Before each send the receiver is made stale again, which is in the times of both. A send of the\n\
          whole file has a sender whose window does not reach back to the receiver's version; a refused send has a receiver that is not stale. A write of\n\
-         16 bytes fills the windows of the rows that it writes within a run's first 16 calls, wherever it begins. Writes and checks are lent a sheet\n\
-         without limits, a write that is refused by 18 one whose ceilings are 0. A check with a new list leaves out the\n\
+         16 bytes fills the windows of the rows that it writes within a run's first 16 calls, wherever it begins. Writes, rounds and checks are lent a sheet\n\
+         without limits, a write that is refused by 18 one whose ceilings are 0. The orders of a round are row 1's, in as many places of the file\n\
+         as it has. A check with a new list leaves out the\n\
          last row and takes it in again by turns. A joining comes in the middle of the chain, and is undone before the next one, which is in the times\n\
          of both. A chart is of as many members as there are machines, in the published grid, and looks at no table; the reference puts its sets together\n\
          from columns. A choice is that of row 1, whose own list is of all machines. A move goes from form 2 up to form 3, or down, with the\n\
          same rows.\n\n\
+         {}\n\
+         ## An order of a round against a single write\n\n\
+         A round of 64 orders looks over the table once, to see that it is well formed, where 64 writes do so 64 times. A 64th of its time, and the time of a\n\
+         single write of as many bytes in the same table, both the library's:\n\n\
          {}\n\
          ## What a send carries\n\n\
          Of the sender's row a send looks at the head and at the copy of its file alone; where the window reaches back to the receiver's version, at\n\
@@ -130,6 +150,7 @@ pub fn page(timings: &[Timing], load: &str, runs: usize, processes: usize) -> St
          - machine: {}, load {load} when the run began\n- compiler of the reference: {}\n- to measure again: `make bench`\n",
         verdict(timings),
         table(timings),
+        orders(timings),
         carried(timings),
         processor(),
         compiler(),

@@ -1,6 +1,6 @@
 //! The tables that the calls are timed on.
 
-use crate::tasks::{self, Task, EVERY_TASK};
+use crate::tasks::{self, Task, EVERY_TASK, ORDER_BYTES};
 use dyngrid::{raw, Rows};
 use reference::rows::{self, Order};
 use reference::{Counties, Engine, Grid, Layout, Quorum, Rules, Shape, Table, ROW_HEADER};
@@ -69,6 +69,8 @@ const SPARSE_TASKS: &[Task] = &[Task::Read(16), Task::Write(16), Task::Send, Tas
 const FULL_TASKS: &[Task] = &[
     Task::Read(16),
     Task::Write(16),
+    Task::Write(ORDER_BYTES),
+    Task::Round,
     Task::Send,
     Task::SendPatches(1),
     Task::SendPatches(PLACES),
@@ -78,8 +80,16 @@ const FULL_TASKS: &[Task] = &[
     Task::Choice(raw::WRITE),
     Task::MoveDown,
 ];
-const GROUP_TASKS: &[Task] =
-    &[Task::Read(16), Task::Write(16), Task::Send, Task::RefusedSend, Task::CheckSame, Task::CheckNew];
+const GROUP_TASKS: &[Task] = &[
+    Task::Read(16),
+    Task::Write(16),
+    Task::Write(ORDER_BYTES),
+    Task::Round,
+    Task::Send,
+    Task::RefusedSend,
+    Task::CheckSame,
+    Task::CheckNew,
+];
 const FULL_GROUP_TASKS: &[Task] = &[
     Task::Read(16),
     Task::Write(16),
@@ -93,6 +103,8 @@ const COUNTY_TASKS: &[Task] = &[
     Task::Found,
     Task::Read(16),
     Task::Write(16),
+    Task::Write(ORDER_BYTES),
+    Task::Round,
     Task::Send,
     Task::CheckSame,
     Task::CheckNew,

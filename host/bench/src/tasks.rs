@@ -1,8 +1,8 @@
 //! The calls that are timed.
 
-use crate::engines::{Asked, Calls, Sizes};
+use crate::engines::{Asked, Calls, Sizes, CLUB};
 use crate::states::{self, State};
-use dyngrid::{raw, Form3Table, OlderForm, Rows, Sheet, Table};
+use dyngrid::{raw, Form3Table, OlderForm, Order, Rows, Sheet, Table};
 use reference::{rows, Row, Rules, CHART_PLACES, COUNTY, ROW_HEADER};
 use std::fmt;
 use std::hint::black_box;
@@ -20,6 +20,8 @@ pub enum Task {
     Write(usize),
     /// Of 16 bytes, by a club that is at its ceiling.
     RefusedWrite,
+    /// Of so many orders as a round can have, each of so many bytes as an order can write.
+    Round,
     /// Of the whole file: the sender's window does not reach back to the receiver's version.
     Send,
     /// By window: so many patches are missing.
@@ -42,13 +44,19 @@ pub enum Task {
 const DOWN: OlderForm = OlderForm::Two;
 const UP: OlderForm = OlderForm::Three;
 
-pub const EVERY_TASK: [Task; 14] = [
+/// The bytes of an order, and how many a round has.
+pub const ORDER_BYTES: usize = 8;
+pub const ORDERS: u32 = 64;
+
+pub const EVERY_TASK: [Task; 16] = [
     Task::Found,
     Task::Read(16),
     Task::Read(WHOLE),
     Task::Write(16),
     Task::Write(WHOLE),
     Task::RefusedWrite,
+    Task::Write(ORDER_BYTES),
+    Task::Round,
     Task::Send,
     Task::RefusedSend,
     Task::CheckSame,
@@ -68,6 +76,7 @@ impl fmt::Display for Task {
             Task::Write(WHOLE) => f.write_str("write, whole file"),
             Task::Write(length) => write!(f, "write, {length} bytes"),
             Task::RefusedWrite => f.write_str("write, refused by 18"),
+            Task::Round => write!(f, "round, {ORDERS} orders of {ORDER_BYTES} bytes"),
             Task::Send => f.write_str("send, whole file"),
             Task::SendPatches(1) => f.write_str("send, 1 patch"),
             Task::SendPatches(patches) => write!(f, "send, {patches} patches"),
@@ -85,6 +94,14 @@ impl fmt::Display for Task {
 }
 
 impl Task {
+    /// How many writes one call is.
+    pub fn writes(self) -> u32 {
+        match self {
+            Task::Round => ORDERS,
+            _ => 1,
+        }
+    }
+
     /// The refusal number that every call of the task must have.
     fn refusal(self) -> u64 {
         match self {
@@ -104,6 +121,7 @@ impl Task {
         let mut bytes = match self {
             Task::Read(length) | Task::Write(length) => vec![7; length.min(size.file_len)],
             Task::RefusedWrite => vec![7; 16],
+            Task::Round => orders(state),
             Task::Chart => vec![7; 2 * CHART_PLACES],
             Task::Choice(_) => vec![7; 8],
             _ => Vec::new(),
@@ -147,6 +165,9 @@ impl Task {
                     black_box(&mut called),
                     black_box(&mut sheet),
                 ),
+                Task::Round => {
+                    engine.round(black_box(&mut table), answering, black_box(&bytes), black_box(&mut sheet))
+                }
                 Task::Send | Task::SendPatches(_) => {
                     states::make_stale(&mut table, receiver, newest - behind, newest);
                     engine.send(black_box(&mut table), 1, 2, 3, file)
@@ -228,6 +249,17 @@ pub struct Left {
     called: [u8; 1],
     sheet: Vec<u8>,
     result: u64,
+}
+
+/// The orders of a round, by the coordinator of the state, each in another place if there are enough.
+fn orders(state: &State) -> Vec<u8> {
+    let size = state.size;
+    let places = size.file_len / ORDER_BYTES;
+    let order = |number: usize| {
+        let order = Order::new(state.coordinator as usize, number % places * ORDER_BYTES, &[7; ORDER_BYTES]);
+        order.expect("8 bytes").in_file(size.file()).by_club(CLUB as usize).to_bytes()
+    };
+    (0..ORDERS as usize).flat_map(order).collect()
 }
 
 /// The bytes of a sheet without limits.
