@@ -64,7 +64,7 @@ round-is-its-writes t s r (o ∷ os) = whole (by-order r (λ t s n os x. From t 
     t s 0 (o ∷ os))
   where
     stop : {x : Round} → Stopped t 0 (o ∷ os) x (writesFrom t s r 0 (o ∷ os)) → Refused t s r (o ∷ os) x
-    stop (last e) = byLast e
+    stop (last e) = byLast (omega arith) e
     stop (many a b c) = by65th (omega arith) b c
 
     whole : {x : Round} → From t s 0 (o ∷ os) x (writesFrom t s r 0 (o ∷ os)) → ItsWrites t s r (o ∷ os) x

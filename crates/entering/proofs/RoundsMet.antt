@@ -79,5 +79,5 @@ unfolding Upto.every Blocks.block Bytes.number Bytes.bytesOf Bytes.part Bytes.ze
 none-yet x w = eqb-true _ 0 (every-at 16 (λ k. eqb (Sheet.countOf openSheet k) 0) refl x w)
 
 pub counts-with-rounds-met : Claims.CountsWithRoundsMet
-unfolding Claims.CountsWithRoundsMet Acts.OneSheetActs Acts.LentTo Acts.sheetBy Shares.LentIt Shares.sheetAfter acts inTurn table list
-counts-with-rounds-met = (blank, one, openSheet, list, eqb-true _ 0 (so _ founds), none-yet, (refl, (tt, (refl, (refl, tt)))), eqb-true _ 2 (so _ two-done))
+unfolding Claims.CountsWithRoundsMet Claims.ordersOf Acts.OneSheetActs Acts.LentTo Acts.sheetBy Shares.LentIt Shares.sheetAfter acts inTurn table list
+counts-with-rounds-met = (blank, one, openSheet, list, eqb-true _ 0 (so _ founds), none-yet, (refl, (tt, (refl, (refl, tt)))), refl, eqb-true _ 2 (so _ two-done))

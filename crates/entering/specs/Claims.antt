@@ -1,7 +1,7 @@
 -- What is claimed of lists with rounds, and of a round by the writes that it stands for; the proofs are in proofs/.
 use mathlib.Core.Path.{_≡_}
 use mathlib.Core.Bool.{true, cond}
-use mathlib.Core.List.{List, [], _∷_}
+use mathlib.Core.List.{List, [], _∷_, map}
 use Prim.Native.Nat.{ℕ, _+_, _<_}
 use lib.Dec.{eqb}
 use lib.ListN.{length, drop}
@@ -14,7 +14,7 @@ use Rattle.history.specs.Claims.{tableAfter, bookAfter, Reached}
 use Rattle.sharing.specs.Shares.{lastSheet, doneSince}
 use Rattle.ordering.specs.declared.Order.{Order}
 use Rattle.ordering.specs.Rounds.{Round, emptyQuestions, roundOf}
-use Rattle.entering.specs.Acts.{Act, writesFrom, callsOf, tableAfterActs, ActsRight, OneSheetActs, lastSheetActs}
+use Rattle.entering.specs.Acts.{Act, single, round, writesFrom, callsOf, tableAfterActs, ActsRight, OneSheetActs, lastSheetActs}
 
 -- ---- a round is its writes
 -- how many of a list of calls, made one after another, are done; and the refusal of the last, 0 where there is none
@@ -29,7 +29,7 @@ lastRefusal t (k ∷ l ∷ ks) = lastRefusal (outcome t k .table) (l ∷ ks)
 
 -- "that refusal": the last write's; a round's own are an empty list's, and 4 for a 65th order
 pub data Refused (t s : List ℕ) (r : ℕ) (os : List Order) (x : Round) : Type 0 where
-  byLast : x .refusal ≡ lastRefusal t (writesFrom t s r 0 os) → Refused t s r os x
+  byLast : 0 < length os → x .refusal ≡ lastRefusal t (writesFrom t s r 0 os) → Refused t s r os x
   byNone : os ≡ [] → x .refusal ≡ firstNo (emptyQuestions t s r true) → Refused t s r os x
   by65th : 64 < length os → x .value ≡ 64 → x .refusal ≡ 4 → Refused t s r os x
 
@@ -84,8 +84,14 @@ CountsSumWithRounds = (t : List ℕ) (a : Founding) (s : List ℕ) (xs : List Ac
     o .refusal ≡ 0 → ((x : ℕ) → Within 16 x → countOf s x ≡ 0) → OneSheetActs (o .table) s xs
     → sum 16 (countOf (lastSheetActs (o .table) s xs)) ≡ doneSince 0 (o .table) (opened a) (callsOf (o .table) xs)
 
--- it is met with: a founding, a round, a joining, a changing check and a round of two done orders and a refused one, each lent the sheet as the last one left it
+-- it is met with, by a list in which rounds of one order and of three stand: how many orders each act has
+unfoldable pub ordersOf : Act → ℕ
+ordersOf (single k) = 0
+ordersOf (round sheet r os) = length os
+
+-- a founding, a round, a joining, a changing check and a round of which two are done and the third is refused, each lent the sheet as the last one left it
 unfoldable pub CountsWithRoundsMet : Type 0
 CountsWithRoundsMet = (t : List ℕ) × (a : Founding) × (s : List ℕ) × (xs : List Act)
     × (outcome t (founding a) .refusal ≡ 0) × ((x : ℕ) → Within 16 x → countOf s x ≡ 0) × OneSheetActs (outcome t (founding a) .table) s xs
+    × (map ordersOf xs ≡ 1 ∷ 0 ∷ 0 ∷ 3 ∷ [])
     × (doneSince 0 (outcome t (founding a) .table) (opened a) (callsOf (outcome t (founding a) .table) xs) ≡ 2)
