@@ -115,7 +115,7 @@ const CALLS: [Command; 9] = [
     Command {
         usage: "round FILE LIST [OFF,..] [--sheet SHEET] [--from LINE] [--hex]",
         does: "enters the results of a list together, up to the first that is refused",
-        text: "LIST is a file of plain text with up to 64 lines, or - for what is typed or piped in. A line is the machine in charge, the place in the\nfile and 1 to 8 bytes of text:\n\n    # round 3\n    10 at 0 1-0\n    10 at 4 0-1 club 2\n    20 at 0 \"0 47\" file 2\n\nIt is of file 1 and counts for club 1, unless file and club say otherwise. # begins a comment, and a text with spaces stands in\nquotes. With --hex, texts are bytes in figures of base sixteen. A line that cannot be used is told before anything is done.\nWhere an order is refused, those before it are done and stay: --from enters the list from that line on. Without --sheet there\nare no limits.",
+        text: "LIST is a file of plain text, or - for what is typed or piped in; a round enters 64 orders of it at most. A line is an order: the\nmachine in charge, the place in the file and 1 to 8 bytes of text:\n\n    # round 3\n    10 at 0 1-0\n    10 at 4 0-1 club 2\n    20 at 0 \"0 47\" file 2\n\nIt is of file 1 and counts for club 1, unless file and club say otherwise. # begins a comment, and a text with spaces stands in\nquotes. With --hex, texts are bytes in figures of base sixteen. A line that cannot be used is told before anything is done.\nWhere an order is refused, those before it are done and stay: --from enters the list from that line on. Without --sheet there\nare no limits.",
         options: &[("--sheet", true), ("--from", true), ("--hex", false)],
         run: round::round,
     },
@@ -142,8 +142,8 @@ const CALLS: [Command; 9] = [
     },
     Command {
         usage: "carry FILE [FORM OUT]",
-        does: "tells the form of a table, or carries it to an older one",
-        text: "Tables of forms 1 and 2 go to form 3, and back, into the file OUT. Nothing goes to form 4 or 5, or from them.",
+        does: "tells the form of a table, or carries it between forms 1 or 2 and 3",
+        text: "The carried table goes into the file OUT. Nothing goes to form 4 or 5, or from them.",
         options: &[],
         run: carry::carry,
     },
@@ -173,7 +173,7 @@ pub fn overview() -> String {
         commands.iter().map(|command| format!("  {:8} {}\n", command.name(), command.does)).collect()
     };
     format!(
-        "gridctl: looks at a table of the dynamic grid, and makes calls to train on\n\nTo look and to ask (nothing is changed):\n{}\nTo train (FILE is changed, unless the call is refused; by a round as far as it came):\n{}\n{BELOW}",
+        "gridctl: looks at a table of the dynamic grid, and makes calls to train on\n\nTo look and to ask (nothing is changed):\n{}\nTo train (FILE, and a sheet that is lent, is changed, unless the call is refused; by a round as far as it came):\n{}\n{BELOW}",
         listed(&LOOKS),
         listed(&CALLS)
     )

@@ -50,12 +50,12 @@ pub fn round(arguments: &mut Arguments) -> Told {
     for Listed { line, order } in &listed[done..] {
         text.push_str(&format!("not done: line {line}, {}\n", order_told(&kept.table, order)));
     }
-    let why = why(&kept.table, refused, refusal, done);
+    let why = why(&kept.table, refused, refusal, done, from);
     Err(Stop::Partly { told: text, why: format!("{}, line {}: {why}", called(&list), refused.line) })
 }
 
-/// Why an order was refused, so many being done, and what to do.
-fn why(table: &Table, refused: &Listed, refusal: Refusal, done: usize) -> String {
+/// Why an order was refused, so many being done of the list from a line on, and what to do.
+fn why(table: &Table, refused: &Listed, refusal: Refusal, done: usize, from: usize) -> String {
     let by = name(table, refused.order.coordinator());
     let to_do = match refusal {
         Refusal::OutOfRange if done == MOST => {
@@ -67,7 +67,8 @@ fn why(table: &Table, refused: &Listed, refusal: Refusal, done: usize) -> String
         other => explain::to_do(other).to_string(),
     };
     let rest = match done {
-        0 => "Nothing is done: enter the list again.".into(),
+        0 if from <= 1 => "Nothing is done: enter the list again.".into(),
+        0 => format!("Nothing more is done: enter the rest with --from {}.", refused.line),
         _ => format!("What is done stays: enter the rest with --from {}.", refused.line),
     };
     format!("{}\nTo do: {to_do}\n{rest}", refusal.notice(Call::Round, by))
