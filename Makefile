@@ -23,11 +23,11 @@ check:
 lib:
 	$(needs-rt)rt staticlib dyngrid
 
-# target/dist/dyngrid-VERSION.tar.gz: archive, header, pkg-config file, wrapper crate, examples, SHA-256 of each, commit.
+# target/dist/dyngrid-VERSION.tar.gz: archive, header, pkg-config file, pages, wrapper crate, examples, SHA-256 of each, commit.
 dist: lib
 	host/dist tarball target/dist
 
-# Archive, header and pkg-config file: make install PREFIX=/usr/local
+# Archive, header, pkg-config file and pages: make install PREFIX=/usr/local
 PREFIX ?= /usr/local
 install: lib
 	host/dist install "$(PREFIX)"
