@@ -26,7 +26,8 @@ static struct machine {
 struct heard {
     uint64_t answering, taken[MACHINES];
 };
-/* The sheet of the clubs' writes, lent to every write and check; here it has no limits, and all writes are club 1's. */
+/* The sheet of the clubs' writes, lent to every write and check; here it has no limits, and all writes are club 1's. A relay with
+   limits lends a copy, and keeps it when the call is done. */
 static uint8_t sheet[GRID_SHEET_BYTES];
 
 static size_t row_at(unsigned row)

@@ -2,7 +2,7 @@
  *
  * It needs C99, or C++11. Link with libdyngrid.a, which needs nothing but memcpy, memmove and memset. Each call is one step over a table that the
  * caller owns (a chart and a notice need none): it takes no memory, and returns for any bytes and any numbers. Who answered is the
- * caller's business.
+ * caller's business. The pages named docs/.. are packed and installed with it, in share/doc/dyngrid.
  *
  * Conventions
  *   A list is a pointer and then its length in bytes. Names, and sets in a chart, are two bytes each, low byte first; the set of
@@ -36,12 +36,12 @@
  *   12 * (x - 1) on.
  *   The assured numbers are the clubs' own: no other club can take them. Above its assured number a club takes, up to its ceiling,
  *   from what the total leaves beyond all assured numbers, which the clubs share. A done write or order adds one to its club's
- *   count, and a check that changes the list sets all counts to 0; no other call, and no refused one, touches a sheet. It is the
- *   caller's: hand the same one to every call, and keep it with the table.
+ *   count, and a check that changes the list sets all counts to 0; no other call touches a sheet, nor does a refused one, but for
+ *   what a round did before its refusal. It is the caller's: hand the same one to every call, and keep it with the table.
  *   Right is a sheet whose assured numbers and counts are at most their ceilings, whose total is no less than the assured numbers
  *   together, and what the counts have beyond assured numbers no more than the total leaves. Any other, or another length, is
  *   refused by 1.
- *   Who wants no limits lends grid_open_sheet, and names club 1.
+ *   Who wants no limits makes an open sheet anew before each call (grid_open_sheet), and names club 1.
  *
  * The table in bytes, numbers low byte first (GRID_AT_.. name the offsets)
  *   Header of 16: form (5), capacity, rows used, first row in name order, file length (two bytes), files, zeros.

@@ -60,7 +60,7 @@ impl fmt::Display for NotAssembled {
                 write!(f, "the bytes of row {row} have the name {name}, which is another machine's: ask that machine anew")
             }
             NotAssembled::OtherCounty { row, county } => {
-                write!(f, "the bytes of row {row} are of county {county}, and the frame has another: use the newest frame")
+                write!(f, "the bytes of row {row} are of county {county}, and the frame has another: ask that machine anew, or leave it out")
             }
             NotAssembled::Malformed(_) => f.write_str(
                 "the rows do not fit together: take the newest frame; if that is not it, leave out one machine after the other",

@@ -89,7 +89,7 @@ impl<'a> File<'a> {
     /// Where the bytes of a row have its copy of the file: 588 bytes and the contents. None if the group has no such file.
     ///
     /// For a read, write or send a machine need give no more than the first 32 bytes of its row and this range; zeros can stand
-    /// for the rest in an [assembled](Table::assemble) table.
+    /// for the rest in an [assembled](Table::assemble) table. For a round it gives its copies of the files that the orders name.
     #[must_use]
     pub fn range(self) -> Option<Range<usize>> {
         let length = copy::length(self.table.file_len());

@@ -25,9 +25,9 @@ pub struct Allowance {
 
 /// The clubs' shares of the writes: how many each may make, and how many it has made since the counts were last 0.
 ///
-/// Lend it to [writes](crate::FileMut::write_for), which count for their club, and to [checks](crate::Table::check_with), which set
-/// all counts to 0 where they change the list. Lend the same one to all of them, and keep it with the table. Writes and checks without
-/// a sheet have no limits, and count for nobody.
+/// Lend it to [writes](crate::FileMut::write_for) and [rounds](crate::Table::round_with), which count for their clubs, and to
+/// [checks](crate::Table::check_with), which set all counts to 0 where they change the list. Lend the same one to all of them, and
+/// keep it with the table. Writes, rounds and checks without a sheet have no limits, and count for nobody.
 ///
 /// A club below its assured number is never turned down for what others wrote. Above it a club takes, up to its ceiling, from what
 /// the total leaves beyond all assured numbers.

@@ -250,10 +250,11 @@ impl Table {
     /// number and the bytes that its machine holds. Of the frame only header, names, links and counties count; each other used
     /// row is zero otherwise.
     ///
-    /// Every read, write, send and check by these rows answers as on the table of all rows, and leaves these rows as it would
+    /// Every read, write, round, send and check by these rows answers as on the table of all rows, and leaves these rows as it would
     /// there; so does the [choice](Table::choice) of one of them. What is then to be shipped, [`Table::changed`] says. The
     /// link of a row is the frame's: a joining may have altered it while the machine was away. For a read, write or send a row may
-    /// come with zeros for its copies of other files, which have no part in it ([`File::range`]).
+    /// come with zeros for its copies of other files, which have no part in it ([`File::range`]); for a round it comes with its
+    /// copies of the files that the orders name.
     ///
     /// ```
     /// use dyngrid::{Rows, Shape, Table};

@@ -429,7 +429,7 @@ fn the_county_of_a_row_that_did_not_answer_counts() {
     assert_eq!(error, NotAssembled::OtherCounty { row: 3, county: 2 });
     assert_eq!(
         error.to_string(),
-        "the bytes of row 3 are of county 2, and the frame has another: use the newest frame"
+        "the bytes of row 3 are of county 2, and the frame has another: ask that machine anew, or leave it out"
     );
     assert_eq!(Refusal::from(error), Refusal::Malformed);
 }
