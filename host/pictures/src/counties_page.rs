@@ -66,8 +66,9 @@ pub fn document() -> Result<String, Refusal> {
          3. **Then make one check that all of them answer**, old and new. It takes in those that answer, and no others: with one of the new machines\n\
          \x20  answering it would lay the list that stops with that machine.\n\
          4. Send to the copies that the check marked.\n\
-         5. **Check after each loss, as ever.** The list then has one machine less, and bears less: look it up again.\n\n\
-         A club that is to share a county with the others joins with their number: then nothing on this page is about it.\n\n\
+         5. **Check after each loss, as ever.** The list then has one machine less, and bears less: look it up again, or ask `gridctl weak`, which\n\
+         \x20  names the machines that a table as it is cannot spare.\n\n\
+         A machine that is to share a county with the others joins with their number: then nothing on this page is about it.\n\n\
          ## The figures\n\n\
          Machines are counted through, county by county: in 4 + 1 machine 5 is that of county 2. *Cannot be spared* names those without which the\n\
          others cannot write or check, in a wide table or in a tall one; beside it those without which they cannot read. *In a row* says how many\n\
