@@ -333,7 +333,8 @@ impl Seat {
         }
         if count == self.count {
             if self.doubt.is_some() {
-                return (Fate::Unknown, Save::No);
+                // It holds another call, so not this one; and of a coordinator that is gone it obeys no store.
+                return (if buried { Fate::Never } else { Fate::Unknown }, Save::No);
             }
             self.counted(None);
             return (Fate::Never, Save::First);

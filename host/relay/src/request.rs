@@ -103,7 +103,9 @@ impl Request {
     pub fn whom(&self, reach: Reach, frame: &Frame, own: Option<(usize, &[u8])>) -> Rows {
         let kind = match self {
             Request::Send { from, to, .. } => {
-                return Rows::of(&[*from, *to]).unwrap_or_default() & frame.rows()
+                let ends = Rows::of(&[*from, *to]).unwrap_or_default();
+                // An end that this frame does not have joined since: one of the others may know of it.
+                return if ends.is_subset(frame.rows()) { ends } else { frame.rows() };
             }
             Request::Check { without } => return frame.rows() - *without,
             Request::Read { .. } => Kind::Read,
