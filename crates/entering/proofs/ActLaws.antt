@@ -2,12 +2,13 @@
 use mathlib.Core.Path.{_≡_, refl, sym, _∙_, ap, ap₂, subst, subst₂}
 use mathlib.Core.Bool.{Bool, true, false, cond}
 use mathlib.Core.List.{List, [], _∷_, _++_}
-use Prim.Native.Nat.{ℕ, zero, suc, _+_, _<_}
+use Prim.Native.Nat.{ℕ, zero, suc, _+_, _≤_, _<_}
 use native.Mathlib.Nat.{zero-add}
 use native.Mathlib.Omega.{arith}
 use lib.Dec.{eqb}
 use lib.ListN.{length}
 use borrow.Author.Tests.{eq-eqb, ne-eqb}
+use Rattle.asking.specs.Asking.{firstNo}
 use Rattle.sheet.specs.Sheet.{sum, countOf}
 use Rattle.protocol.specs.Calls.{Call, founding, write, outcome}
 use Rattle.history.specs.Book.{Book, opened, entered}
@@ -17,10 +18,10 @@ use Rattle.history.proofs.Theorems.{demand-3}
 use Rattle.sharing.specs.Shares.{LentIt, sheetAfter, OneSheet, lastSheet, doneSince, CountsSum}
 use Rattle.sharing.proofs.ShareLaws.{counts-sum}
 use Rattle.ordering.specs.declared.Order.{Order}
-use Rattle.ordering.specs.Rounds.{writing, Round, noneDone, roundOf}
+use Rattle.ordering.specs.Rounds.{writing, Round, emptyQuestions, noneDone, roundOf}
 use Rattle.ordering.proofs.RoundLaws.{made, by-order}
 use Rattle.entering.specs.Acts.{Act, single, round, writesFrom, standsFor, tableBy, callsOf, tableAfterActs, ActsRight, LentTo, sheetBy, OneSheetActs, lastSheetActs}
-use Rattle.entering.specs.Claims.{doneIn, lastRefusal, Refused, byLast, byNone, by65th, ItsWrites, RoundIsItsWrites, ActsAreCalls, ActsReach, Demand3WithRounds, CountsSumWithRounds}
+use Rattle.entering.specs.Claims.{doneIn, lastRefusal, Refused, byLast, byNone, by65th, ItsWrites, RoundIsItsWrites, RefusedByWrites, ActsAreCalls, ActsReach, Demand3WithRounds, CountsSumWithRounds}
 
 -- ---- a round is its writes
 -- the refusal of the orders after n done ones
@@ -69,6 +70,16 @@ round-is-its-writes t s r (o ∷ os) = whole (by-order r (λ t s n os x. From t 
 
     whole : {x : Round} → From t s 0 (o ∷ os) x (writesFrom t s r 0 (o ∷ os)) → ItsWrites t s r (o ∷ os) x
     whole f = record { table = f .table; sheet = f .sheet; value = f .value ∙ zero-add _; refusal = stop (f .refusal) }
+
+pub refused-by-writes : RefusedByWrites
+unfolding RefusedByWrites RoundIsItsWrites
+refused-by-writes t s r os = by-case (round-is-its-writes t s r os .refusal)
+  where
+    by-case : Refused t s r os (roundOf t s r os)
+        → (length os ≡ 0 → roundOf t s r os .refusal ≡ firstNo (emptyQuestions t s r true)) × (0 < length os → length os ≤ 64 → roundOf t s r os .refusal ≡ lastRefusal t (writesFrom t s r 0 os))
+    by-case (byLast l e) = ((λ z. absurd (omega arith)), (λ m n. e))
+    by-case (byNone z e) = ((λ n. e), (λ m n. absurd (omega (arith, ap length z))))
+    by-case (by65th l v e) = ((λ z. absurd (omega arith)), (λ m n. absurd (omega arith)))
 
 -- ---- an act leaves what the calls leave that it stands for
 table-by : (t : List ℕ) (x : Act) → tableBy t x ≡ tableAfter t (standsFor t x)

@@ -2,7 +2,7 @@
 use mathlib.Core.Path.{_≡_}
 use mathlib.Core.Bool.{true, cond}
 use mathlib.Core.List.{List, [], _∷_, map}
-use Prim.Native.Nat.{ℕ, _+_, _<_}
+use Prim.Native.Nat.{ℕ, _+_, _≤_, _<_}
 use lib.Dec.{eqb}
 use lib.ListN.{length, drop}
 use Rattle.sets.specs.Upto.{Within}
@@ -42,6 +42,12 @@ pub record ItsWrites (t s : List ℕ) (r : ℕ) (os : List Order) (x : Round) : 
 
 unfoldable pub RoundIsItsWrites : Type 0
 RoundIsItsWrites = (t s : List ℕ) (r : ℕ) (os : List Order) → ItsWrites t s r os (roundOf t s r os)
+
+-- so the refusal of up to 64 orders is the last write's, and that of none is an empty list's
+unfoldable pub RefusedByWrites : Type 0
+RefusedByWrites = (t s : List ℕ) (r : ℕ) (os : List Order)
+    → (length os ≡ 0 → roundOf t s r os .refusal ≡ firstNo (emptyQuestions t s r true))
+    × (0 < length os → length os ≤ 64 → roundOf t s r os .refusal ≡ lastRefusal t (writesFrom t s r 0 os))
 
 -- question 1 turns down no order but the first
 unfoldable pub OneComesFirst : Type 0
