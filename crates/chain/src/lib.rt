@@ -20,6 +20,19 @@ pub fn follow(t: &[u8], order: &mut [u8; 64]) -> bool
     let mut low: u16 = 0;
     let mut count = 0;
     let mut next = header::first(t);
+    // as long as the next row is the one behind, none waits for the link before it
+    while next == count + 1 {
+        let behind = table::row_at(t, size, count + 1);
+        let own = fields::name(behind);
+        if own <= low {
+            return false;
+        }
+        rows[count] = (count + 1) as u8;
+        seen = seen.add(count, true);
+        low = own;
+        next = fields::link(behind) as usize;
+        count += 1;
+    }
     while count < used {
         if next == 0 {
             return false;
