@@ -1,12 +1,12 @@
 -- What is asked of a copy in the order in which the code asks it, and its window by parts.
-use mathlib.Core.Path.{_≡_, refl}
-use mathlib.Core.Bool.{Bool, true, false, cond, _&&_}
+use mathlib.Core.Path.{_≡_, refl, sym}
+use mathlib.Core.Bool.{Bool, true, false, cond, _&&_, and-false, and-comm}
 use mathlib.Core.List.{List}
-use Prim.Native.Nat.{ℕ, _+_, _-_, _≤_}
+use Prim.Native.Nat.{ℕ, zero, suc, _+_, _-_, _≤_}
 use native.Mathlib.Omega.{arith}
 use lib.Dec.{eqb, leb, ltb}
 use lib.ListN.{length, take, drop, length-take, length-drop}
-use borrow.Author.Tests.{le-leb}
+use borrow.Author.Tests.{le-leb, ne-eqb}
 use Rattle.bytes.specs.Bytes.{allZero}
 use Rattle.bytes.proofs.CodeLaws.{tail-is}
 use Rattle.fields.specs.Layout.{get, version, desired, markIn, oldestIn, spareIn, records}
@@ -28,6 +28,16 @@ unfolding copyRight copyValues desiredRight
 copy-asked f file copy =
     regrouped (leb (get (markIn f) copy) 1 && leb (get version copy) limit && leb (get desired copy) limit)
     (cond (eqb (get (markIn f) copy) 1) (ltb (get version copy) (get desired copy)) (eqb (get desired copy) 0)) (allZero (spareIn f copy)) (keptRight f file copy)
+
+-- the numbers of a copy without the mark: what is 0 is below the limit
+pub unmarked : (m v d : ℕ) → m ≡ 0 → v ≤ limit → eqb d 0 ≡ ((leb m 1 && leb v limit && leb d limit) && cond (eqb m 1) (ltb v d) (eqb d 0))
+unfolding limit
+unmarked m v zero e h = rw (e, le-leb v 1_000_000 h)
+unmarked m v (suc d) e h = rw (e, le-leb v 1_000_000 h, ne-eqb (suc d) 0 (λ q. omega arith)) (sym (and-false (leb (suc d) 1_000_000)))
+
+-- and with it
+pub marked : (m v d : ℕ) → m ≡ 1 → v ≤ limit → (ltb v d && leb d limit) ≡ ((leb m 1 && leb v limit && leb d limit) && cond (eqb m 1) (ltb v d) (eqb d 0))
+marked m v d e h = rw (e, le-leb v limit h) (and-comm (ltb v d) (leb d limit))
 
 -- ---- the records are the last 576 bytes
 module _ (copy : List ℕ) (at : ℕ) (long : length copy ≡ at + 576) where
