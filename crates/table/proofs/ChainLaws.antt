@@ -17,7 +17,7 @@ use Rattle.sets.specs.Sets.{has, gaining}
 use Rattle.bools.proofs.BoolLaws.{and-l, and-r}
 use Rattle.sets.proofs.UptoLaws.{every-at}
 use Rattle.sets.proofs.SetLaws.{empty-at, gain-where}
-use Rattle.fields.specs.Layout.{usedOf, firstOf, linkOf, nameOf}
+use Rattle.fields.specs.Layout.{formValue, formOf, usedOf, firstOf, linkOf, nameOf}
 use Rattle.bytes.specs.Bytes.{put}
 use Rattle.linking.specs.Linking.{chain}
 use Rattle.linking.proofs.PathLaws.{chain-zero, chain-suc}
@@ -245,10 +245,14 @@ module _ (t rows : List ℕ) where
   unfolding orderLeft
   left-unsized e = rw e
 
+  pub left-former : (formOf t ≡ formValue → ⊥) → rows ≡ orderLeft t rows
+  unfolding orderLeft
+  left-former d = rw (ne-eqb (formOf t) formValue d, and-false (headerValues t && lengthRight t))
+
   pub left-wrong : every (usedOf t) (rowRight t) ≡ false → rows ≡ orderLeft t rows
   unfolding orderLeft
-  left-wrong e = rw (e, and-false (headerValues t && lengthRight t))
+  left-wrong e = rw (e, and-false (headerValues t && lengthRight t && eqb (formOf t) formValue))
 
-  pub left-linked : Linked t → walkedInto t rows ≡ orderLeft t rows
+  pub left-linked : Linked t → formOf t ≡ formValue → walkedInto t rows ≡ orderLeft t rows
   unfolding orderLeft
-  left-linked l = rw (l .sized .header, l .sized .bytes, l .rows)
+  left-linked l e = rw (l .sized .header, l .sized .bytes, eq-eqb (formOf t) formValue e, l .rows)

@@ -10,7 +10,8 @@ use Rattle.sets.specs.Upto.{Within, every}
 use Rattle.fields.specs.Layout.{formValue, markIn, oldestIn, spareIn, strideIn, stride, copyIn, copyOf, formOf, usedOf, fileLengthOf, filesOf, rowLength, rowBytes}
 use Rattle.fields.proofs.FieldLaws.{stride-late, stride-third, files-former}
 use Rattle.window.specs.Windows.{windowIn}
-use Rattle.table.specs.WellFormed.{copyValues, desiredRight, keptRight, headRight, copyRight, rowRight}
+use Rattle.bools.proofs.BoolLaws.{and-l, and-r}
+use Rattle.table.specs.WellFormed.{headerValues, lengthRight, copyValues, desiredRight, keptRight, headRight, copyRight, rowRight}
 use Rattle.table.specs.Contracts.{Sized}
 use Rattle.table.proofs.WellFormedLaws.{length-row}
 
@@ -51,3 +52,7 @@ head-no head rest e q = e ∙ ap (λ (b : Bool). b && rest) q
 
 pub head-yes : {row : Bool} (head rest : Bool) → row ≡ (head && rest) → head ≡ true → row ≡ rest
 head-yes head rest e q = e ∙ ap (λ (b : Bool). b && rest) q
+
+-- the used rows lie within a table whose header and length are right
+pub sized-by : (t : List ℕ) → (headerValues t && lengthRight t) ≡ true → Sized t
+sized-by t e = record { header = and-l (headerValues t) (lengthRight t) e; bytes = and-r (headerValues t) (lengthRight t) e }
