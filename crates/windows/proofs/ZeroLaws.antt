@@ -2,14 +2,14 @@
 use mathlib.Core.Path.{_≡_, refl, sym, _∙_, ap, ap₂}
 use mathlib.Core.Bool.{Bool, true, _&&_, and-true}
 use mathlib.Core.List.{List}
-use Prim.Native.Nat.{ℕ, zero, suc, _+_, _-_, _*_, _≤_, _<_, min, max}
+use Prim.Native.Nat.{ℕ, zero, suc, _+_, _-_, _*_, _≤_, _<_, min}
 use native.Mathlib.Decide.{decLe}
 use native.Mathlib.Omega.{arith}
 use lib.Dec.{eqb}
 use lib.ListN.{length, getD, drop, length-drop}
 use lib.Seq.{getD-take, getD-drop}
 use borrow.Author.Tests.{eqb-true, eq-eqb}
-use Rattle.bools.proofs.BoolLaws.{and-l, and-r, and-i, and-assoc, same-test}
+use Rattle.bools.proofs.BoolLaws.{and-assoc, same-test}
 use Rattle.sets.specs.Upto.{Within, every}
 use Rattle.sets.proofs.UptoLaws.{every-at, every-of, every-ext}
 use Rattle.bytes.specs.Bytes.{number, part, allZero}
@@ -21,34 +21,27 @@ use Rattle.window.specs.Windows.{size}
 use Rattle.window.proofs.RightLaws.{zero-behind}
 use Rattle.windows.specs.Visits.{tailZero, over}
 
-max-zero : (a b : ℕ) → eqb (max a b) 0 ≡ (eqb a 0 && eqb b 0)
-max-zero a b = same-test (eqb (max a b) 0) (eqb a 0 && eqb b 0)
-    (λ e. and-i (eqb a 0) _ (eq-eqb a 0 (omega (arith, eqb-true (max a b) 0 e))) (eq-eqb b 0 (omega (arith, eqb-true (max a b) 0 e))))
-    (λ e. eq-eqb (max a b) 0 (omega (arith, eqb-true a 0 (and-l _ _ e), eqb-true b 0 (and-r (eqb a 0) _ e))))
-
 -- byte n of each of the four is one of the patch or 0
 quiet : List ℕ → ℕ → Bool
 quiet r n = every 4 (λ x. eqb (over r ((x - 1) * 36) n) 0)
 
--- ---- the loop over the 32 bytes: the largest so far
-pub Largest : List ℕ → ℕ → ℕ → Type 0
-Largest r most n = eqb most 0 ≡ every n (quiet r)
+-- ---- the loop over the 32 bytes: the bits so far
+pub Quiet : List ℕ → ℕ → ℕ → Type 0
+Quiet r bits n = eqb bits 0 ≡ every n (quiet r)
 
-pub largest-none : (r : List ℕ) → Largest r 0 0
-unfolding Largest every
-largest-none r = refl
+pub quiet-none : (r : List ℕ) → Quiet r 0 0
+unfolding Quiet every
+quiet-none r = refl
 
-pub largest-turn : (r : List ℕ) (most n m : ℕ) → Largest r most n → m ≡ max most (max (max (over r 0 (n + 1)) (over r 36 (n + 1))) (max (over r 72 (n + 1)) (over r 108 (n + 1)))) → Largest r m (n + 1)
-unfolding Largest every quiet
-largest-turn r most n m h e =
+pub quiet-turn : (r : List ℕ) (bits n m low high four : ℕ) → Quiet r bits n
+    → eqb low 0 ≡ (eqb (over r 0 (n + 1)) 0 && eqb (over r 36 (n + 1)) 0) → eqb high 0 ≡ (eqb (over r 72 (n + 1)) 0 && eqb (over r 108 (n + 1)) 0)
+    → eqb four 0 ≡ (eqb low 0 && eqb high 0) → eqb m 0 ≡ (eqb bits 0 && eqb four 0) → Quiet r m (n + 1)
+unfolding Quiet every quiet
+quiet-turn r bits n m low high four h l u f e =
     let s : n + 1 ≡ suc n = omega arith in
-    let a = over r 0 (suc n) in
-    let b = over r 36 (suc n) in
-    let c = over r 72 (suc n) in
-    let d = over r 108 (suc n) in
-    rw s (ap (λ (x : ℕ). eqb x 0) (e ∙ ap (λ (k : ℕ). max most (max (max (over r 0 k) (over r 36 k)) (max (over r 72 k) (over r 108 k)))) s)
-    ∙ max-zero most (max (max a b) (max c d))
-    ∙ ap₂ (λ (p q : Bool). p && q) h (max-zero (max a b) (max c d) ∙ ap₂ (λ (p q : Bool). p && q) (max-zero a b) (max-zero c d) ∙ sym (and-assoc (eqb a 0 && eqb b 0) (eqb c 0) (eqb d 0))))
+    let z : (k : ℕ) → ℕ → Bool = λ k at. eqb (over r at k) 0 in
+    rw s (e ∙ ap₂ (λ (p q : Bool). p && q) h (f ∙ ap₂ (λ (p q : Bool). p && q) l u ∙ sym (and-assoc (z (n + 1) 0 && z (n + 1) 36) (z (n + 1) 72) (z (n + 1) 108))
+    ∙ ap (λ (k : ℕ). ((z k 0 && z k 36) && z k 72) && z k 108) s))
 
 -- ---- one record
 -- the record at a place, by its bytes
@@ -90,9 +83,9 @@ block-tail r (suc y) h g =
     ap (λ (k : ℕ). every 32 (λ n. eqb (over r k n) 0)) a ∙ tail-is r (0 + y * 36) (omega arith) ∙ ap (λ (k : ℕ). allZero (drop (4 + k) (part (0 + y * 36) 36 r))) s
 
 -- four at once, and so each
-pub four-tails : (r : List ℕ) (most : ℕ) → length r ≡ 144 → Largest r most 32 → eqb most 0 ≡ every 4 (λ x. tailZero (block 0 36 x r))
-unfolding Largest quiet
-four-tails r most long h = h ∙ swap ∙ every-ext 4 _ _ (λ x v. block-tail r x (v .0) (omega arith))
+pub four-tails : (r : List ℕ) (bits : ℕ) → length r ≡ 144 → Quiet r bits 32 → eqb bits 0 ≡ every 4 (λ x. tailZero (block 0 36 x r))
+unfolding Quiet quiet
+four-tails r bits long h = h ∙ swap ∙ every-ext 4 _ _ (λ x v. block-tail r x (v .0) (omega arith))
   where
     f : ℕ → ℕ → Bool
     f x n = eqb (over r ((x - 1) * 36) n) 0

@@ -1,6 +1,6 @@
 // Question 1 of a window: its chain, and its records.
 use bools::both;
-use bytes::larger;
+use bytes::joined;
 use rows::RowSet;
 ghost use mathlib.Core.Path.{_≡_};
 ghost use mathlib.Core.Bool.{true, cond};
@@ -157,20 +157,20 @@ fn over(r: &[u8], at: usize, n: usize) -> u8
     smaller(byte, beyond(n as u8, r[at + 1]))
 }
 
-// Are there zeros behind the patches of four records? The largest byte there is 0. It looks at four at once, without a branch: so it takes many bytes at a time.
+// Are there zeros behind the patches of four records? It looks at four at once, without a branch: so it takes many bytes at a time.
 fn four_zero(r: &[u8]) -> bool
     requires { ⌜ length (now r) ≡ 144 ⌝ }
     ensures { λ r2. ⌜ r2 ≡ every 4 (λ x. tailZero (block 0 36 x (now (r .entry)))) ⌝ }
 {
-    let mut most: u8 = 0;
+    let mut bits: u8 = 0;
     let mut n = 0;
     while n < 32 {
         n += 1;
-        let low = larger(over(r, 0, n), over(r, 36, n));
-        let high = larger(over(r, 72, n), over(r, 108, n));
-        most = larger(most, larger(low, high));
+        let low = joined(over(r, 0, n), over(r, 36, n));
+        let high = joined(over(r, 72, n), over(r, 108, n));
+        bits = joined(bits, joined(low, high));
     }
-    most == 0
+    bits == 0
 }
 
 // Are there zeros behind the patches of records 1 to k, the others being zero?

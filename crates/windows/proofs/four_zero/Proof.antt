@@ -1,24 +1,29 @@
-use mathlib.Core.Path.{_≡_, _∙_, ap, ap₂}
-use Prim.Native.Nat.{_-_, _≤_, max}
+use mathlib.Core.Path.{_≡_, _∙_, ap₂}
+use mathlib.Core.Bool.{Bool, _&&_}
+use lib.Dec.{eqb}
+use Prim.Native.Nat.{ℕ, _-_, _≤_}
 use native.Mathlib.Omega.{arith}
 use borrow.Author.Needs.{needs}
-use Rattle.windows.proofs.ZeroLaws.{Largest, largest-none, largest-turn, four-tails}
+use Rattle.windows.proofs.ZeroLaws.{Quiet, quiet-none, quiet-turn, four-tails}
 use Rattle.windows.proofs.four_zero.Statement.{statement}
 use Rattle.windows.proofs.four_zero.Tie as tie
 use Rattle.windows.proofs.four_zero.Reads as reads
 use Rattle.windows.proofs.four_zero.Lts as lts
-use Rattle.bytes.proofs.larger.Reads as larger-reads
+use Rattle.bytes.proofs.joined.Reads as joined-reads
 use Rattle.windows.proofs.over.Reads as over-reads
 
+abbrev both : ℕ → ℕ → Bool
+both a b = eqb a 0 && eqb b 0
+
 abbrev Inv-loop : tie.InvT-loop
-Inv-loop r most₀ n₀ most n = (n ≤ 32) × Largest r most n
+Inv-loop r bits₀ n₀ bits n = (n ≤ 32) × Quiet r bits n
 
 abbrev μ-loop : tie.MeasureT-loop
-μ-loop r most₀ n₀ most n = 32 - n
+μ-loop r bits₀ n₀ bits n = 32 - n
 
 -- src/lib.rt:167:5
 loop-holds : tie.Need-loop-holds Inv-loop μ-loop
-loop-holds c = (omega arith, largest-none _)
+loop-holds c = (omega arith, quiet-none _)
 
 -- src/lib.rt:168:9
 add-n : tie.Need-add-n Inv-loop μ-loop
@@ -33,8 +38,8 @@ over-requires-2 : tie.Need-over-requires-2 Inv-loop μ-loop
 over-requires-2 c κs = search needs
 
 -- src/lib.rt:169:13
-larger-requires : tie.Need-larger-requires Inv-loop μ-loop
-larger-requires c κs = search needs
+joined-requires : tie.Need-joined-requires Inv-loop μ-loop
+joined-requires c κs = search needs
 
 -- src/lib.rt:170:27
 over-requires-3 : tie.Need-over-requires-3 Inv-loop μ-loop
@@ -45,16 +50,16 @@ over-requires-4 : tie.Need-over-requires-4 Inv-loop μ-loop
 over-requires-4 c κs = search needs
 
 -- src/lib.rt:170:13
-larger-requires-2 : tie.Need-larger-requires-2 Inv-loop μ-loop
-larger-requires-2 c κs = search needs
+joined-requires-2 : tie.Need-joined-requires-2 Inv-loop μ-loop
+joined-requires-2 c κs = search needs
 
 -- src/lib.rt:171:29
-larger-requires-3 : tie.Need-larger-requires-3 Inv-loop μ-loop
-larger-requires-3 c κs = search needs
+joined-requires-3 : tie.Need-joined-requires-3 Inv-loop μ-loop
+joined-requires-3 c κs = search needs
 
 -- src/lib.rt:171:9
-larger-requires-4 : tie.Need-larger-requires-4 Inv-loop μ-loop
-larger-requires-4 c κs = search needs
+joined-requires-4 : tie.Need-joined-requires-4 Inv-loop μ-loop
+joined-requires-4 c κs = search needs
 
 -- src/lib.rt:167:5
 loop-less : tie.Need-loop-less Inv-loop μ-loop
@@ -71,8 +76,8 @@ loop-again c =
     let i = o1 .before in
     let l = i .before .loop in (
       omega (arith, i .loop-test .taken),
-      largest-turn _ (l .most) (l .n) _ (l .inv .1)
-          (c .larger4 .ensures ∙ ap (max (l .most)) (d .larger3 .ensures ∙ ap₂ max (g .larger .ensures ∙ ap₂ max (o1 .over .ensures) (g .before .over2 .ensures)) (h .larger2 .ensures ∙ ap₂ max (o3 .over3 .ensures) (h .before .over4 .ensures)))),
+      quiet-turn _ (l .bits) (l .n) (c .joined4 .result) (g .joined .result) (h .joined2 .result) (d .joined3 .result) (l .inv .1)
+          (g .joined .ensures ∙ ap₂ both (o1 .over .ensures) (g .before .over2 .ensures)) (h .joined2 .ensures ∙ ap₂ both (o3 .over3 .ensures) (h .before .over4 .ensures)) (d .joined3 .ensures) (c .joined4 .ensures),
     )
 
 -- src/lib.rt:161:1
@@ -80,7 +85,7 @@ returns : tie.Need-returns Inv-loop μ-loop
 returns c =
     let l = c .before .loop in
     let e : l .n ≡ 32 = omega (arith, c .loop-test .left, l .inv .0) in
-    four-tails _ (l .most) (c .before .before .before .pre) (rw e at (l .inv .1))
+    four-tails _ (l .bits) (c .before .before .before .pre) (rw e at (l .inv .1))
 
 pub four-zero-spec : {M : Type 1} → statement M
 four-zero-spec =
@@ -92,12 +97,12 @@ four-zero-spec =
     add-n
     over-requires
     over-requires-2
-    larger-requires
+    joined-requires
     over-requires-3
     over-requires-4
-    larger-requires-2
-    larger-requires-3
-    larger-requires-4
+    joined-requires-2
+    joined-requires-3
+    joined-requires-4
     loop-less
     loop-again
     returns)
