@@ -108,6 +108,14 @@ module _ {w : Window} (long : Whole w) (r : (file : ℕ) × RightFor file w) whe
     pub ends-full : 16 ≤ count → (count ≡ length (path w)) × (last ≡ youngest w)
     ends-full h = let e : count ≡ length (path w) = omega (arith, g .few, facts .few) in (e, g .after (omega (arith, e, youngest-in)))
 
+  -- a full window, by the record that none follows
+  pub ends-ring : (x : ℕ) → Within 16 x → eqb (get size (recordOf w 16)) 0 ≡ false → next w x ≡ 0 → (16 ≡ length (path w)) × (x ≡ youngest w)
+  ends-ring x v u e = go (decLt (length (path w)) 16)
+    where
+      go : Dec (length (path w) < 16) → (16 ≡ length (path w)) × (x ≡ youngest w)
+      go (yes h) = absurd (eqb-false _ 0 u (rest-size 16 h (omega arith)))
+      go (no h) = let k : 16 ≡ length (path w) = omega (arith, facts .few) in (k, end-youngest x (omega (arith, v, k)) e)
+
   youngest-few : youngest w ≤ 16
   youngest-few = omega (arith, youngest-in, facts .few)
 
@@ -126,6 +134,9 @@ module _ {w : Window} (long : Whole w) (r : (file : ℕ) × RightFor file w) whe
           let u = in-path (x ∷ y ∷ l) q y (among-tail x (y ∷ l) y (among-head y l)) in
           let z : next w (w .oldest) ≡ y = ap (next w) (p .0) ∙ sym (behind-row (w .oldest) (next w) x (p .1)) ∙ p .2 .0 in
           (omega (arith, p .0, v), λ h. (omega (arith, p .0, v), omega (arith, z, u)))
+
+  pub oldest-in : w .oldest ≤ 16
+  oldest-in = oldest-few .0
 
   pub placed-free : (count x l first : ℕ) → count ≡ length (path w) → count < 16 → x ≡ count + 1 → l ≡ youngest w → first ≡ cond (eqb (w .oldest) 0) x (w .oldest) → Placed w x l first
   unfolding taken left

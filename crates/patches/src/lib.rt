@@ -37,7 +37,7 @@ fn either(c: bool, a: usize, b: usize) -> usize
 }
 
 // The records in use are the first ones, and the youngest is the one that none follows: the chain need not be followed.
-fn ended(oldest: usize, records: &[u8]) -> Tail
+fn scan(oldest: usize, records: &[u8]) -> Tail
     requires { ⌜ (length (now records) ≡ 576) × ((file : ℕ) × RightFor file (window oldest (now records))) ⌝ }
     ensures { λ r. ⌜ (r .count ≡ length (path (window oldest (now (records .entry))))) × (r .youngest ≡ youngest (window oldest (now (records .entry)))) ⌝ }
 {
@@ -57,6 +57,24 @@ fn ended(oldest: usize, records: &[u8]) -> Tail
     Tail {
         count: count,
         youngest: last,
+    }
+}
+
+// Of a full window, as writes leave it, the youngest is the record before the oldest, in the ring.
+fn ended(oldest: usize, records: &[u8]) -> Tail
+    requires { ⌜ (length (now records) ≡ 576) × ((file : ℕ) × RightFor file (window oldest (now records))) ⌝ }
+    ensures { λ r. ⌜ (r .count ≡ length (path (window oldest (now (records .entry))))) × (r .youngest ≡ youngest (window oldest (now (records .entry)))) ⌝ }
+{
+    let before = (oldest + 14) % PLACES + 1;
+    if is_unused(records, PLACES) {
+        return scan(oldest, records);
+    }
+    if next_of(records, before) != 0 {
+        return scan(oldest, records);
+    }
+    Tail {
+        count: PLACES,
+        youngest: before,
     }
 }
 

@@ -1,72 +1,69 @@
-use mathlib.Core.Path.{refl, sym, _∙_}
-use Prim.Native.Nat.{_-_, _≤_}
+use mathlib.Core.Path.{sym, _∙_}
 use native.Mathlib.Omega.{arith}
 use borrow.Author.Needs.{needs}
 use Rattle.window.specs.Windows.{width, recordOf, next}
 use Rattle.windows.specs.Visits.{window}
-use Rattle.patches.proofs.EndLaws.{Ends, ends-none, ends-more, ends-at, ends-full}
+use Rattle.patches.proofs.EndLaws.{oldest-in, ends-ring}
 use Rattle.patches.proofs.ended.Statement.{statement}
 use Rattle.patches.proofs.ended.Tie as tie
+use Rattle.patches.proofs.ended.Reads as reads
+use Rattle.patches.proofs.ended.Lts as lts
+use Rattle.patches.proofs.is_unused.Reads as is-unused-reads
+use Rattle.patches.proofs.scan.Reads as scan-reads
+use Rattle.windows.proofs.next_of.Reads as next-of-reads
 
-abbrev Inv-loop : tie.InvT-loop
-Inv-loop oldest records count₀ last₀ count last = (count ≤ 16) × Ends (window oldest records) count last
+-- src/lib.rt:68:19
+add-before : tie.Need-add-before
+unfolding window
+add-before c = let s = c .before in omega (arith, oldest-in (s .pre .0) (s .pre .1))
 
-abbrev μ-loop : tie.MeasureT-loop
-μ-loop oldest records count₀ last₀ count last = 16 - count
+-- src/lib.rt:68:18
+add-before-2 : tie.Need-add-before-2
+add-before-2 c = search needs
 
-loop-holds : tie.Need-loop-holds Inv-loop μ-loop
-loop-holds c = (omega arith, ends-none _)
-
-add-x : tie.Need-add-x Inv-loop μ-loop
-add-x c = search needs
-
-is-unused-requires : tie.Need-is-unused-requires Inv-loop μ-loop
+-- src/lib.rt:69:8
+is-unused-requires : tie.Need-is-unused-requires
 is-unused-requires c κs = search needs
 
-returns : tie.Need-returns Inv-loop μ-loop
-unfolding window recordOf width
-returns c =
-    let u = c .before in
-    let i = u .before in
-    let s = i .before .before .before in
-    ends-at (s .pre .0) (s .pre .1) (i .before .loop .inv .1) _ refl (omega (arith, i .loop-test .taken)) (sym (u .is-unused .ensures) ∙ c .if1 .taken)
+-- src/lib.rt:70:9
+scan-requires : tie.Need-scan-requires
+scan-requires c κs = search needs
 
-next-of-requires : tie.Need-next-of-requires Inv-loop μ-loop
+-- src/lib.rt:70:9
+returns : tie.Need-returns
+returns c = search needs
+
+-- src/lib.rt:72:8
+next-of-requires : tie.Need-next-of-requires
 next-of-requires c κs = search needs
 
-either-requires : tie.Need-either-requires Inv-loop μ-loop
-either-requires c κs = search needs
+-- src/lib.rt:73:9
+scan-requires-2 : tie.Need-scan-requires-2
+scan-requires-2 c κs = search needs
 
-loop-less : tie.Need-loop-less Inv-loop μ-loop
-loop-less c = search needs
+-- src/lib.rt:73:9
+returns-2 : tie.Need-returns-2
+returns-2 c = search needs
 
-loop-again : tie.Need-loop-again Inv-loop μ-loop
+-- src/lib.rt:64:1
+returns-3 : tie.Need-returns-3
 unfolding window next recordOf width
-loop-again c =
+returns-3 c =
     let n = c .before in
     let u = n .before .before in
-    let i = u .before in
-    let s = i .before .before .before in (
-      omega (arith, i .loop-test .taken),
-      ends-more (s .pre .0) (s .pre .1) (i .before .loop .inv .1) _ _ _ refl (omega (arith, i .loop-test .taken)) (sym (u .is-unused .ensures) ∙ n .before .if1 .left) (n .next-of .ensures) (c .either .ensures),
-    )
-
-returns-2 : tie.Need-returns-2 Inv-loop μ-loop
-unfolding window
-returns-2 c = let s = c .before .before .before in ends-full (s .pre .0) (s .pre .1) (c .before .loop .inv .1) (omega (arith, c .loop-test .left))
+    let s = u .before .before in
+    ends-ring (s .pre .0) (s .pre .1) _ (omega arith) (sym (u .is-unused .ensures) ∙ n .before .if1 .left) (sym (n .next-of .ensures) ∙ omega (arith, c .if2 .left))
 
 pub ended-spec : {M : Type 1} → statement M
 ended-spec =
     tie.close
     (tie.spec
-    Inv-loop
-    μ-loop
-    loop-holds
-    add-x
+    add-before
+    add-before-2
     is-unused-requires
+    scan-requires
     returns
     next-of-requires
-    either-requires
-    loop-less
-    loop-again
-    returns-2)
+    scan-requires-2
+    returns-2
+    returns-3)
