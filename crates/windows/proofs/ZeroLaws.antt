@@ -1,6 +1,6 @@
 -- Zeros behind the patches of records, four records at a time.
 use mathlib.Core.Path.{_≡_, refl, sym, _∙_, ap, ap₂}
-use mathlib.Core.Bool.{Bool, true, _&&_, and-true}
+use mathlib.Core.Bool.{Bool, true, false, _&&_, and-true}
 use mathlib.Core.List.{List}
 use Prim.Native.Nat.{ℕ, zero, suc, _+_, _-_, _*_, _≤_, _<_, min}
 use native.Mathlib.Decide.{decLe}
@@ -9,7 +9,7 @@ use lib.Dec.{eqb}
 use lib.ListN.{length, getD, drop, length-drop}
 use lib.Seq.{getD-take, getD-drop}
 use borrow.Author.Tests.{eqb-true, eq-eqb}
-use Rattle.bools.proofs.BoolLaws.{and-assoc, same-test}
+use Rattle.bools.proofs.BoolLaws.{and-assoc, same-test, clash}
 use Rattle.sets.specs.Upto.{Within, every}
 use Rattle.sets.proofs.UptoLaws.{every-at, every-of, every-ext}
 use Rattle.bytes.specs.Bytes.{number, part, allZero}
@@ -110,9 +110,9 @@ block-moved records i (suc y) v =
     part-part (i * 36) 144 (0 + y * 36) 36 records (omega arith) ∙ ap (λ (k : ℕ). part k 36 records) a ∙ ap (λ (j : ℕ). block 0 36 j records) (sym e)
 
 -- four more
-pub tails-turn : (records : List ℕ) (i : ℕ) (ok b : Bool) → ok ≡ every i (λ x. tailZero (block 0 36 x records)) → b ≡ every 4 (λ x. tailZero (block 0 36 x (part (i * 36) 144 records)))
-    → (ok && b) ≡ every (i + 4) (λ x. tailZero (block 0 36 x records))
-tails-turn records i ok b e q = ap₂ (λ (p r : Bool). p && r) e (q ∙ every-ext 4 _ _ (λ x v. ap tailZero (block-moved records i x v))) ∙ sym (every-append i 4 (λ x. tailZero (block 0 36 x records)))
+pub tails-turn : (records : List ℕ) (i : ℕ) (b : Bool) → every i (λ x. tailZero (block 0 36 x records)) ≡ true → b ≡ every 4 (λ x. tailZero (block 0 36 x (part (i * 36) 144 records)))
+    → every (i + 4) (λ x. tailZero (block 0 36 x records)) ≡ b
+tails-turn records i b e q = every-append i 4 (λ x. tailZero (block 0 36 x records)) ∙ ap₂ (λ (p r : Bool). p && r) e (sym (q ∙ every-ext 4 _ _ (λ x v. ap tailZero (block-moved records i x v))))
 
 -- behind the records in use there is nothing
 pub tails-more : (records : List ℕ) (k i : ℕ) → allZero (drop (k * 36) records) ≡ true → k ≤ i → every i (λ x. tailZero (block 0 36 x records)) ≡ every k (λ x. tailZero (block 0 36 x records))
@@ -122,3 +122,8 @@ tails-more records k i z h = same-test _ _ (λ e. every-of k _ (λ x v. every-at
     go : (x : ℕ) → Within i x → Dec (x ≤ k) → every k (λ x. allZero (drop (4 + get size (block 0 36 x records)) (block 0 36 x records))) ≡ true → allZero (drop (4 + get size (block 0 36 x records)) (block 0 36 x records)) ≡ true
     go x v (yes l) e = every-at k _ e x (omega arith)
     go x v (no l) e = zero-drop (4 + get size (block 0 36 x records)) (block 0 36 x records) (zero-behind k records z x (omega arith))
+
+-- one that is not right among the 16 is one of those in use
+pub tails-wrong : (records : List ℕ) (k i : ℕ) → allZero (drop (k * 36) records) ≡ true → k ≤ 16 → i ≤ 16 → every i (λ x. tailZero (block 0 36 x records)) ≡ false → false ≡ every k (λ x. tailZero (block 0 36 x records))
+tails-wrong records k i z h g e = sym (same-test (every k (λ x. tailZero (block 0 36 x records))) false
+    (λ t. let all = tails-more records k 16 z h ∙ t in sym e ∙ every-of i _ (λ x v. every-at 16 _ all x (omega arith))) (λ f. absurd (clash f)))

@@ -178,14 +178,15 @@ fn tails_zero(k: usize, records: &[u8]) -> bool
     requires { ⌜ (length (now records) ≡ 576) × (k ≤ 16) × (allZero (drop (k * 36) (now records)) ≡ true) ⌝ }
     ensures { λ r. ⌜ r ≡ every k (λ x. tailZero (block 0 36 x (now (records .entry)))) ⌝ }
 {
-    let mut ok = true;
     let mut i = 0;
     while i < k {
         let at = i * WIDTH;
-        ok = both(ok, four_zero(&records[at..at + 144]));
+        if !four_zero(&records[at..at + 144]) {
+            return false;
+        }
         i += 4;
     }
-    ok
+    true
 }
 
 // Is a window that has records right?

@@ -1,30 +1,39 @@
-use mathlib.Core.Path.{_≡_, refl, _∙_, ap}
+use mathlib.Core.Path.{_≡_, refl, sym, _∙_, ap}
+use mathlib.Core.Bool.{true}
 use mathlib.Core.List.{List}
 use lib.ListN.{length}
 use Prim.Native.Nat.{ℕ, _+_, _-_, _*_, _%_, _≤_}
 use native.Mathlib.Omega.{arith}
 use borrow.Author.Needs.{needs}
+use borrow.Author.Tests.{not-true, not-false}
 use Rattle.sets.specs.Upto.{every}
 use Rattle.bytes.proofs.CodeLaws.{part-is, part-length}
 use Rattle.blocks.specs.Blocks.{block}
 use Rattle.windows.specs.Visits.{tailZero}
-use Rattle.windows.proofs.ZeroLaws.{tails-turn, tails-more}
+use Rattle.windows.proofs.ZeroLaws.{tails-turn, tails-more, tails-wrong}
 use Rattle.windows.proofs.tails_zero.Statement.{statement}
 use Rattle.windows.proofs.tails_zero.Tie as tie
 use Rattle.windows.proofs.tails_zero.Reads as reads
 use Rattle.windows.proofs.tails_zero.Lts as lts
-use Rattle.bools.proofs.both.Reads as both-reads
 use Rattle.windows.proofs.four_zero.Reads as four-zero-reads
 
 abbrev Inv-loop : tie.InvT-loop
-Inv-loop k records ok₀ i₀ ok i = (i % 4 ≡ 0) × (i ≤ 16) × (ok ≡ every i (λ x. tailZero (block 0 36 x records)))
+Inv-loop k records i₀ i = (i % 4 ≡ 0) × (i ≤ 16) × (every i (λ x. tailZero (block 0 36 x records)) ≡ true)
 
 abbrev μ-loop : tie.MeasureT-loop
-μ-loop k records ok₀ i₀ ok i = 16 - i
+μ-loop k records i₀ i = 16 - i
 
 -- four records more are there
 room : (c : tie.In-loop Inv-loop μ-loop) → c .before .loop .i * 36 + 144 ≤ length (c .before .before .before .args .records .now)
 room c = omega (arith, c .before .loop .inv .0, c .loop-test .taken, c .before .before .before .pre)
+
+turn : (c : tie.After-four-zero Inv-loop μ-loop) → let i = c .before .before in
+    every (i .before .loop .i + 4) (λ x. tailZero (block 0 36 x (i .before .before .before .args .records .now))) ≡ c .four-zero .result
+turn c =
+    let i = c .before .before in
+    let l = i .before .loop in
+    let records = i .before .before .before .args .records .now in
+    tails-turn records (l .i) (c .four-zero .result) (l .inv .2) (c .four-zero .ensures ∙ ap (λ (r : List ℕ). every 4 (λ x. tailZero (block 0 36 x r))) (part-is records (l .i * 36) 144 (l .i * 36) 144 refl refl))
 
 -- src/lib.rt:183:5
 loop-holds : tie.Need-loop-holds Inv-loop μ-loop
@@ -55,37 +64,34 @@ part-four-zero-end c = omega (arith, room c)
 four-zero-requires : tie.Need-four-zero-requires Inv-loop μ-loop
 four-zero-requires c κs = let i = c .before in part-length (i .before .loop .i * 36) 144 (i .before .before .before .args .records .now) (room i)
 
--- src/lib.rt:185:9
-both-requires : tie.Need-both-requires Inv-loop μ-loop
-both-requires c κs = search needs
+-- src/lib.rt:185:13
+returns : tie.Need-returns Inv-loop μ-loop
+returns c =
+    let i = c .before .before .before in
+    let s = i .before .before .before in
+    tails-wrong (s .args .records .now) (s .args .k) (i .before .loop .i + 4) (s .pre .2) (s .pre .1) (omega (arith, i .before .loop .inv .0, i .loop-test .taken, s .pre)) (turn (c .before) ∙ not-true _ (c .if1 .taken))
 
--- src/lib.rt:186:9
+-- src/lib.rt:187:9
 add-i : tie.Need-add-i Inv-loop μ-loop
 add-i c = search needs
 
--- src/lib.rt:183:5
+-- src/lib.rt:182:5
 loop-less : tie.Need-loop-less Inv-loop μ-loop
 loop-less c = let i = c .before .before .before in omega (arith, i .loop-test .taken, room i)
 
--- src/lib.rt:183:5
+-- src/lib.rt:182:5
 loop-again : tie.Need-loop-again Inv-loop μ-loop
 loop-again c =
-    let f = c .before in
-    let i = f .before .before in
+    let i = c .before .before .before in
     let l = i .before .loop in
-    let records = i .before .before .before .args .records .now in (
-      omega (arith, l .inv .0),
-      omega (arith, l .inv .0, i .loop-test .taken, i .before .before .before .pre),
-      c .both .ensures
-          ∙ tails-turn records (l .i) (l .ok) (f .four-zero .result) (l .inv .2) (f .four-zero .ensures ∙ ap (λ (r : List ℕ). every 4 (λ x. tailZero (block 0 36 x r))) (part-is records (l .i * 36) 144 (l .i * 36) 144 refl refl)),
-    )
+    (omega (arith, l .inv .0), omega (arith, l .inv .0, i .loop-test .taken, i .before .before .before .pre), turn (c .before) ∙ not-false _ (c .if1 .left))
 
 -- src/lib.rt:177:1
-returns : tie.Need-returns Inv-loop μ-loop
-returns c =
+returns-2 : tie.Need-returns-2 Inv-loop μ-loop
+returns-2 c =
     let l = c .before .loop in
     let s = c .before .before .before in
-    l .inv .2 ∙ tails-more (s .args .records .now) (s .args .k) (l .i) (s .pre .2) (omega (arith, c .loop-test .left))
+    sym (l .inv .2) ∙ tails-more (s .args .records .now) (s .args .k) (l .i) (s .pre .2) (omega (arith, c .loop-test .left))
 
 pub tails-zero-spec : {M : Type 1} → statement M
 tails-zero-spec =
@@ -100,8 +106,8 @@ tails-zero-spec =
     part-four-zero-start
     part-four-zero-end
     four-zero-requires
-    both-requires
+    returns
     add-i
     loop-less
     loop-again
-    returns)
+    returns-2)
