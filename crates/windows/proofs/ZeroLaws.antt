@@ -5,11 +5,11 @@ use mathlib.Core.List.{List}
 use Prim.Native.Nat.{ℕ, zero, suc, _+_, _-_, _*_, _≤_, _<_, min}
 use native.Mathlib.Decide.{decLe}
 use native.Mathlib.Omega.{arith}
-use lib.Dec.{eqb}
-use lib.ListN.{length, getD, drop, length-drop}
+use lib.Dec.{eqb, leb}
+use lib.ListN.{length, getD, take, drop, length-drop}
 use lib.Seq.{getD-take, getD-drop}
-use borrow.Author.Tests.{eqb-true, eq-eqb}
-use Rattle.bools.proofs.BoolLaws.{and-assoc, same-test, clash}
+use borrow.Author.Tests.{eqb-true, eq-eqb, leb-true}
+use Rattle.bools.proofs.BoolLaws.{and-l, and-r, and-assoc, same-test, clash}
 use Rattle.sets.specs.Upto.{Within, every}
 use Rattle.sets.proofs.UptoLaws.{every-at, every-of, every-ext}
 use Rattle.bytes.specs.Bytes.{number, part, allZero}
@@ -19,7 +19,7 @@ use Rattle.blocks.specs.Blocks.{block}
 use Rattle.fields.specs.Layout.{get}
 use Rattle.window.specs.Windows.{size}
 use Rattle.window.proofs.RightLaws.{zero-behind}
-use Rattle.windows.specs.Visits.{tailZero, over}
+use Rattle.windows.specs.Visits.{headRight, tailZero, Distances, over, Short}
 
 -- byte n of each of the four is one of the patch or 0
 quiet : List ℕ → ℕ → Bool
@@ -43,7 +43,27 @@ quiet-turn r bits n m low high four h l u f e =
     rw s (e ∙ ap₂ (λ (p q : Bool). p && q) h (f ∙ ap₂ (λ (p q : Bool). p && q) l u ∙ sym (and-assoc (z (n + 1) 0 && z (n + 1) 36) (z (n + 1) 72) (z (n + 1) 108))
     ∙ ap (λ (k : ℕ). ((z k 0 && z k 36) && z k 72) && z k 108) s))
 
+-- ---- the table of distances
+pub distances-are : (table : List ℕ) → every 64 (λ i. eqb (getD table (i - 1) 0) (i - 1 - 31)) ≡ true → Distances table
+unfolding Distances
+distances-are table e j h =
+    let q : j + 1 - 1 ≡ j = omega arith in
+    let d : getD table (j + 1 - 1) 0 ≡ j + 1 - 1 - 31 = eqb-true _ _ (every-at 64 _ e (j + 1) (omega arith)) in
+    rw q at d
+
+-- how far a byte is behind a patch
+pub far : (table : List ℕ) (n size : ℕ) → Distances table → Within 32 n → size ≤ 32 → getD table (n + 31 - size) 0 ≡ n - size
+unfolding Distances
+far table n size d v h = d (n + 31 - size) (omega arith) ∙ omega arith
+
 -- ---- one record
+-- its size, by its byte
+size-at : (r : List ℕ) (y : ℕ) → getD r (y * 36 + 1) 0 ≡ get size (block 0 36 (suc y) r)
+unfolding block get size
+size-at r y =
+    let a : y * 36 + 1 ≡ 0 + y * 36 + 1 = omega arith in
+    ap (λ (k : ℕ). getD r k 0) a ∙ sym (number-one (0 + y * 36 + 1) r) ∙ ap number (sym (part-part (0 + y * 36) 36 1 1 r (omega arith)))
+
 -- the record at a place, by its bytes
 tail-is : (r : List ℕ) (at : ℕ) → at + 36 ≤ length r → every 32 (λ n. eqb (over r at n) 0) ≡ allZero (drop (4 + getD r (at + 1) 0) (part at 36 r))
 unfolding over part
@@ -79,7 +99,8 @@ unfolding tailZero block get size
 block-tail r zero h g = absurd (omega arith)
 block-tail r (suc y) h g =
     let a : (suc y - 1) * 36 ≡ 0 + y * 36 = omega arith in
-    let s : getD r (0 + y * 36 + 1) 0 ≡ get size (part (0 + y * 36) 36 r) = sym (number-one (0 + y * 36 + 1) r) ∙ ap number (sym (part-part (0 + y * 36) 36 1 1 r (omega arith))) in
+    let e : 0 + y * 36 + 1 ≡ y * 36 + 1 = omega arith in
+    let s : getD r (0 + y * 36 + 1) 0 ≡ get size (part (0 + y * 36) 36 r) = ap (λ (k : ℕ). getD r k 0) e ∙ size-at r y in
     ap (λ (k : ℕ). every 32 (λ n. eqb (over r k n) 0)) a ∙ tail-is r (0 + y * 36) (omega arith) ∙ ap (λ (k : ℕ). allZero (drop (4 + k) (part (0 + y * 36) 36 r))) s
 
 -- four at once, and so each
@@ -127,3 +148,26 @@ tails-more records k i z h = same-test _ _ (λ e. every-of k _ (λ x v. every-at
 pub tails-wrong : (records : List ℕ) (k i : ℕ) → allZero (drop (k * 36) records) ≡ true → k ≤ 16 → i ≤ 16 → every i (λ x. tailZero (block 0 36 x records)) ≡ false → false ≡ every k (λ x. tailZero (block 0 36 x records))
 tails-wrong records k i z h g e = sym (same-test (every k (λ x. tailZero (block 0 36 x records))) false
     (λ t. let all = tails-more records k 16 z h ∙ t in sym e ∙ every-of i _ (λ x v. every-at 16 _ all x (omega arith))) (λ f. absurd (clash f)))
+
+-- heads that are right name at most 32 bytes, and zeros name none
+pub short-all : (file k : ℕ) (records : List ℕ) → every k (λ x. headRight file (block 0 36 x records)) ≡ true → length records ≡ 576 → allZero (drop (k * 36) records) ≡ true → Short 16 records
+unfolding Short headRight
+short-all file k records e long z x h = go (decLe (suc x) k)
+  where
+    go : Dec (suc x ≤ k) → getD records (x * 36 + 1) 0 ≤ 32
+    go (yes l) = rw (size-at records x) (leb-true _ 32 (and-r (leb 1 (get size (block 0 36 (suc x) records))) _ (and-l _ _ (every-at k _ e (suc x) (omega arith)))))
+    go (no l) =
+        let q : k * 36 + (x * 36 + 1 - k * 36) ≡ x * 36 + 1 = omega arith in
+        let w : getD records (x * 36 + 1) 0 ≡ 0 =
+        ap (λ (j : ℕ). getD records j 0) (sym q) ∙ sym (getD-drop (k * 36) records (x * 36 + 1 - k * 36) 0)
+        ∙ zero-at (drop (k * 36) records) z (x * 36 + 1 - k * 36) (omega (arith, length-drop (k * 36) records)) in
+        omega (arith, w)
+
+-- those of a part
+pub short-part : (records : List ℕ) (i : ℕ) → Short 16 records → i + 4 ≤ 16 → Short 4 (part (i * 36) 144 records)
+unfolding Short part
+short-part records i s h x l =
+    let q : i * 36 + (x * 36 + 1) ≡ (i + x) * 36 + 1 = omega arith in
+    let e : getD (take 144 (drop (i * 36) records)) (x * 36 + 1) 0 ≡ getD records ((i + x) * 36 + 1) 0 =
+    getD-take 144 (drop (i * 36) records) (x * 36 + 1) 0 (omega arith) ∙ getD-drop (i * 36) records (x * 36 + 1) 0 ∙ ap (λ (k : ℕ). getD records k 0) q in
+    rw e (s (i + x) (omega arith))

@@ -2,7 +2,7 @@
 use mathlib.Core.Path.{_≡_}
 use mathlib.Core.Bool.{Bool, true, false, not, _&&_}
 use mathlib.Core.List.{List}
-use Prim.Native.Nat.{ℕ, suc, _+_, _-_, _≤_, _<_, min}
+use Prim.Native.Nat.{ℕ, suc, _+_, _-_, _*_, _≤_, _<_, min}
 use lib.Dec.{eqb, leb}
 use lib.ListN.{length, getD, drop}
 use Rattle.sets.specs.Upto.{every, among}
@@ -39,6 +39,14 @@ tailZero r = allZero (drop (4 + get size r) r)
 -- byte n of the 32 of a record that starts at a place, cut down to how far it is behind the patch
 unfoldable pub over : List ℕ → ℕ → ℕ → ℕ
 over r at n = min (getD r (at + 3 + n) 0) (n - getD r (at + 1) 0)
+
+-- entry j is j - 31
+unfoldable pub Distances : List ℕ → Type 0
+Distances table = (j : ℕ) → j < 64 → getD table j 0 ≡ j - 31
+
+-- the first n of these records have at most 32 bytes each
+unfoldable pub Short : ℕ → List ℕ → Type 0
+Short n records = (x : ℕ) → x < n → getD records (x * 36 + 1) 0 ≤ 32
 
 -- 1 to n pass, and the one behind them, if it is one of the 16, does not
 pub record Leads (p : ℕ → Bool) (n : ℕ) : Type 0 where

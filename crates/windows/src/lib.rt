@@ -4,16 +4,16 @@ use bytes::joined;
 use rows::RowSet;
 ghost use mathlib.Core.Path.{_≡_};
 ghost use mathlib.Core.Bool.{true, cond};
-ghost use Prim.Native.Nat.{_+_, _-_, _*_, _≤_, min};
+ghost use Prim.Native.Nat.{_+_, _*_, _≤_, min};
 ghost use lib.Dec.{eqb};
-ghost use lib.ListN.{length, drop};
+ghost use lib.ListN.{length, getD, drop};
 ghost use Rattle.sets.specs.Upto.{Within, every, count};
 ghost use Rattle.sets.specs.Sets.{has};
 ghost use Rattle.bytes.specs.Bytes.{allZero};
 ghost use Rattle.blocks.specs.Blocks.{block};
 ghost use Rattle.fields.specs.Layout.{get};
 ghost use Rattle.window.specs.Windows.{younger, path, windowRight};
-ghost use Rattle.windows.specs.Visits.{window, visits, headRight, tailZero, over, broken, Leads};
+ghost use Rattle.windows.specs.Visits.{window, visits, headRight, tailZero, Distances, over, Short, broken, Leads};
 
 // A window has so many records of so many bytes.
 pub const PLACES: usize = 16;
@@ -142,46 +142,48 @@ fn smaller(a: u8, b: u8) -> u8
     if a < b { a } else { b }
 }
 
-fn beyond(n: u8, size: u8) -> u8
-    ensures { λ r. ⌜ r ≡ n - size ⌝ }
+// Entry n + 31 - size is how far byte n of a record is behind a patch of that size; 0 where it is one of the patch.
+fn distances() -> [u8; 64]
+    ensures { λ r. ⌜ Distances r ⌝ }
 {
-    if size < n { n - size } else { 0 }
+    *b"\x00\x00\x00\x00\x00\x00\x00\x00\x00\x00\x00\x00\x00\x00\x00\x00\x00\x00\x00\x00\x00\x00\x00\x00\x00\x00\x00\x00\x00\x00\x00\x00\x01\x02\x03\x04\x05\x06\x07\x08\x09\x0a\x0b\x0c\x0d\x0e\x0f\x10\x11\x12\x13\x14\x15\x16\x17\x18\x19\x1a\x1b\x1c\x1d\x1e\x1f\x20"
 }
 
 // Byte n of the 32 of a record, cut down to how far it is behind the patch: 0 exactly where it is one of the patch or 0.
-fn over(r: &[u8], at: usize, n: usize) -> u8
-    requires { ⌜ (at + 36 ≤ length (now r)) × (length (now r) ≡ 144) × Within 32 n ⌝ }
+fn over(table: &[u8; 64], r: &[u8], at: usize, n: usize) -> u8
+    requires { ⌜ Distances (now table) × (at + 36 ≤ length (now r)) × (length (now r) ≡ 144) × Within 32 n × (getD (now r) (at + 1) 0 ≤ 32) ⌝ }
     ensures { λ r2. ⌜ r2 ≡ over (now (r .entry)) at n ⌝ }
 {
     let byte = r[at + 3 + n];
-    smaller(byte, beyond(n as u8, r[at + 1]))
+    let size = r[at + 1] as usize;
+    smaller(byte, table[n + 31 - size])
 }
 
 // Are there zeros behind the patches of four records? It looks at four at once, without a branch: so it takes many bytes at a time.
-fn four_zero(r: &[u8]) -> bool
-    requires { ⌜ length (now r) ≡ 144 ⌝ }
+fn four_zero(table: &[u8; 64], r: &[u8]) -> bool
+    requires { ⌜ Distances (now table) × (length (now r) ≡ 144) × Short 4 (now r) ⌝ }
     ensures { λ r2. ⌜ r2 ≡ every 4 (λ x. tailZero (block 0 36 x (now (r .entry)))) ⌝ }
 {
     let mut bits: u8 = 0;
     let mut n = 0;
     while n < 32 {
         n += 1;
-        let low = joined(over(r, 0, n), over(r, 36, n));
-        let high = joined(over(r, 72, n), over(r, 108, n));
+        let low = joined(over(table, r, 0, n), over(table, r, 36, n));
+        let high = joined(over(table, r, 72, n), over(table, r, 108, n));
         bits = joined(bits, joined(low, high));
     }
     bits == 0
 }
 
 // Are there zeros behind the patches of records 1 to k, the others being zero?
-fn tails_zero(k: usize, records: &[u8]) -> bool
-    requires { ⌜ (length (now records) ≡ 576) × (k ≤ 16) × (allZero (drop (k * 36) (now records)) ≡ true) ⌝ }
+fn tails_zero(table: &[u8; 64], k: usize, records: &[u8]) -> bool
+    requires { ⌜ Distances (now table) × (length (now records) ≡ 576) × (k ≤ 16) × (allZero (drop (k * 36) (now records)) ≡ true) × Short 16 (now records) ⌝ }
     ensures { λ r. ⌜ r ≡ every k (λ x. tailZero (block 0 36 x (now (records .entry)))) ⌝ }
 {
     let mut i = 0;
     while i < k {
         let at = i * WIDTH;
-        if !four_zero(&records[at..at + 144]) {
+        if !four_zero(table, &records[at..at + 144]) {
             return false;
         }
         i += 4;
@@ -194,6 +196,8 @@ pub fn records_right(file: usize, version: u32, oldest: usize, records: &[u8]) -
     requires { ⌜ (length (now records) ≡ 576) × (1 ≤ oldest) ⌝ }
     ensures { λ r. ⌜ r ≡ windowRight file version (window oldest (now (records .entry))) ⌝ }
 {
+    // made first: bytes just stored are slow to load at other places
+    let table = distances();
     let found = leading(file, records);
     let k = found.count;
     if k == 0 {
@@ -209,7 +213,7 @@ pub fn records_right(file: usize, version: u32, oldest: usize, records: &[u8]) -
     if !bytes::all_zero(&records[end..]) {
         return false;
     }
-    tails_zero(k, records)
+    tails_zero(&table, k, records)
 }
 
 // Is a window right, for a file of so many bytes and a version?

@@ -4,6 +4,7 @@ use lib.Dec.{eqb}
 use Prim.Native.Nat.{ℕ, _-_, _≤_}
 use native.Mathlib.Omega.{arith}
 use borrow.Author.Needs.{needs}
+use Rattle.windows.specs.Visits.{Short}
 use Rattle.windows.proofs.ZeroLaws.{Quiet, quiet-none, quiet-turn, four-tails}
 use Rattle.windows.proofs.four_zero.Statement.{statement}
 use Rattle.windows.proofs.four_zero.Tie as tie
@@ -16,10 +17,10 @@ abbrev both : ℕ → ℕ → Bool
 both a b = eqb a 0 && eqb b 0
 
 abbrev Inv-loop : tie.InvT-loop
-Inv-loop r bits₀ n₀ bits n = (n ≤ 32) × Quiet r bits n
+Inv-loop table r bits₀ n₀ bits n = (n ≤ 32) × Quiet r bits n
 
 abbrev μ-loop : tie.MeasureT-loop
-μ-loop r bits₀ n₀ bits n = 32 - n
+μ-loop table r bits₀ n₀ bits n = 32 - n
 
 -- src/lib.rt:167:5
 loop-holds : tie.Need-loop-holds Inv-loop μ-loop
@@ -31,11 +32,13 @@ add-n c = search needs
 
 -- src/lib.rt:169:26
 over-requires : tie.Need-over-requires Inv-loop μ-loop
-over-requires c κs = search needs
+unfolding Short
+over-requires c κs = let s = c .before .before .before in (s .pre .0, omega (arith, s .pre .1), s .pre .1, search needs, s .pre .2 0 (omega arith))
 
 -- src/lib.rt:169:41
 over-requires-2 : tie.Need-over-requires-2 Inv-loop μ-loop
-over-requires-2 c κs = search needs
+unfolding Short
+over-requires-2 c κs = let s = c .before .before .before .before in (s .pre .0, omega (arith, s .pre .1), s .pre .1, search needs, s .pre .2 1 (omega arith))
 
 -- src/lib.rt:169:13
 joined-requires : tie.Need-joined-requires Inv-loop μ-loop
@@ -43,11 +46,13 @@ joined-requires c κs = search needs
 
 -- src/lib.rt:170:27
 over-requires-3 : tie.Need-over-requires-3 Inv-loop μ-loop
-over-requires-3 c κs = search needs
+unfolding Short
+over-requires-3 c κs = let s = c .before .before .before .before .before .before in (s .pre .0, omega (arith, s .pre .1), s .pre .1, search needs, s .pre .2 2 (omega arith))
 
 -- src/lib.rt:170:43
 over-requires-4 : tie.Need-over-requires-4 Inv-loop μ-loop
-over-requires-4 c κs = search needs
+unfolding Short
+over-requires-4 c κs = let s = c .before .before .before .before .before .before .before in (s .pre .0, omega (arith, s .pre .1), s .pre .1, search needs, s .pre .2 3 (omega arith))
 
 -- src/lib.rt:170:13
 joined-requires-2 : tie.Need-joined-requires-2 Inv-loop μ-loop
@@ -85,7 +90,7 @@ returns : tie.Need-returns Inv-loop μ-loop
 returns c =
     let l = c .before .loop in
     let e : l .n ≡ 32 = omega (arith, c .loop-test .left, l .inv .0) in
-    four-tails _ (l .bits) (c .before .before .before .pre) (rw e at (l .inv .1))
+    four-tails _ (l .bits) (c .before .before .before .pre .1) (rw e at (l .inv .1))
 
 pub four-zero-spec : {M : Type 1} → statement M
 four-zero-spec =
