@@ -32,18 +32,22 @@ pub fn round_in(t: &mut [u8], r: u64, list: &[u8], sheet: &mut [u8]) -> u64
     let mut order = [0u8; 64];
     let mut sets = [0u64; 8];
     if list.len() % ORDER != 0 {
-        let no = asked(t, sheet, r, 0, &mut order, &mut sets);
+        let no = asked(t, sheet, r, 0, &mut order, &mut sets).no;
         if no != 0 {
             return result(no, 0);
         }
         return result(4, 0);
     }
     let n = list.len() / ORDER;
-    let mut sum = result(asked(t, sheet, r, n, &mut order, &mut sets), 0);
+    let first = asked(t, sheet, r, n, &mut order, &mut sets);
+    let mut sum = result(first.no, 0);
+    let mut left = first.left;
     let mut k = 0;
     while k < n {
         let at = k * ORDER;
-        sum = next_in(t, sheet, &order, &sets, r, &list[at..at + ORDER], sum);
+        let turn = next_in(t, sheet, &order, &sets, r, &list[at..at + ORDER], sum, left);
+        sum = turn.result;
+        left = turn.left;
         k += 1;
     }
     sum

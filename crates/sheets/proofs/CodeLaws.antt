@@ -83,13 +83,6 @@ both-fit a b t = go (decLe a t) (decLe (a + b) t)
     go (no h) (yes g) = absurd (omega arith)
     go (no h) (no g) = rw (lt-leb a t (omega arith), lt-leb (a + b) t (omega arith))
 
-one-left : (a b t : ℕ) → ltb (a + b) t ≡ ltb b (t - a)
-one-left a b t = go (decLe t (a + b))
-  where
-    go : Dec (t ≤ a + b) → ltb (a + b) t ≡ ltb b (t - a)
-    go (yes h) = rw (le-ltb (a + b) t h, le-ltb b (t - a) (omega arith))
-    go (no h) = rw (lt-ltb (a + b) t (omega arith), lt-ltb b (t - a) (omega arith))
-
 module _ (s : List ℕ) (long : length s ≡ 196) (lines : Bool) (m t : ℕ) (is : lines ≡ every 16 (lineRight s)) (taken : m ≡ allAssured s + allBeyond s) (whole : t ≡ number (part 192 4 s)) where
   pub sheet-is : ((lines && leb t 1_000_000) && leb m t) ≡ sheetRight s
   unfolding sheetRight remainder
@@ -98,44 +91,45 @@ module _ (s : List ℕ) (long : length s ≡ 196) (lines : Bool) (m t : ℕ) (is
       rw (taken, both-fit (allAssured s) (allBeyond s) t, eq-eqb (length s) 196 long, is, w)
       (sym (and-assoc (every 16 (lineRight s) && leb (totalOf s) 1_000_000) (leb (allAssured s) (totalOf s)) (leb (allBeyond s) (totalOf s - allAssured s))))
 
-  pub left-is : ltb m t ≡ ltb (allBeyond s) (remainder s)
+  pub left-is : t - m ≡ remainder s - allBeyond s
   unfolding remainder
-  left-is = let w : t ≡ totalOf s = whole ∙ total-at s in rw (taken, one-left (allAssured s) (allBeyond s) t, w)
+  left-is = omega (arith, taken, whole ∙ total-at s)
 
 pub other-length : (s : List ℕ) → (length s ≡ 196 → ⊥) → false ≡ sheetRight s
 unfolding sheetRight
 other-length s d = rw (ne-eqb (length s) 196 d)
 
 -- ---- 18 and 19
-abbrev pub shareAsked : List ℕ → ℕ → Bool → ℕ
-shareAsked s x left = cond (isClub x && ltb (countOf s x) (ceilingOf s x)) (cond (ltb (countOf s x) (assuredOf s x) || left) 0 19) 18
-
-pub by-no-club : (s : List ℕ) (x : ℕ) (left : Bool) → (x ≡ 0) ⊎ (16 < x) → 18 ≡ shareAsked s x left
-unfolding isClub
-by-no-club s x left (inl e) = rw e
-by-no-club s x left (inr h) = go (leb 1 x) (lt-leb x 16 h)
+pub by-no-club : (s : List ℕ) (x : ℕ) → (x ≡ 0) ⊎ (16 < x) → 18 ≡ firstNo (byClub s x [])
+unfolding firstNo byClub isClub
+by-no-club s x (inl e) = rw e
+by-no-club s x (inr h) = go (leb 1 x) (lt-leb x 16 h)
   where
-    go : (b : Bool) → leb x 16 ≡ false → _≡_ {A = ℕ} 18 (cond ((b && leb x 16) && ltb (countOf s x) (ceilingOf s x)) (cond (ltb (countOf s x) (assuredOf s x) || left) 0 19) 18)
+    go : (b : Bool) → leb x 16 ≡ false → _≡_ {A = ℕ} 18 (cond ((b && leb x 16) && ltb (countOf s x) (ceilingOf s x)) (cond (ltb (countOf s x) (assuredOf s x) || ltb (allBeyond s) (remainder s)) 0 19) 18)
     go true e = rw e
     go false e = refl
 
-module _ (s : List ℕ) (x : ℕ) (left : Bool) (v : Within 16 x) where
+module _ (s : List ℕ) (x : ℕ) (v : Within 16 x) where
   is-club : isClub x ≡ true
   unfolding isClub
   is-club = rw (le-leb 1 x (v .0), le-leb x 16 (v .1))
 
-  pub by-ceiling : ceilingOf s x ≤ countOf s x → 18 ≡ shareAsked s x left
+  pub by-ceiling : ceilingOf s x ≤ countOf s x → 18 ≡ firstNo (byClub s x [])
+  unfolding firstNo byClub
   by-ceiling h = rw (is-club, le-ltb (countOf s x) (ceilingOf s x) h)
 
-  pub by-assured : countOf s x < ceilingOf s x → countOf s x < assuredOf s x → 0 ≡ shareAsked s x left
+  pub by-assured : countOf s x < ceilingOf s x → countOf s x < assuredOf s x → 0 ≡ firstNo (byClub s x [])
+  unfolding firstNo byClub
   by-assured h g = rw (is-club, lt-ltb (countOf s x) (ceilingOf s x) h, lt-ltb (countOf s x) (assuredOf s x) g)
 
-  pub by-left : countOf s x < ceilingOf s x → assuredOf s x ≤ countOf s x → cond left 0 19 ≡ shareAsked s x left
-  by-left h g = rw (is-club, lt-ltb (countOf s x) (ceilingOf s x) h, le-ltb (countOf s x) (assuredOf s x) g)
+  module _ (left : ℕ) (e : left ≡ remainder s - allBeyond s) (h : countOf s x < ceilingOf s x) (g : assuredOf s x ≤ countOf s x) where
+    pub by-left : 0 < left → 0 ≡ firstNo (byClub s x [])
+    unfolding firstNo byClub
+    by-left l = rw (is-club, lt-ltb (countOf s x) (ceilingOf s x) h, le-ltb (countOf s x) (assuredOf s x) g, lt-ltb (allBeyond s) (remainder s) (omega arith))
 
-pub asked-is : (s : List ℕ) (x : ℕ) (left : Bool) → left ≡ ltb (allBeyond s) (remainder s) → shareAsked s x left ≡ firstNo (byClub s x [])
-unfolding firstNo byClub
-asked-is s x left e = rw e
+    pub by-spent : left ≤ 0 → 19 ≡ firstNo (byClub s x [])
+    unfolding firstNo byClub
+    by-spent l = rw (is-club, lt-ltb (countOf s x) (ceilingOf s x) h, le-ltb (countOf s x) (assuredOf s x) g, le-ltb (allBeyond s) (remainder s) (omega arith))
 
 -- ---- a count stored
 put-same : (a n : ℕ) (xs : List ℕ) → a + n ≤ length xs → put a (part a n xs) xs ≡ xs

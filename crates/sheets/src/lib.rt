@@ -1,14 +1,14 @@
 // A sheet of fair use: is it right, may a club write by it; one more write counted, all counts 0.
 use bools::both;
 ghost use mathlib.Core.Path.{_≡_};
-ghost use mathlib.Core.Bool.{true, cond, _&&_, _||_};
+ghost use mathlib.Core.Bool.{true, cond};
 ghost use mathlib.Core.List.{[]};
 ghost use Prim.Native.Nat.{_+_, _-_};
 ghost use lib.Dec.{ltb};
 ghost use lib.ListN.{length};
 ghost use Rattle.sets.specs.Upto.{Within, every};
 ghost use Rattle.asking.specs.Asking.{firstNo};
-ghost use Rattle.sheet.specs.Sheet.{assuredOf, ceilingOf, countOf, allAssured, remainder, allBeyond, lineRight, sheetRight, isClub, byClub, counted, cleared};
+ghost use Rattle.sheet.specs.Sheet.{assuredOf, countOf, allAssured, remainder, allBeyond, lineRight, sheetRight, byClub, counted, cleared};
 
 // A sheet's length, its clubs and the length of a club's line.
 const SHEET: usize = 196;
@@ -61,40 +61,56 @@ fn added(s: &[u8]) -> Lines
     }
 }
 
-// Is a sheet right, and is anything left of the remainder?
-struct Verdict {
-    right: bool,
-    left: bool,
+// What of the total is not taken.
+fn left_of(total: u64, taken: u64) -> u64
+    ensures { λ r. ⌜ r ≡ total - taken ⌝ }
+{
+    if taken < total { total - taken } else { 0 }
 }
 
-fn summed(s: &[u8]) -> Verdict
+// Is a sheet right, and what is left of its remainder?
+pub struct Sum {
+    pub right: bool,
+    pub left: u64,
+}
+
+fn summed(s: &[u8]) -> Sum
     requires { ⌜ length (now s) ≡ 196 ⌝ }
-    ensures { λ r. ⌜ (r .right ≡ sheetRight (now (s .entry))) × (r .left ≡ ltb (allBeyond (now (s .entry))) (remainder (now (s .entry)))) ⌝ }
+    ensures { λ r. ⌜ (r .right ≡ sheetRight (now (s .entry))) × (r .left ≡ remainder (now (s .entry)) - allBeyond (now (s .entry))) ⌝ }
 {
     let lines = added(s);
     let total = bytes::u32_at(s, TOTAL_AT);
     let small = both(lines.right, total <= LIMIT);
-    Verdict {
+    Sum {
         right: both(small, lines.taken <= total as u64),
-        left: lines.taken < total as u64,
+        left: left_of(total as u64, lines.taken),
     }
+}
+
+// What a round begins with: question 1 of a sheet, and what is left of its remainder.
+pub fn begun(s: &[u8]) -> Sum
+    ensures { λ r. ⌜ (r .right ≡ sheetRight (now (s .entry))) × (r .right ≡ true → r .left ≡ remainder (now (s .entry)) - allBeyond (now (s .entry))) ⌝ }
+{
+    if s.len() != SHEET {
+        return Sum {
+            right: false,
+            left: 0,
+        };
+    }
+    summed(s)
 }
 
 // Question 1 of a sheet.
 pub fn is_right(s: &[u8]) -> bool
     ensures { λ r. ⌜ r ≡ sheetRight (now (s .entry)) ⌝ }
 {
-    if s.len() != SHEET {
-        return false;
-    }
-    let sum = summed(s);
-    sum.right
+    begun(s).right
 }
 
-// Questions 18 and 19 of a club, where it is known whether the remainder leaves one: the first no, 0 where there is none.
-fn share_asked(s: &[u8], club: u64, left: bool) -> u32
-    requires { ⌜ length (now s) ≡ 196 ⌝ }
-    ensures { λ r. ⌜ r ≡ cond (isClub club && ltb (countOf (now (s .entry)) club) (ceilingOf (now (s .entry)) club)) (cond (ltb (countOf (now (s .entry)) club) (assuredOf (now (s .entry)) club) || left) 0 19) 18 ⌝ }
+// Questions 18 and 19 of a club, by what is left of the remainder: the first no, 0 where there is none.
+pub fn share_asked(s: &[u8], club: u64, left: u64) -> u32
+    requires { ⌜ (length (now s) ≡ 196) × (left ≡ remainder (now s) - allBeyond (now s)) ⌝ }
+    ensures { λ r. ⌜ r ≡ firstNo (byClub (now (s .entry)) club []) ⌝ }
 {
     if club == 0 {
         return 18;
@@ -110,7 +126,7 @@ fn share_asked(s: &[u8], club: u64, left: bool) -> u32
     if count < bytes::u32_at(s, at) {
         return 0;
     }
-    if left { 0 } else { 19 }
+    if 0 < left { 0 } else { 19 }
 }
 
 // What a sheet says to a club's write: is it right, and 18 or 19 where the club may not write, else 0.
@@ -134,6 +150,18 @@ pub fn look(s: &[u8], club: u64) -> Told
         right: sum.right,
         no: share_asked(s, club, sum.left),
     }
+}
+
+// What is left of the remainder after one more done write of a club: one less where its count is not below its assured number.
+pub fn left_after(s: &[u8], club: usize, left: u64) -> u64
+    requires { ⌜ (length (now s) ≡ 196) × Within 16 club ⌝ }
+    ensures { λ r. ⌜ r ≡ left - cond (ltb (countOf (now (s .entry)) club) (assuredOf (now (s .entry)) club)) 0 1 ⌝ }
+{
+    let at = (club - 1) * LINE;
+    if bytes::u32_at(s, at + COUNT_AT) < bytes::u32_at(s, at) {
+        return left;
+    }
+    left_of(left, 1)
 }
 
 // One more done write of a club.

@@ -13,7 +13,7 @@ use Rattle.fields.specs.Layout.{usedOf}
 use Rattle.table.specs.WellFormed.{between, onlyRows, wellFormed}
 use Rattle.grouping.specs.Grouped.{Framed}
 use Rattle.asking.specs.Asking.{firstNo, result}
-use Rattle.sheet.specs.Sheet.{sheetRight, counted}
+use Rattle.sheet.specs.Sheet.{assuredOf, countOf, sheetRight, counted}
 use Rattle.sheet.specs.Claims.{CountsOne}
 use Rattle.sheet.proofs.SheetLaws.{counts-one}
 use Rattle.protocol.specs.Calls.{Writing, write, outcome, resultOf}
@@ -78,15 +78,17 @@ module _ (t : List ℕ) (a : Writing) (n x : ℕ) (u : List ℕ) (low : n < 64) 
   pub sum-fits : 2 ^ 32 ≤ x → x < 2 ^ 64 → x + n < 2 ^ 64
   sum-fits h f = omega (arith, refusal-alone h)
 
--- a done write leaves all as question 1 wants it
-pub ready-after : (t order sets : List ℕ) (a : Writing) (x : ℕ) (u : List ℕ) → x ≡ resultOf (outcome t (write a)) → u ≡ outcome t (write a) .table → x < 2 ^ 32
-    → Ready t (a .sheet) order sets → Ready u (counted (a .sheet) (a .club)) order sets
+-- a done write leaves all as question 1 wants it, and of the remainder one less where the club was not below its assured number
+pub ready-after : (t order sets : List ℕ) (a : Writing) (x : ℕ) (u : List ℕ) (left : ℕ) → x ≡ resultOf (outcome t (write a)) → u ≡ outcome t (write a) .table → x < 2 ^ 32
+    → Ready t (a .sheet) order sets left → Ready u (counted (a .sheet) (a .club)) order sets (left - cond (ltb (countOf (a .sheet) (a .club)) (assuredOf (a .sheet) (a .club))) 0 1)
 unfolding resultOf CountsOne
-ready-after t order sets a x u answered left h y =
+ready-after t order sets a x u left answered done h y =
     let e : outcome t (write a) .refusal ≡ 0 = omega (arith, answered) in
+    let one = counts-one (a .sheet) (a .club) (y .right) (write-yes t a (sym (refusal-is t (write a)) ∙ e) .club) in
     record {
-      framed = subst (λ (v : List ℕ). Framed v order sets) (sym left) (write-framed a (y .framed));
-      right = counts-one (a .sheet) (a .club) (y .right) (write-yes t a (sym (refusal-is t (write a)) ∙ e) .club) .right;
+      framed = subst (λ (v : List ℕ). Framed v order sets) (sym done) (write-framed a (y .framed));
+      right = one .right;
+      spare = omega (arith, y .spare, one .remainder, one .beyond);
     }
 
 -- ---- what is asked before the first order

@@ -2,13 +2,13 @@
 use mathlib.Core.Path.{_≡_}
 use mathlib.Core.Bool.{true, cond, _||_}
 use mathlib.Core.List.{List, [], _∷_}
-use Prim.Native.Nat.{ℕ, _+_}
+use Prim.Native.Nat.{ℕ, _+_, _-_}
 use lib.Dec.{eqb, ltb}
 use Rattle.fields.specs.Layout.{usedOf}
 use Rattle.table.specs.WellFormed.{onlyRows, wellFormed}
 use Rattle.grouping.specs.Grouped.{Framed}
 use Rattle.asking.specs.Asking.{Question, firstNo, result}
-use Rattle.sheet.specs.Sheet.{sheetRight}
+use Rattle.sheet.specs.Sheet.{remainder, allBeyond, sheetRight}
 use Rattle.protocol.specs.Calls.{Writing, write, outcome}
 use Rattle.ordering.specs.declared.Order.{Order}
 use Rattle.ordering.specs.Rounds.{writing}
@@ -39,7 +39,8 @@ firstQuestions t s r n =
     ∷ record { ask = 2; yes = ltb 0 n || onlyRows (usedOf t) r }
     ∷ []
 
--- what question 1 has shown of the sheet and the table
-pub record Ready (t s order sets : List ℕ) : Type 0 where
+-- what question 1 has shown of the sheet and the table, and what is left of the sheet's remainder
+pub record Ready (t s order sets : List ℕ) (left : ℕ) : Type 0 where
   pub framed : Framed t order sets
   pub right : sheetRight s ≡ true
+  pub spare : left ≡ remainder s - allBeyond s

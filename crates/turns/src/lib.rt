@@ -22,6 +22,12 @@ fn bytes_in(count: u8) -> usize
     }
 }
 
+// A round's result so far, and, while nothing is refused, what is left of the sheet's remainder.
+pub struct Turn {
+    pub result: u64,
+    pub left: u64,
+}
+
 // One write more, of a file for a club, to a round whose result so far is `sum`: none after a refusal or after 64.
 fn step(
     t: &mut [u8],
@@ -35,26 +41,46 @@ fn step(
     file: usize,
     club: u64,
     sum: u64,
-) -> u64
-    requires { ⌜ (sum ≤ 64 → Ready (now t) (now sheet) (now order) (now sets)) ⌝ }
-    ensures { λ x. ⌜ (record { result = x; table = now (t .exit); sheet = now (sheet .exit) } ≡ stepped (record { result = sum; table = now (t .entry); sheet = now (sheet .entry) }) (record { c = c; r = r; offset = offset; patch = now (patch .entry); called = 0 ∷ []; file = file; sheet = now (sheet .entry); club = club })) × (x ≤ 64 → Ready (now (t .exit)) (now (sheet .exit)) (now (order .entry)) (now (sets .entry))) ⌝ }
+    left: u64,
+) -> Turn
+    requires { ⌜ (sum ≤ 64 → Ready (now t) (now sheet) (now order) (now sets) left) ⌝ }
+    ensures { λ x. ⌜ (record { result = x .result; table = now (t .exit); sheet = now (sheet .exit) } ≡ stepped (record { result = sum; table = now (t .entry); sheet = now (sheet .entry) }) (record { c = c; r = r; offset = offset; patch = now (patch .entry); called = 0 ∷ []; file = file; sheet = now (sheet .entry); club = club })) × (x .result ≤ 64 → Ready (now (t .exit)) (now (sheet .exit)) (now (order .entry)) (now (sets .entry)) (x .left)) ⌝ }
 {
     if 64 < sum {
-        return sum;
+        return Turn {
+            result: sum,
+            left: left,
+        };
     }
     if sum == 64 {
-        return result(4, 64);
+        return Turn {
+            result: result(4, 64),
+            left: left,
+        };
     }
-    let told = sheets::look(sheet, club);
-    let a = writes::answer(t, order, sets, c, r, offset, patch, true, file, told.no);
+    let share = sheets::share_asked(sheet, club, left);
+    let a = writes::answer(t, order, sets, c, r, offset, patch, true, file, share);
     if a.result < 0x1_0000_0000 {
+        let less = sheets::left_after(sheet, club as usize, left);
         sheets::count_one(sheet, club as usize);
-        return sum + 1;
+        return Turn {
+            result: sum + 1,
+            left: less,
+        };
     }
-    a.result + sum
+    Turn {
+        result: a.result + sum,
+        left: left,
+    }
 }
 
-// What is asked before the first of n orders: the first no, 0 where there is none. Then `order` and `sets` have the chain order and the counties of the rows.
+// What is asked before the first order: the first no, 0 where there is none. Then also what is left of the sheet's remainder.
+pub struct First {
+    pub no: u32,
+    pub left: u64,
+}
+
+// What is asked before the first of n orders. Where there is no no, `order` and `sets` have the chain order and the counties of the rows.
 pub fn asked(
     t: &[u8],
     sheet: &[u8],
@@ -62,41 +88,50 @@ pub fn asked(
     n: usize,
     order: &mut [u8; 64],
     sets: &mut [u64; 8],
-) -> u32
-    ensures { λ k. ⌜ (k ≡ firstNo (firstQuestions (now (t .entry)) (now (sheet .entry)) r n)) × (k ≡ 0 → Ready (now (t .entry)) (now (sheet .entry)) (now (order .exit)) (now (sets .exit))) ⌝ }
+) -> First
+    ensures { λ k. ⌜ (k .no ≡ firstNo (firstQuestions (now (t .entry)) (now (sheet .entry)) r n)) × (k .no ≡ 0 → Ready (now (t .entry)) (now (sheet .entry)) (now (order .exit)) (now (sets .exit)) (k .left)) ⌝ }
 {
-    if !sheets::is_right(sheet) {
-        return 1;
+    let sum = sheets::begun(sheet);
+    if !sum.right {
+        return First { no: 1, left: 0 };
     }
     if !wellformed::ordered(t, order, sets) {
-        return 1;
+        return First { no: 1, left: 0 };
     }
     if 0 < n {
-        return 0;
+        return First {
+            no: 0,
+            left: sum.left,
+        };
     }
     if values::only_rows(header::used(t), r) {
-        0
+        First {
+            no: 0,
+            left: sum.left,
+        }
     } else {
-        2
+        First { no: 2, left: 0 }
     }
 }
 
-// Where a round stands between two orders: its result so far, and, while nothing is refused, the chain order and the counties of the rows.
+// Where a round stands between two orders: its result so far, and, while nothing is refused, what is left of the sheet's remainder, the chain order and the counties of the rows.
 pub struct Standing {
     pub result: u64,
+    pub left: u64,
     pub order: [u8; 64],
     pub sets: [u64; 8],
 }
 
 // A round of n orders begins. Table and sheet are lent as to `next`, and stay as they are.
 pub fn begin(t: &mut [u8], sheet: &mut [u8], r: u64, n: usize) -> Standing
-    ensures { λ k. ⌜ (k .result ≡ result (firstNo (firstQuestions (now (t .entry)) (now (sheet .entry)) r n)) 0) × (k .result ≤ 64 → Ready (now (t .exit)) (now (sheet .exit)) (k .order) (k .sets)) × (now (t .exit) ≡ now (t .entry)) × (now (sheet .exit) ≡ now (sheet .entry)) ⌝ }
+    ensures { λ k. ⌜ (k .result ≡ result (firstNo (firstQuestions (now (t .entry)) (now (sheet .entry)) r n)) 0) × (k .result ≤ 64 → Ready (now (t .exit)) (now (sheet .exit)) (k .order) (k .sets) (k .left)) × (now (t .exit) ≡ now (t .entry)) × (now (sheet .exit) ≡ now (sheet .entry)) ⌝ }
 {
     let mut order = [0u8; 64];
     let mut sets = [0u64; 8];
-    let no = asked(t, sheet, r, n, &mut order, &mut sets);
+    let first = asked(t, sheet, r, n, &mut order, &mut sets);
     Standing {
-        result: result(no, 0),
+        result: result(first.no, 0),
+        left: first.left,
         order: order,
         sets: sets,
     }
@@ -104,14 +139,14 @@ pub fn begin(t: &mut [u8], sheet: &mut [u8], r: u64, n: usize) -> Standing
 
 // One order more.
 pub fn next(t: &mut [u8], sheet: &mut [u8], r: u64, o: Order, s: Standing) -> Standing
-    requires { ⌜ (s .result ≤ 64 → Ready (now t) (now sheet) (s .order) (s .sets)) ⌝ }
-    ensures { λ k. ⌜ (record { result = k .result; table = now (t .exit); sheet = now (sheet .exit) } ≡ turn r (record { result = s .result; table = now (t .entry); sheet = now (sheet .entry) }) o) × (k .result ≤ 64 → Ready (now (t .exit)) (now (sheet .exit)) (k .order) (k .sets)) ⌝ }
+    requires { ⌜ (s .result ≤ 64 → Ready (now t) (now sheet) (s .order) (s .sets) (s .left)) ⌝ }
+    ensures { λ k. ⌜ (record { result = k .result; table = now (t .exit); sheet = now (sheet .exit) } ≡ turn r (record { result = s .result; table = now (t .entry); sheet = now (sheet .entry) }) o) × (k .result ≤ 64 → Ready (now (t .exit)) (now (sheet .exit)) (k .order) (k .sets) (k .left)) ⌝ }
 {
     let order = s.order;
     let sets = s.sets;
     let bytes = o.bytes;
     let n = bytes_in(o.length);
-    let sum = step(
+    let turn = step(
         t,
         sheet,
         &order,
@@ -123,9 +158,11 @@ pub fn next(t: &mut [u8], sheet: &mut [u8], r: u64, o: Order, s: Standing) -> St
         o.file as usize,
         o.club as u64,
         s.result,
+        s.left,
     );
     Standing {
-        result: sum,
+        result: turn.result,
+        left: turn.left,
         order: order,
         sets: sets,
     }
@@ -140,9 +177,10 @@ pub fn next_in(
     r: u64,
     o: &[u8],
     sum: u64,
-) -> u64
-    requires { ⌜ (sum ≤ 64 → Ready (now t) (now sheet) (now order) (now sets)) × (length (now o) ≡ 16) ⌝ }
-    ensures { λ x. ⌜ (record { result = x; table = now (t .exit); sheet = now (sheet .exit) } ≡ turn r (record { result = sum; table = now (t .entry); sheet = now (sheet .entry) }) (orderIn (now (o .entry)))) × (x ≤ 64 → Ready (now (t .exit)) (now (sheet .exit)) (now (order .entry)) (now (sets .entry))) ⌝ }
+    left: u64,
+) -> Turn
+    requires { ⌜ (sum ≤ 64 → Ready (now t) (now sheet) (now order) (now sets) left) × (length (now o) ≡ 16) ⌝ }
+    ensures { λ x. ⌜ (record { result = x .result; table = now (t .exit); sheet = now (sheet .exit) } ≡ turn r (record { result = sum; table = now (t .entry); sheet = now (sheet .entry) }) (orderIn (now (o .entry)))) × (x .result ≤ 64 → Ready (now (t .exit)) (now (sheet .exit)) (now (order .entry)) (now (sets .entry)) (x .left)) ⌝ }
 {
     let n = bytes_in(bytes::u8_at(o, 1));
     step(
@@ -157,5 +195,6 @@ pub fn next_in(
         bytes::u8_at(o, 12) as usize,
         bytes::u8_at(o, 13) as u64,
         sum,
+        left,
     )
 }

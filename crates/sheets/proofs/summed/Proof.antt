@@ -21,8 +21,11 @@ cast-both c = search needs
 both-requires-2 : tie.Need-both-requires-2
 both-requires-2 c κs = search needs
 
-cast-t8 : tie.Need-cast-t8
-cast-t8 c = search needs
+cast-left-of : tie.Need-cast-left-of
+cast-left-of c = search needs
+
+left-of-requires : tie.Need-left-of-requires
+left-of-requires c κs = search needs
 
 returns : tie.Need-returns
 returns c =
@@ -34,7 +37,7 @@ returns c =
     let e = d .added .ensures in (
       b2 .both2 .ensures ∙ ap (λ (x : Bool). x && leb (d .added .result .taken) (u .u32-at .result)) (b .both .ensures)
           ∙ sheet-is (s .args .s .now) (s .pre) (d .added .result .right) (d .added .result .taken) (u .u32-at .result) (e .0) (e .1) (u .u32-at .ensures),
-      left-is (s .args .s .now) (s .pre) (d .added .result .right) (d .added .result .taken) (u .u32-at .result) (e .0) (e .1) (u .u32-at .ensures),
+      c .left-of .ensures ∙ left-is (s .args .s .now) (s .pre) (d .added .result .right) (d .added .result .taken) (u .u32-at .result) (e .0) (e .1) (u .u32-at .ensures),
     )
 
 pub summed-spec : {M : Type 1} → statement M
@@ -46,5 +49,6 @@ summed-spec =
     both-requires
     cast-both
     both-requires-2
-    cast-t8
+    cast-left-of
+    left-of-requires
     returns)

@@ -1,8 +1,10 @@
 use mathlib.Core.List.{List, [], _∷_}
-use mathlib.Core.Path.{_≡_, refl, sym, _∙_, ap, subst}
+use mathlib.Core.Path.{_≡_, refl, sym, _∙_, ap, subst₂}
 use Prim.Native.Nat.{ℕ, _≤_, _<_, _^_}
 use native.Mathlib.Omega.{arith}
 use borrow.Author.Needs.{needs}
+use lib.ListN.{length}
+use Rattle.sheet.proofs.SheetLaws.{sheet-facts}
 use Rattle.writes.proofs.WriteLaws.{may-count}
 use Rattle.protocol.specs.Calls.{Writing, write, outcome, resultOf}
 use Rattle.turns.specs.Turns.{Ready}
@@ -20,14 +22,13 @@ start k = k .before .before .before .before .before .before .before .before .bef
 low : (k : tie.After-answer) → start k .args .sum < 64
 low k = omega (arith, k .before .before .before .before .if2 .left, k .before .before .before .before .before .if1 .left)
 
-ready : (k : tie.After-answer) → let s = start k in Ready (s .args .t .now) (s .args .sheet .now) (s .args .order .now) (s .args .sets .now)
+ready : (k : tie.After-answer) → let s = start k in Ready (s .args .t .now) (s .args .sheet .now) (s .args .order .now) (s .args .sets .now) (s .args .left)
 ready k = start k .pre (omega (arith, low k))
 
 answered : (k : tie.After-answer) → let o = outcome (start k .args .t .now) (write (writing (start k))) in (k .answer .result .result ≡ resultOf o) × (k .answer .last .0 ≡ o .table)
 answered k =
     let s = start k in
-    let l = k .before .before .look in
-    let e = k .answer .ensures (0 ∷ []) (s .args .sheet .now) (s .args .club) refl (ready k .right) (l .ensures .1 (l .ensures .0 ∙ ready k .right)) in (e .0, e .1)
+    let e = k .answer .ensures (0 ∷ []) (s .args .sheet .now) (s .args .club) refl (ready k .right) (k .before .before .share-asked .ensures) in (e .0, e .1)
 
 returns : tie.Need-returns
 returns c = let s = c .before .before .before .before in
@@ -40,18 +41,25 @@ returns-2 : tie.Need-returns-2
 returns-2 c = let s = c .before .before .before .before .before .before in
     (ap (λ (k : ℕ). run k (s .args .t .now) (s .args .sheet .now)) (c .result .ensures) ∙ step-65 (writing s) (s .args .t .now) (s .args .sheet .now) (s .args .sum) (c .before .if2 .taken), λ l. absurd (omega (arith, l, c .result .ensures)))
 
-look-requires : tie.Need-look-requires
-look-requires c κs = search needs
+share-asked-requires : tie.Need-share-asked-requires
+share-asked-requires c κs =
+    let s = c .before .before .before .before .before .before in
+    let y = s .pre (omega (arith, c .before .before .if1 .left)) in (sheet-facts (s .args .sheet .now) (y .right) .long, y .spare)
 
 answer-requires : tie.Need-answer-requires
 answer-requires c κs = c .before .before .before .before .before .before .before .before .pre (omega (arith, c .before .before .before .before .if1 .left)) .framed
 
-count-one-requires : tie.Need-count-one-requires
-count-one-requires c κs =
-    let k = c .before .before .before .before .before in may-count (start k .args .t .now) (writing (start k)) _ (answered k .0) (c .before .if3 .taken)
+may : (f : tie.Then3) → let s = start (f .before .before .before .before) in (length (s .args .sheet .now) ≡ 196) × ((1 ≤ s .args .club) × (s .args .club ≤ 16))
+may f = let k = f .before .before .before .before in may-count (start k .args .t .now) (writing (start k)) _ (answered k .0) (f .if3 .taken)
 
-add-result : tie.Need-add-result
-add-result c = search needs
+left-after-requires : tie.Need-left-after-requires
+left-after-requires c κs = may (c .before)
+
+count-one-requires : tie.Need-count-one-requires
+count-one-requires c κs = may (c .before .before .before)
+
+add-t28 : tie.Need-add-t28
+add-t28 c = search needs
 
 same-length : tie.Need-same-length
 same-length c = search needs
@@ -62,17 +70,19 @@ same-length-2 c = search needs
 returns-3 : tie.Need-returns-3
 returns-3 c =
     let w = c .before .before in
-    let f = w .before .before in
+    let d = w .before .before in
+    let f = d .before .before in
     let k = f .before .before .before .before in
     let s = start k in
     let e = answered k in
     let n = w .count-one .ensures in (
       same-run refl refl n ∙ one-done (s .args .t .now) (writing s) (s .args .sum) _ _ (low k) (e .0) (e .1) (f .if3 .taken),
-      λ l. subst (λ (v : List ℕ). Ready (k .answer .last .0) v (s .args .order .now) (s .args .sets .now)) (sym n) (ready-after (s .args .t .now) (s .args .order .now) (s .args .sets .now) (writing s) _ _ (e .0) (e .1) (f .if3 .taken) (ready k)),
+      λ l. subst₂ (λ (v : List ℕ) (m : ℕ). Ready (k .answer .last .0) v (s .args .order .now) (s .args .sets .now) m) (sym n) (sym (d .left-after .ensures))
+          (ready-after (s .args .t .now) (s .args .order .now) (s .args .sets .now) (writing s) _ _ (s .args .left) (e .0) (e .1) (f .if3 .taken) (ready k)),
     )
 
-add-result-2 : tie.Need-add-result-2
-add-result-2 c =
+add-t29 : tie.Need-add-t29
+add-t29 c =
     let f = c .before in
     let k = f .before .before .before .before in
     let s = start k in
@@ -99,14 +109,15 @@ step-spec =
     returns
     result-requires
     returns-2
-    look-requires
+    share-asked-requires
     answer-requires
+    left-after-requires
     count-one-requires
-    add-result
+    add-t28
     same-length
     same-length-2
     returns-3
-    add-result-2
+    add-t29
     same-length-3
     same-length-4
     returns-4)
