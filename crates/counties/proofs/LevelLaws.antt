@@ -25,7 +25,7 @@ pub at-seat : (rows : List ℕ) (q : ℕ → Bool) (k : ℕ) → Within (length 
 unfolding atSeat
 at-seat rows q k w h = rw (le-leb 1 k (w .0), le-leb k (length rows) (w .1)) h
 
-seat-within : (rows : List ℕ) (q : ℕ → Bool) (k : ℕ) → atSeat rows q k ≡ true → Within (length rows) k × (q (getD rows (k - 1) 0) ≡ true)
+pub seat-within : (rows : List ℕ) (q : ℕ → Bool) (k : ℕ) → atSeat rows q k ≡ true → Within (length rows) k × (q (getD rows (k - 1) 0) ≡ true)
 unfolding atSeat
 seat-within rows q k h =
     let w = and-l (leb 1 k && leb k (length rows)) _ h in

@@ -6,7 +6,7 @@ use rows::RowSet;
 ghost use mathlib.Core.Path.{_≡_};
 ghost use mathlib.Core.Bool.{_&&_, cond};
 ghost use Prim.Native.Nat.{ℕ, _+_, _*_, _/_, _^_, _<_};
-ghost use lib.Dec.{eqb};
+ghost use lib.Dec.{eqb, leb};
 ghost use lib.ListN.{length, getD, take};
 ghost use Rattle.sets.specs.Upto.{Within, some};
 ghost use Rattle.sets.specs.Sets.{has};
@@ -93,7 +93,22 @@ fn seated(order: &[u8; 64], count: usize, members: RowSet, positions: RowSet) ->
     set
 }
 
-// Does a set hold a quorum of the members, laid by the mark?
+// The members, if one of them stands in the order; none otherwise.
+fn lone(order: &[u8; 64], count: usize, members: RowSet) -> RowSet
+    requires { ⌜ Listed 64 (now order) count ⌝ }
+    ensures { λ r. ⌜ has (r .bits) ≡ (λ (i : ℕ). has (members .bits) i && leb 1 (length (seats (take count (now (order .entry))) (has (members .bits))))) ⌝ }
+{
+    let mut j = 0;
+    while j < count {
+        if members.at(place_at(order, j)) {
+            return members;
+        }
+        j += 1;
+    }
+    RowSet::EMPTY
+}
+
+// Does a set hold a quorum of the members, laid by the mark? One member needs no grid.
 pub fn quorum(
     kind: Kind,
     order: &[u8; 64],
@@ -105,6 +120,9 @@ pub fn quorum(
     requires { ⌜ Listed count (now order) count ⌝ }
     ensures { λ r. ⌜ r ≡ level kind mark (take count (now (order .entry))) (has (members .bits)) (has (set .bits)) ⌝ }
 {
+    if members.rest().is_empty() {
+        return !lone(order, count, members).cut(set).is_empty();
+    }
     let length = members.size();
     coterie::holds(
         kind,
@@ -114,7 +132,7 @@ pub fn quorum(
     )
 }
 
-// The members that a name chooses, laid by the mark.
+// The members that a name chooses, laid by the mark. One member needs no grid.
 pub fn choice(
     kind: Kind,
     order: &[u8; 64],
@@ -126,6 +144,9 @@ pub fn choice(
     requires { ⌜ Listed count (now order) count ⌝ }
     ensures { λ r. ⌜ has (r .bits) ≡ levelChoice kind mark (take count (now (order .entry))) (has (members .bits)) name ⌝ }
 {
+    if members.rest().is_empty() {
+        return lone(order, count, members);
+    }
     let length = members.size();
     let chosen = coterie::choose(kind, grid::of_mark(mark, length), length, name);
     if members.fills(count) {

@@ -7,11 +7,11 @@ use grouping::inside;
 use quorums::Kind;
 use rows::RowSet;
 ghost use mathlib.Core.Path.{_≡_};
-ghost use mathlib.Core.Bool.{_&&_};
+ghost use mathlib.Core.Bool.{true, _&&_};
 ghost use Prim.Native.Nat.{ℕ};
 ghost use lib.Dec.{leb};
 ghost use lib.ListN.{take};
-ghost use Rattle.sets.specs.Upto.{some};
+ghost use Rattle.sets.specs.Upto.{Within, some};
 ghost use Rattle.sets.specs.Sets.{has};
 ghost use Rattle.table.specs.Contracts.{Listed};
 ghost use Rattle.counties.specs.Levels.{level, levelChoice};
@@ -75,10 +75,16 @@ fn holding(
     out
 }
 
-// Do the counties of a set form a quorum of those that have members?
+// Do the counties of a set form a quorum of those that have members? Where these are the first, each county is its own position.
 fn held_above(kind: Kind, mark: u8, up: RowSet, held: RowSet) -> bool
+    requires { ⌜ ((j : ℕ) → has (up .bits) j ≡ true → Within 8 j) ⌝ }
     ensures { λ r. ⌜ r ≡ level kind mark counties (has (up .bits)) (has (held .bits)) ⌝ }
 {
+    let n = up.size();
+    let first = RowSet::first(n);
+    if up.bits == first.bits {
+        return coterie::holds(kind, grid::of_mark(mark, n), n, held.cut(up));
+    }
     let order = rising();
     lists::quorum(kind, &order, 8, mark, up, held)
 }
@@ -147,10 +153,16 @@ fn chosen_within(
     out
 }
 
-// The counties that a name chooses of those that have members.
+// The counties that a name chooses of those that have members. Where these are the first, each county is its own position.
 fn chosen_above(kind: Kind, mark: u8, up: RowSet, name: u16) -> RowSet
+    requires { ⌜ ((j : ℕ) → has (up .bits) j ≡ true → Within 8 j) ⌝ }
     ensures { λ r. ⌜ has (r .bits) ≡ levelChoice kind mark counties (has (up .bits)) name ⌝ }
 {
+    let n = up.size();
+    let first = RowSet::first(n);
+    if up.bits == first.bits {
+        return coterie::choose(kind, grid::of_mark(mark, n), n, name);
+    }
     let order = rising();
     lists::choice(kind, &order, 8, mark, up, name)
 }

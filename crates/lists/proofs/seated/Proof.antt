@@ -1,12 +1,12 @@
 use mathlib.Core.Bool.{cond, _&&_}
 use mathlib.Core.Path.{_≡_, sym, ap, _∙_}
 use Prim.Native.Nat.{ℕ, _+_, _-_, _/_, _%_, _^_, _≤_, _<_}
-use native.Mathlib.Nat.{mod-eq-of-lt, div-one}
+use native.Mathlib.Nat.{div-one}
 use native.Mathlib.Omega.{arith}
 use borrow.Author.Needs.{needs}
 use lib.ListN.{length, getD, take}
 use lib.Dec.{eqb}
-use Rattle.lists.proofs.SeatLaws.{left-next, seated-next, none-seated}
+use Rattle.lists.proofs.SeatLaws.{row-place, left-next, seated-next, none-seated}
 use Rattle.counties.specs.Levels.{seats, atSeat}
 use Rattle.sets.proofs.SetLaws.{has-empty}
 use Rattle.sets.specs.Sets.{has, gaining}
@@ -23,10 +23,7 @@ abbrev μ-loop : tie.MeasureT-loop
 
 -- the row at hand has a place
 row-here : (c : tie.After-place-at Inv-loop μ-loop) → c .place-at .result % 64 + 1 ≡ getD (c .before .before .before .args .order .now) (c .before .before .loop .j) 0
-row-here c =
-    let s = c .before .before .before in
-    let inside : c .place-at .result < 64 = omega (arith, c .place-at .ensures, s .pre .each (c .before .before .loop .j) (omega arith)) in
-    ap (λ (x : ℕ). x + 1) (mod-eq-of-lt inside) ∙ c .place-at .ensures
+row-here c = let s = c .before .before .before in row-place _ _ (c .place-at .ensures) (s .pre .each (c .before .before .loop .j) (omega arith))
 
 loop-holds : tie.Need-loop-holds Inv-loop μ-loop
 unfolding seats keep

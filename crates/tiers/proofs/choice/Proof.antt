@@ -1,4 +1,4 @@
-use mathlib.Core.Path.{_∙_, ap}
+use mathlib.Core.Path.{sym, _∙_, ap}
 use mathlib.Core.Bool.{Bool, _&&_}
 use Prim.Native.Nat.{ℕ}
 use borrow.Author.Needs.{needs}
@@ -7,6 +7,7 @@ use Rattle.sets.specs.Upto.{some}
 use Rattle.sets.specs.Sets.{has}
 use Rattle.counties.specs.Levels.{levelChoice}
 use Rattle.counties.specs.Counties.{counties, inCounty}
+use Rattle.counties.proofs.TwoLevelLaws.{has-members}
 use Rattle.grouping.specs.Grouped.{countyBy, frameBy}
 use Rattle.tiers.proofs.TierLaws.{choice-in-one, choice-within}
 use Rattle.tiers.proofs.choice.Statement.{statement}
@@ -29,7 +30,9 @@ having-requires : tie.Need-having-requires
 having-requires c κs = search needs
 
 chosen-above-requires : tie.Need-chosen-above-requires
-chosen-above-requires c κs = search needs
+chosen-above-requires c κs =
+    let a = c .before .before .before .args in
+    λ j h. has-members (countyBy (a .sets .now)) (has (a .list .members)) j (ap (λ (f : ℕ → Bool). f j) (sym (c .having .ensures)) ∙ h) .0
 
 chosen-within-requires : tie.Need-chosen-within-requires
 chosen-within-requires c κs = search needs

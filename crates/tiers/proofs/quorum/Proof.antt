@@ -1,4 +1,4 @@
-use mathlib.Core.Path.{_∙_, ap₂}
+use mathlib.Core.Path.{sym, _∙_, ap, ap₂}
 use mathlib.Core.Bool.{Bool}
 use Prim.Native.Nat.{ℕ}
 use borrow.Author.Needs.{needs}
@@ -6,7 +6,8 @@ use lib.ListN.{take}
 use Rattle.sets.specs.Sets.{has}
 use Rattle.counties.specs.Levels.{level}
 use Rattle.counties.specs.Counties.{counties}
-use Rattle.grouping.specs.Grouped.{frameBy}
+use Rattle.counties.proofs.TwoLevelLaws.{has-members}
+use Rattle.grouping.specs.Grouped.{countyBy, frameBy}
 use Rattle.tiers.proofs.TierLaws.{quorum-in-one, quorum-above}
 use Rattle.tiers.proofs.quorum.Statement.{statement}
 use Rattle.tiers.proofs.quorum.Tie as tie
@@ -31,7 +32,9 @@ holding-requires : tie.Need-holding-requires
 holding-requires c κs = search needs
 
 held-above-requires : tie.Need-held-above-requires
-held-above-requires c κs = search needs
+held-above-requires c κs =
+    let a = c .before .before .before .before .args in
+    λ j h. has-members (countyBy (a .sets .now)) (has (a .list .members)) j (ap (λ (f : ℕ → Bool). f j) (sym (c .before .having .ensures)) ∙ h) .0
 
 returns-2 : tie.Need-returns-2
 unfolding frameBy
