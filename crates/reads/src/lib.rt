@@ -39,7 +39,8 @@ fn answer(
     if !both(buffer.len() == count, fits) {
         return answer_of(5, 0, 0);
     }
-    let s = settle::settle(Kind::Read, t, q, order, sets, c, answering);
+    let none = RowSet::EMPTY;
+    let s = settle::settle(Kind::Read, t, q, order, sets, c, answering, none);
     if s.refusal != 0 {
         return answer_of(s.refusal, 0, s.called);
     }

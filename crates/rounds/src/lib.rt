@@ -42,10 +42,21 @@ pub fn round_in(t: &mut [u8], r: u64, list: &[u8], sheet: &mut [u8]) -> u64
     let first = asked(t, sheet, r, n, &mut order, &mut sets);
     let mut sum = result(first.no, 0);
     let mut left = first.left;
+    let mut choices = [0u64; 16];
     let mut k = 0;
     while k < n {
         let at = k * ORDER;
-        let turn = next_in(t, sheet, &order, &sets, r, &list[at..at + ORDER], sum, left);
+        let turn = next_in(
+            t,
+            sheet,
+            &order,
+            &sets,
+            r,
+            &list[at..at + ORDER],
+            sum,
+            left,
+            &mut choices,
+        );
         sum = turn.result;
         left = turn.left;
         k += 1;

@@ -5,7 +5,9 @@ use mathlib.Core.List.{List}
 use Prim.Native.Nat.{ℕ}
 use Rattle.sets.specs.Sets.{has}
 use Rattle.quorums.specs.declared.Kind.{Kind}
+use Rattle.fields.specs.Layout.{nameOf, listOf}
 use Rattle.table.specs.Chain.{frameOf}
+use Rattle.counties.specs.Counties.{listChoice}
 use Rattle.protocol.specs.Polls.{goodVersion, good, current, quorumHeld}
 use Rattle.protocol.specs.Calls.{answers, workSet, calledBy}
 use Rattle.settle.specs.declared.Settled.{Settled}
@@ -17,3 +19,7 @@ pub record Works (kind : Kind) (t : List ℕ) (q c r : ℕ) (s : Settled) : Type
   pub good : has (s .good .bits) ≡ good (answers t q r) (workSet kind t q c r)
   pub version : s .version ≡ goodVersion (answers t q r) (workSet kind t q c r)
   pub called : s .called ≡ calledBy kind t q c r
+
+-- x, where it has a row, is the coordinator's own choice over its own list
+pub record Known (kind : Kind) (t : List ℕ) (c x : ℕ) : Type 0 where
+  pub chosen : (x ≡ 0 → ⊥) → has x ≡ listChoice kind (frameOf t) (listOf t c) (nameOf t c)

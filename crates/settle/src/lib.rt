@@ -1,5 +1,6 @@
 // The set that a call works on: P or R.
 use bools::both;
+use fields::Laid;
 use quorums::Kind;
 use rows::RowSet;
 use verdicts::Verdict;
@@ -14,9 +15,9 @@ ghost use Rattle.sets.specs.Upto.{Within, count};
 ghost use Rattle.sets.specs.Sets.{has};
 ghost use Rattle.fields.specs.Layout.{isEmpty, usedOf, filesOf};
 ghost use Rattle.table.specs.Contracts.{Listed};
-ghost use Rattle.counties.specs.Counties.{listQuorum};
+ghost use Rattle.counties.specs.Counties.{listQuorum, listChoice};
 ghost use Rattle.grouping.specs.Grouped.{Apart, frameBy, Framed};
-ghost use Rattle.settle.specs.Works.{Works};
+ghost use Rattle.settle.specs.Works.{Works, Known};
 
 // The set that a call works on: the first no among questions 6 and 7 (0: none), its good rows and their version, and how many machines were called.
 pub struct Settled {
@@ -71,8 +72,27 @@ fn on_all(
     settled_on(answering, no, whole, count as u8)
 }
 
+// The rows that a name chooses over a list: those known, where there are some.
+fn chosen_unless(
+    known: RowSet,
+    kind: Kind,
+    order: &[u8; 64],
+    count: usize,
+    sets: &[u64; 8],
+    list: Laid,
+    name: u16,
+) -> RowSet
+    requires { ⌜ Listed count (now order) count × Apart (now sets) × ((known .bits ≡ 0 → ⊥) → has (known .bits) ≡ listChoice kind (frameBy (take count (now order)) (now sets)) list name) ⌝ }
+    ensures { λ r. ⌜ has (r .bits) ≡ listChoice kind (frameBy (take count (now (order .entry))) (now (sets .entry))) list name ⌝ }
+{
+    if known.bits == 0 {
+        return tiers::choice(kind, order, count, sets, list, name);
+    }
+    known
+}
+
 // The set that a read or a write of file q works on: P, the coordinator's own choice cut down to the rows that answered, if questions 6 and 7
-// are yes for it; otherwise all of them. `order` and `sets` hold the frame of the table.
+// are yes for it; otherwise all of them. `order` and `sets` hold the frame of the table, `known` the choice where it was made before.
 pub fn settle(
     kind: Kind,
     t: &[u8],
@@ -81,14 +101,15 @@ pub fn settle(
     sets: &[u64; 8],
     c: usize,
     answering: RowSet,
+    known: RowSet,
 ) -> Settled
-    requires { ⌜ Framed (now t) (now order) (now sets) × Within (filesOf (now t)) q × (answering .bits < 2 ^ usedOf (now t)) × (has (answering .bits) c ≡ true) ⌝ }
+    requires { ⌜ Framed (now t) (now order) (now sets) × Within (filesOf (now t)) q × (answering .bits < 2 ^ usedOf (now t)) × (has (answering .bits) c ≡ true) × Known kind (now t) c (known .bits) ⌝ }
     ensures { λ r. ⌜ Works kind (now (t .entry)) q c (answering .bits) r ⌝ }
 {
     let count = header::used(t);
     let row = table::row_of(t, c);
     let own = fields::list(row);
-    let chosen = tiers::choice(kind, order, count, sets, own, fields::name(row));
+    let chosen = chosen_unless(known, kind, order, count, sets, own, fields::name(row));
     let tried = chosen.cut(answering);
     // pointer and length of the table, each by itself: loaded as one, they would wait until the stores of the caller are done
     let lent = &t[0..t.len()];

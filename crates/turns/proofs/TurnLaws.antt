@@ -3,13 +3,18 @@ use mathlib.Core.Path.{_≡_, refl, sym, _∙_, ap, subst}
 use mathlib.Core.Bool.{Bool, true, false, cond}
 use mathlib.Core.List.{List, [], _∷_}
 use Prim.Native.Nat.{ℕ, _≤_, _<_, _+_, _-_, _*_, _^_}
+use native.Mathlib.Decide.{ℕ-discrete}
 use native.Mathlib.Omega.{arith}
 use borrow.Author.Tests.{lt-ltb, le-ltb, ne-eqb}
 use lib.Dec.{ltb}
-use lib.ListN.{take, drop}
+use lib.ListN.{length, getD, take, drop, set, replicate, length-set, getD-replicate}
+use lib.Seq.{getD-set-same, getD-set-other}
+use Rattle.sets.specs.Upto.{Within}
+use Rattle.quorums.specs.declared.Kind.the-variants.{Write}
 use Rattle.bytes.specs.Bytes.{number, part}
 use Rattle.bytes.proofs.ByteLaws.{part-part}
-use Rattle.fields.specs.Layout.{usedOf}
+use Rattle.fields.specs.Layout.{rowBytes, usedOf, listOf}
+use Rattle.fields.proofs.FieldLaws.{head-list}
 use Rattle.table.specs.WellFormed.{between, onlyRows, wellFormed}
 use Rattle.grouping.specs.Grouped.{Framed}
 use Rattle.asking.specs.Asking.{firstNo, result}
@@ -17,13 +22,19 @@ use Rattle.sheet.specs.Sheet.{assuredOf, countOf, sheetRight, counted}
 use Rattle.sheet.specs.Claims.{CountsOne}
 use Rattle.sheet.proofs.SheetLaws.{counts-one}
 use Rattle.protocol.specs.Calls.{Writing, write, outcome, resultOf}
-use Rattle.protocol.specs.Claims.{ResultTells}
+use Rattle.protocol.specs.Claims.{ResultTells, OtherFilesStay, writesFile, byWrite}
 use Rattle.protocol.proofs.Claimed.{result-tells}
+use Rattle.protocol.proofs.FrameKept.{call-frame}
+use Rattle.protocol.proofs.FrameLaws.{same-used, same-frame}
+use Rattle.protocol.proofs.OtherFiles.{other-files-stay}
+use Rattle.protocol.proofs.Unanswered.{first-part}
 use Rattle.protocol.proofs.QuestionLaws.{refusal-is, when-refused, write-yes}
+use Rattle.settle.specs.Works.{Known}
+use Rattle.settle.proofs.SettleLaws.{known-none}
 use Rattle.writes.proofs.WriteLaws.{counted-or-not, write-framed}
 use Rattle.ordering.specs.declared.Order.{Order}
 use Rattle.ordering.specs.Rounds.{patchOf, writing, orderIn}
-use Rattle.turns.specs.Turns.{Run, stepped, turn, firstQuestions, Ready}
+use Rattle.turns.specs.Turns.{Run, stepped, turn, firstQuestions, Kept, Ready}
 
 abbrev pub run : ℕ → List ℕ → List ℕ → Run
 run n t s = record { result = n; table = t; sheet = s }
@@ -78,17 +89,46 @@ module _ (t : List ℕ) (a : Writing) (n x : ℕ) (u : List ℕ) (low : n < 64) 
   pub sum-fits : 2 ^ 32 ≤ x → x < 2 ^ 64 → x + n < 2 ^ 64
   sum-fits h f = omega (arith, refusal-alone h)
 
+-- ---- the choices kept
+pub kept-none : (t : List ℕ) → Kept t (replicate 16 0)
+kept-none t = record { long = refl; known = λ i w l. rw (getD-replicate {A = ℕ} 16 (i - 1) 0 0 (omega arith)) (known-none Write t i) }
+
+pub kept-more : (t xs : List ℕ) (c x : ℕ) → 1 ≤ c → c ≤ 16 → Known Write t c x → Kept t xs → Kept t (set xs (c - 1) x)
+kept-more t xs c x low high k y = record { long = length-set xs (c - 1) x ∙ y .long; known = λ i w l. go i w l (ℕ-discrete i c) }
+  where
+    go : (i : ℕ) → Within (usedOf t) i → i ≤ 16 → Dec (i ≡ c) → Known Write t i (getD (set xs (c - 1) x) (i - 1) 0)
+    go i w l (yes e) = rw (e, getD-set-same xs (c - 1) x 0 (omega (arith, y .long))) k
+    go i w l (no d) = rw (getD-set-other xs (c - 1) (i - 1) x 0 (λ q. d (omega arith))) (y .known i w l)
+
+-- a write leaves names and lists as they are, and so the choices
+list-stays : (t : List ℕ) (a : Writing) (i : ℕ) → Within (usedOf t) i → listOf (outcome t (write a) .table) i ≡ listOf t i
+unfolding OtherFilesStay listOf
+list-stays t a i w =
+    let u = outcome t (write a) .table in
+    let h = other-files-stay t (write a) (a .file) writesFile .heads i w in
+    head-list (rowBytes t i) (rowBytes u i) (λ b m r. sym (first-part 32 b m (rowBytes u i) r) ∙ ap (part b m) h ∙ first-part 32 b m (rowBytes t i) r)
+
+kept-after : (t xs : List ℕ) (a : Writing) → Kept t xs → Kept (outcome t (write a) .table) xs
+kept-after t xs a y =
+    let f = call-frame t (write a) (a .r) byWrite in record {
+      long = y .long;
+      known = λ i w l.
+          let v : Within (usedOf t) i = rw (same-used f) at w in
+          record { chosen = λ d. rw (same-frame f, f .names, list-stays t a i v) (y .known i v l .chosen d) };
+    }
+
 -- a done write leaves all as question 1 wants it, and of the remainder one less where the club was not below its assured number
-pub ready-after : (t order sets : List ℕ) (a : Writing) (x : ℕ) (u : List ℕ) (left : ℕ) → x ≡ resultOf (outcome t (write a)) → u ≡ outcome t (write a) .table → x < 2 ^ 32
-    → Ready t (a .sheet) order sets left → Ready u (counted (a .sheet) (a .club)) order sets (left - cond (ltb (countOf (a .sheet) (a .club)) (assuredOf (a .sheet) (a .club))) 0 1)
+pub ready-after : (t order sets : List ℕ) (a : Writing) (x : ℕ) (u : List ℕ) (left : ℕ) (choices : List ℕ) → x ≡ resultOf (outcome t (write a)) → u ≡ outcome t (write a) .table → x < 2 ^ 32
+    → Ready t (a .sheet) order sets left choices → Ready u (counted (a .sheet) (a .club)) order sets (left - cond (ltb (countOf (a .sheet) (a .club)) (assuredOf (a .sheet) (a .club))) 0 1) choices
 unfolding resultOf CountsOne
-ready-after t order sets a x u left answered done h y =
+ready-after t order sets a x u left choices answered done h y =
     let e : outcome t (write a) .refusal ≡ 0 = omega (arith, answered) in
     let one = counts-one (a .sheet) (a .club) (y .right) (write-yes t a (sym (refusal-is t (write a)) ∙ e) .club) in
     record {
       framed = subst (λ (v : List ℕ). Framed v order sets) (sym done) (write-framed a (y .framed));
       right = one .right;
       spare = omega (arith, y .spare, one .remainder, one .beyond);
+      kept = subst (λ (v : List ℕ). Kept v choices) (sym done) (kept-after t choices a (y .kept));
     }
 
 -- ---- what is asked before the first order

@@ -2,14 +2,18 @@
 use mathlib.Core.Path.{_≡_}
 use mathlib.Core.Bool.{true, cond, _||_}
 use mathlib.Core.List.{List, [], _∷_}
-use Prim.Native.Nat.{ℕ, _+_, _-_}
+use Prim.Native.Nat.{ℕ, _+_, _-_, _≤_}
 use lib.Dec.{eqb, ltb}
+use lib.ListN.{length, getD}
+use Rattle.sets.specs.Upto.{Within}
+use Rattle.quorums.specs.declared.Kind.the-variants.{Write}
 use Rattle.fields.specs.Layout.{usedOf}
 use Rattle.table.specs.WellFormed.{onlyRows, wellFormed}
 use Rattle.grouping.specs.Grouped.{Framed}
 use Rattle.asking.specs.Asking.{Question, firstNo, result}
 use Rattle.sheet.specs.Sheet.{remainder, allBeyond, sheetRight}
 use Rattle.protocol.specs.Calls.{Writing, write, outcome}
+use Rattle.settle.specs.Works.{Known}
 use Rattle.ordering.specs.declared.Order.{Order}
 use Rattle.ordering.specs.Rounds.{writing}
 
@@ -39,8 +43,14 @@ firstQuestions t s r n =
     ∷ record { ask = 2; yes = ltb 0 n || onlyRows (usedOf t) r }
     ∷ []
 
--- what question 1 has shown of the sheet and the table, and what is left of the sheet's remainder
-pub record Ready (t s order sets : List ℕ) (left : ℕ) : Type 0 where
+-- the choices for a write that were made for the first 16 rows; 0 at the place of a row for which none was
+pub record Kept (t choices : List ℕ) : Type 0 where
+  pub long : length choices ≡ 16
+  pub known : (i : ℕ) → Within (usedOf t) i → i ≤ 16 → Known Write t i (getD choices (i - 1) 0)
+
+-- what question 1 has shown of the sheet and the table, what is left of the sheet's remainder, and the choices made
+pub record Ready (t s order sets : List ℕ) (left : ℕ) (choices : List ℕ) : Type 0 where
   pub framed : Framed t order sets
   pub right : sheetRight s ≡ true
   pub spare : left ≡ remainder s - allBeyond s
+  pub kept : Kept t choices

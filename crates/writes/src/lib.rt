@@ -15,13 +15,15 @@ ghost use Prim.Native.Nat.{ℕ, _^_, _<_};
 ghost use lib.Dec.{eqb, ltb};
 ghost use lib.ListN.{length};
 ghost use Rattle.sets.specs.Upto.{Within};
+ghost use Rattle.quorums.specs.declared.Kind.the-variants.{Write};
 ghost use Rattle.grouping.specs.Grouped.{Framed};
 ghost use Rattle.asking.specs.Asking.{firstNo};
 ghost use Rattle.sheet.specs.Sheet.{sheetRight, byClub, counted};
 ghost use Rattle.protocol.specs.Calls.{resultOf, outcome, write, noted};
+ghost use Rattle.settle.specs.Works.{Known};
 
 // A write into a well-formed table by a right sheet, all but its notes: `order` and `sets` hold the table's frame, `fits` says whether one byte is lent for how many
-// machines were called, `share` what the sheet says to the club.
+// machines were called, `share` what the sheet says to the club, `known` holds the coordinator's choice where it was made before.
 pub fn answer(
     t: &mut [u8],
     order: &[u8; 64],
@@ -33,8 +35,9 @@ pub fn answer(
     fits: bool,
     q: usize,
     share: u32,
+    known: RowSet,
 ) -> Answered
-    requires { ⌜ Framed (now t) (now order) (now sets) ⌝ }
+    requires { ⌜ Framed (now t) (now order) (now sets) × Known Write (now t) c (known .bits) ⌝ }
     ensures { λ x. ⌜ ((called sheet : List ℕ) (club : ℕ) → fits ≡ eqb (length called) 1 → sheetRight sheet ≡ true → share ≡ firstNo (byClub sheet club []) → (let o = outcome (now (t .entry)) (write (record { c = c; r = r; offset = offset; patch = now (patch .entry); called = called; file = q; sheet = sheet; club = club })) in (x .result ≡ resultOf o) × (now (t .exit) ≡ o .table) × (noted called (x .called) ≡ o .called))) ⌝ }
 {
     let answering = RowSet { bits: r };
@@ -45,7 +48,7 @@ pub fn answer(
     if !fits {
         return answer_of(5, 0, 0);
     }
-    let s = settle::settle(Kind::Write, t, q, order, sets, c, answering);
+    let s = settle::settle(Kind::Write, t, q, order, sets, c, answering, known);
     if s.refusal != 0 {
         return answer_of(s.refusal, 0, s.called);
     }
@@ -104,6 +107,7 @@ pub fn write(
         fits,
         file as usize,
         told.no,
+        RowSet::EMPTY,
     );
     questions::note(called, a.called);
     count_done(sheet, club, a.result);

@@ -18,6 +18,7 @@ use Rattle.protocol.proofs.QuestionLaws.{ByCoordinator}
 use Rattle.questions.specs.Stages.{toRange, aRead}
 use Rattle.questions.specs.declared.Answered.{Answered}
 use Rattle.questions.proofs.QuestionLaws.{range-passed, called-early, called-long, called-by}
+use Rattle.settle.proofs.SettleLaws.{known-none}
 use Rattle.reads.proofs.ReadLaws.{read-early, read-long, read-no, source-used, range-in, read-done}
 use Rattle.reads.proofs.answer.Statement.{statement}
 use Rattle.reads.proofs.answer.Tie as tie
@@ -98,7 +99,7 @@ settle-requires : tie.Need-settle-requires
 settle-requires c κs =
     let e = c .before .before in
     let y = asked e in
-    (e .before .before .before .before .pre, grouped e, y .rows, y .answered)
+    (e .before .before .before .before .pre, grouped e, y .rows, y .answered, known-none _ _ _)
 
 answer-of-requires-3 : tie.Need-answer-of-requires-3
 answer-of-requires-3 c κs = search needs

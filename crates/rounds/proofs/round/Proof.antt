@@ -126,7 +126,7 @@ record State (r : ℕ) (xs : List ℕ) (ys : List Order) (ws : List ℕ) : Type 
   sheet : List ℕ
   within : i ≤ length ys
   so-far : after r (run (at .result) table sheet) (drop i ys) ≡ after r (opened r xs ws (length ys)) ys
-  ready : at .result ≤ 64 → Ready table sheet (at .order) (at .sets) (at .left)
+  ready : at .result ≤ 64 → Ready table sheet (at .order) (at .sets) (at .left) (at .choices)
   wide : length xs ≡ length table
   long : length ws ≡ length sheet
   fits : Is SR at (machS at ∷ [])
@@ -266,7 +266,7 @@ module _ {M : Type 1} (𝓤 : URA M) (H : Heap 𝓤) (A : Atoms 𝓤) (W : Given
   abbrev to-next : ℕ → ℕ → GName → GName → List ℕ → List ℕ → Order → Standing → Next 𝓤 H A mem run″ .Ghost
   to-next ν ν′ δ δ′ zs vs x k = (((ν ∷ [], (ν′ ∷ [], tt)), (fullShare, (fullShare, tt)), tt, next-args δ δ′ zs vs x k, (tv (length xs) ∷ [], (wv (length ws) ∷ [], (vint w64 r ∷ [], (mach x ∷ [], (machS k ∷ [], tt)))))), tt)
 
-  goes-next : (ν ν′ : ℕ) (δ δ′ : GName) (zs vs : List ℕ) (x : Order) (k : Standing) → (k .result ≤ 64 → Ready zs vs (k .order) (k .sets) (k .left)) → r < 2 ^ 64 → Is SR k (machS k ∷ []) → Is R x (mach x ∷ [])
+  goes-next : (ν ν′ : ℕ) (δ δ′ : GName) (zs vs : List ℕ) (x : Order) (k : Standing) → (k .result ≤ 64 → Ready zs vs (k .order) (k .sets) (k .left) (k .choices)) → r < 2 ^ 64 → Is SR k (machS k ∷ []) → Is R x (mach x ∷ [])
       → ent 𝓤 (Handed ν ν′ δ δ′ zs vs) (Next 𝓤 H A mem run″ .pre (to-next ν ν′ δ δ′ zs vs x k))
   goes-next ν ν′ δ δ′ zs vs x k ready r-fits fits g =
       qed W ((‵ (flft (ν ∷ []) fullShare) ⊛ ‵ (flft (ν′ ∷ []) fullShare)) ∷ ‵ (LentT ν δ zs (length xs)) ∷ ‵ (LentS ν′ δ′ vs (length ws)) ∷ []) ∵ split ! $ says ! ready $
@@ -350,8 +350,8 @@ module _ {M : Type 1} (𝓤 : URA M) (H : Heap 𝓤) (A : Atoms 𝓤) (W : Given
         -- [what next asks; what is kept of the sheet, of the table; κ₁; what the list owns; _19; …]
         calls-at ! (fmOf 𝓤 H (W .laws) 𝓣) (Next 𝓤 H A mem run″) known-next (to-next ν ν′ δ δ′ (i .table) (i .sheet) x c) (and-then ! (load ! (from ! (stop !)) (look ! 13 refl)) (and-then ! (load ! (from ! (stop !)) (look ! 9 refl)) (and-then ! (load ! (from ! (stop !)) (look ! 39 refl)) (and-then ! (load ! (from ! (stop !)) (look ! 5 refl)) (and-then ! (load ! (from ! (stop !)) (look ! 33 refl)) (no-more !)))))) (λ u.
         use1 W (later (some (λ (k : Standing). ((‵ (flft (ν ∷ []) fullShare) ⊛ ‵ (flft (ν′ ∷ []) fullShare) ⊛ ‵ ftrue) ⊛ ‵ (SR .own k (u ∷ []))) ⊛ raw (ensured 𝓤 H A next.ended (next.clauses 𝓤 H A mem run″) (ν ∷ [], (ν′ ∷ [], tt)) (next-args δ δ′ (i .table) (i .sheet) x c) tt k)))) (id⊢ 𝓤 _) $ await ! tt $ pick ! (λ k.
-        split ! $ move ! (1 ∷ []) $ use1 W (some (λ (zs : List ℕ × (List ℕ × (Unit {0} × (Unit {0} × (Unit {0} × Unit {0}))))). ‵ (lasts next.ended (ν ∷ [], (ν′ ∷ [], tt)) (next-args δ δ′ (i .table) (i .sheet) x c) zs) ⊛ raw (fact 𝓤 ((run (k .result) (zs .0) (zs .1 .0) ≡ turn r (run (c .result) (i .table) (i .sheet)) x) × (k .result ≤ 64 → Ready (zs .0) (zs .1 .0) (k .order) (k .sets) (k .left)))))) (id⊢ 𝓤 _) $ pick ! (λ zs.
-        split ! $ move ! (1 ∷ []) $ heard ! ((run (k .result) (zs .0) (zs .1 .0) ≡ turn r (run (c .result) (i .table) (i .sheet)) x) × (k .result ≤ 64 → Ready (zs .0) (zs .1 .0) (k .order) (k .sets) (k .left))) (λ e.
+        split ! $ move ! (1 ∷ []) $ use1 W (some (λ (zs : List ℕ × (List ℕ × (Unit {0} × (Unit {0} × (Unit {0} × Unit {0}))))). ‵ (lasts next.ended (ν ∷ [], (ν′ ∷ [], tt)) (next-args δ δ′ (i .table) (i .sheet) x c) zs) ⊛ raw (fact 𝓤 ((run (k .result) (zs .0) (zs .1 .0) ≡ turn r (run (c .result) (i .table) (i .sheet)) x) × (k .result ≤ 64 → Ready (zs .0) (zs .1 .0) (k .order) (k .sets) (k .left) (k .choices)))))) (id⊢ 𝓤 _) $ pick ! (λ zs.
+        split ! $ move ! (1 ∷ []) $ heard ! ((run (k .result) (zs .0) (zs .1 .0) ≡ turn r (run (c .result) (i .table) (i .sheet)) x) × (k .result ≤ 64 → Ready (zs .0) (zs .1 .0) (k .order) (k .sets) (k .left) (k .choices))) (λ e.
         fsplit ! $ fsplit ! $ move ! (1 ∷ []) $ feqL ! (λ lt. move ! (1 ∷ []) $ fsplit ! $ fsplit ! $ move ! (1 ∷ []) $ feqL ! (λ ls.
         -- [the sheet's last list; …; the table's; the tokens and the result; what is kept of the sheet, of the table; κ₁; what the list owns; _19; …]
         move ! (3 ∷ []) $ split ! $ move ! (1 ∷ []) $ peeks ! SR (Is SR) (shows 𝓤 H A SR) k (u ∷ []) (λ is.
@@ -400,8 +400,8 @@ module _ {M : Type 1} (𝓤 : URA M) (H : Heap 𝓤) (A : Atoms 𝓤) (W : Given
       -- [what begin asks; what is kept of the sheet, of the table; true; κ₁; what the list owns; _19; …]
       calls-at ! (fmOf 𝓤 H (W .laws) 𝓣) (Begin 𝓤 H A mem run″) known-begin (to-begin ν ν′ δ δ′) (and-then ! (load ! (from ! (stop !)) (look ! 28 refl)) (and-then ! (load ! (from ! (stop !)) (look ! 24 refl)) (and-then ! (load ! (from ! (stop !)) (look ! 40 refl)) (and-then ! (load ! (from ! (stop !)) (look ! 22 refl)) (no-more !))))) (λ u.
       use1 W (later (some (λ (k : Standing). ((‵ (flft (ν ∷ []) fullShare) ⊛ ‵ (flft (ν′ ∷ []) fullShare) ⊛ ‵ ftrue) ⊛ ‵ (SR .own k (u ∷ []))) ⊛ raw (ensured 𝓤 H A begin.ended (begin.clauses 𝓤 H A mem run″) (ν ∷ [], (ν′ ∷ [], tt)) (begin-args δ δ′) tt k)))) (id⊢ 𝓤 _) $ await ! tt $ pick ! (λ k.
-      split ! $ move ! (1 ∷ []) $ use1 W (some (λ (zs : List ℕ × (List ℕ × (Unit {0} × (Unit {0} × Unit {0})))). ‵ (lasts begin.ended (ν ∷ [], (ν′ ∷ [], tt)) (begin-args δ δ′) zs) ⊛ raw (fact 𝓤 ((k .result ≡ result (firstNo (firstQuestions xs ws r n)) 0) × (k .result ≤ 64 → Ready (zs .0) (zs .1 .0) (k .order) (k .sets) (k .left)) × (zs .0 ≡ xs) × (zs .1 .0 ≡ ws))))) (id⊢ 𝓤 _) $ pick ! (λ zs.
-      split ! $ move ! (1 ∷ []) $ heard ! ((k .result ≡ result (firstNo (firstQuestions xs ws r n)) 0) × (k .result ≤ 64 → Ready (zs .0) (zs .1 .0) (k .order) (k .sets) (k .left)) × (zs .0 ≡ xs) × (zs .1 .0 ≡ ws)) (λ e.
+      split ! $ move ! (1 ∷ []) $ use1 W (some (λ (zs : List ℕ × (List ℕ × (Unit {0} × (Unit {0} × Unit {0})))). ‵ (lasts begin.ended (ν ∷ [], (ν′ ∷ [], tt)) (begin-args δ δ′) zs) ⊛ raw (fact 𝓤 ((k .result ≡ result (firstNo (firstQuestions xs ws r n)) 0) × (k .result ≤ 64 → Ready (zs .0) (zs .1 .0) (k .order) (k .sets) (k .left) (k .choices)) × (zs .0 ≡ xs) × (zs .1 .0 ≡ ws))))) (id⊢ 𝓤 _) $ pick ! (λ zs.
+      split ! $ move ! (1 ∷ []) $ heard ! ((k .result ≡ result (firstNo (firstQuestions xs ws r n)) 0) × (k .result ≤ 64 → Ready (zs .0) (zs .1 .0) (k .order) (k .sets) (k .left) (k .choices)) × (zs .0 ≡ xs) × (zs .1 .0 ≡ ws)) (λ e.
       fsplit ! $ fsplit ! $ move ! (1 ∷ []) $ feqL ! (λ lt. move ! (1 ∷ []) $ fsplit ! $ fsplit ! $ move ! (1 ∷ []) $ feqL ! (λ ls.
       move ! (3 ∷ []) $ split ! $ move ! (1 ∷ []) $ peeks ! SR (Is SR) (shows 𝓤 H A SR) k (u ∷ []) (λ is.
       land ! (from ! (stop !)) (init ! 38 refl (LL.lawful S.the-type S′.the-laws 𝓤 H A W .typed k _ is .0)) $ rewrite ! 38 (λ (w : Val). ‵ (fat fullShare S′.mir l₅ 0 w)) (value k u is) refl $

@@ -10,10 +10,10 @@ use Rattle.rounds.proofs.round_in.Statement.{statement}
 use Rattle.rounds.proofs.round_in.Tie as tie
 
 abbrev Inv-loop : tie.InvT-loop
-Inv-loop t₀ r list sheet₀ order sets n sum₀ left₀ k₀ t sheet sum left k = (k ≤ n) × (length t ≡ length t₀) × (length sheet ≡ length sheet₀) × (sum ≤ 64 → Ready t sheet order sets left) × Left t₀ sheet₀ r list n k sum t sheet
+Inv-loop t₀ r list sheet₀ order sets n sum₀ left₀ choices₀ k₀ t sheet sum left choices k = (k ≤ n) × (length t ≡ length t₀) × (length sheet ≡ length sheet₀) × (sum ≤ 64 → Ready t sheet order sets left choices) × Left t₀ sheet₀ r list n k sum t sheet
 
 abbrev μ-loop : tie.MeasureT-loop
-μ-loop t₀ r list sheet₀ order sets n sum₀ left₀ k₀ t sheet sum left k = n - k
+μ-loop t₀ r list sheet₀ order sets n sum₀ left₀ choices₀ k₀ t sheet sum left choices k = n - k
 
 short : (c : tie.Start Inv-loop μ-loop) → length (c .args .list .now) < 2 ^ 64
 short c = search needs
@@ -90,11 +90,11 @@ part-next-in-end : tie.Need-part-next-in-end Inv-loop μ-loop
 part-next-in-end c = search needs
 
 next-in-requires : tie.Need-next-in-requires Inv-loop μ-loop
-next-in-requires c κs = (c .before .before .before .before .before .before .loop .inv .3, search needs)
+next-in-requires c κs = (c .before .before .before .before .before .before .before .loop .inv .3, search needs)
 
 add-k : tie.Need-add-k Inv-loop μ-loop
 add-k c =
-    let i = c .before .before .before .before .before .before .before .before .before .before in
+    let i = c .before .before .before .before .before .before .before .before .before .before .before in
     record { fits = omega (arith, i .loop-test .taken, short (i .before .before .before .before .before .before .before .before .before .before .before .before)) }
 
 loop-less : tie.Need-loop-less Inv-loop μ-loop
@@ -103,7 +103,7 @@ loop-less c = search needs
 loop-again : tie.Need-loop-again Inv-loop μ-loop
 loop-again c =
     let w = c .before .before .before .before in
-    let i = w .before .before .before .before .before .before in
+    let i = w .before .before .before .before .before .before .before in
     let l = i .before .loop in
     let a = i .before .before .before .before .before .before .before .before .before .before .before .before .args in (
       omega arith,

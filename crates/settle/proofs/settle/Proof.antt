@@ -9,7 +9,7 @@ use borrow.Author.Needs.{needs}
 use borrow.Author.Tests.{eqb-true}
 use lib.ListN.{length, take}
 use lib.Seq.{take-all}
-use Rattle.settle.proofs.SettleLaws.{sure-held, try-in, works-on-try, works-on-all, alone}
+use Rattle.settle.proofs.SettleLaws.{sure-held, choice-of, try-in, works-on-try, works-on-all, alone}
 use Rattle.verdicts.specs.Judged.{Judged}
 use Rattle.protocol.specs.Calls.{answers}
 use Rattle.protocol.specs.Polls.{polled, ownTry}
@@ -46,18 +46,21 @@ own-is : (c : tie.After-list) → c .list .result ≡ listOf (c .before .before 
 unfolding listOf
 own-is c = c .list .ensures ∙ ap list (c .before .row-of .ensures .0)
 
-chosen-is : (c : tie.After-choice) → let a = c .before .before .before .before .before .before .args in
-    has (c .choice .result .bits) ≡ listChoice (a .kind) (frameOf (a .t .now)) (listOf (a .t .now) (a .c)) (nameOf (a .t .now) (a .c))
-unfolding nameOf
-chosen-is c =
-    let a = c .before .before .before .before .before .before .args in
-    c .choice .ensures
-    ∙ ap₂ (λ (f : Frame) (l : Laid). listChoice (a .kind) f l (c .before .name .result)) (frame-is (c .before .before .before .before)) (own-is (c .before .before))
-    ∙ ap (listChoice (a .kind) (frameOf (a .t .now)) (listOf (a .t .now) (a .c))) (c .before .name .ensures ∙ ap (get name) (c .before .before .before .row-of .ensures .0))
+choice-is : (c : tie.After-name) → let a = c .before .before .before .before .before .args in
+    listChoice (a .kind) (frameBy (take (c .before .before .before .used .result) (a .order .now)) (a .sets .now)) (c .before .list .result) (c .name .result)
+    ≡ listChoice (a .kind) (frameOf (a .t .now)) (listOf (a .t .now) (a .c)) (nameOf (a .t .now) (a .c))
+choice-is c =
+    let w = c .before .before in
+    let s = w .before .before .before in
+    choice-of (s .args .kind) _ (s .args .c) _ _ (s .pre .0) (w .before .used .ensures) (w .row-of .ensures .0) (c .before .list .ensures) (c .name .ensures)
+
+chosen-is : (c : tie.After-chosen-unless) → let a = c .before .before .before .before .before .before .args in
+    has (c .chosen-unless .result .bits) ≡ listChoice (a .kind) (frameOf (a .t .now)) (listOf (a .t .now) (a .c)) (nameOf (a .t .now) (a .c))
+chosen-is c = c .chosen-unless .ensures ∙ choice-is (c .before)
 
 -- over the list that it says it has
-chosen-said : (c : tie.After-choice) → let a = c .before .before .before .before .before .before .args in
-    has (c .choice .result .bits) ≡ listChoice (a .kind) (frameOf (a .t .now)) (answers (a .t .now) (a .q) (a .answering .bits) .list (a .c)) (nameOf (a .t .now) (a .c))
+chosen-said : (c : tie.After-chosen-unless) → let a = c .before .before .before .before .before .before .args in
+    has (c .chosen-unless .result .bits) ≡ listChoice (a .kind) (frameOf (a .t .now)) (answers (a .t .now) (a .q) (a .answering .bits) .list (a .c)) (nameOf (a .t .now) (a .c))
 unfolding answers polled
 chosen-said c =
     let s = c .before .before .before .before .before .before in
@@ -113,8 +116,8 @@ sure c =
     let t = s .args .t .now in
     let k = c .before .before .before .before .before .if1 .taken in
     let both = sym (c .before .both .ensures) ∙ c .if2 .taken in
-    let whole : has (p .cut .result .bits) ≡ has (p .before .choice .result .bits) = ap has (eqb-true _ _ (and-l _ _ both)) in
-    let force : j .judged .result .list ≡ listOf t (s .args .c) = c .before .before .same .ensures .0 (and-r (eqb (p .cut .result .bits) (p .before .choice .result .bits)) _ both) ∙ own-is o in
+    let whole : has (p .cut .result .bits) ≡ has (p .before .chosen-unless .result .bits) = ap has (eqb-true _ _ (and-l _ _ both)) in
+    let force : j .judged .result .list ≡ listOf t (s .args .c) = c .before .before .same .ensures .0 (and-r (eqb (p .cut .result .bits) (p .before .chosen-unless .result .bits)) _ both) ∙ own-is o in
     and-i _ _ k
     (rw (frame-is u, force) (sure-held (s .args .kind) t (s .args .q) (p .cut .result .bits) _ (listOf t (s .args .c)) (s .pre .0 .formed) (formed t (s .pre .0 .formed) .heads _ (own-used u) .only) (whole ∙ chosen-is (p .before)) (sym (alone-part j .current) ∙ k)))
 
@@ -144,8 +147,9 @@ list-requires c κs = search needs
 name-requires : tie.Need-name-requires
 name-requires c κs = search needs
 
-choice-requires : tie.Need-choice-requires
-choice-requires c κs = let u = c .before .before .before in (listed u, u .before .before .pre .0 .grouped .apart)
+chosen-unless-requires : tie.Need-chosen-unless-requires
+chosen-unless-requires c κs = let u = c .before .before .before in
+    (listed u, u .before .before .pre .0 .grouped .apart, λ d. u .before .before .pre .4 .chosen d ∙ sym (choice-is c))
 
 cut-requires : tie.Need-cut-requires
 cut-requires c κs = search needs
@@ -235,7 +239,7 @@ settle-spec =
     row-of-requires
     list-requires
     name-requires
-    choice-requires
+    chosen-unless-requires
     cut-requires
     sub-lent
     part-lent-start

@@ -8,7 +8,7 @@ use Rattle.table.proofs.WellFormedLaws.{sized, long, few-rows}
 use Rattle.fields.specs.Layout.{usedOf}
 use Rattle.table.specs.WellFormed.{onlyRows, wellFormed}
 use Rattle.sheet.specs.Sheet.{remainder, allBeyond, sheetRight}
-use Rattle.turns.proofs.TurnLaws.{asks-sheet, asks-table, asks-no-more, asks-rows}
+use Rattle.turns.proofs.TurnLaws.{kept-none, asks-sheet, asks-table, asks-no-more, asks-rows}
 use Rattle.turns.proofs.asked.Statement.{statement}
 use Rattle.turns.proofs.asked.Tie as tie
 
@@ -46,7 +46,7 @@ returns-2 c = let o = c .before in let e = first o in let a = start (e .before) 
 
 returns-3 : tie.Need-returns-3
 returns-3 c = let f = c .before in let e = first (f .before) in let a = start (e .before) .args in
-    (asks-no-more (a .t .now) (a .sheet .now) (a .r) (a .n) (right e) (formed f) (c .if3 .taken), λ z. record { framed = f .before .ordered .ensures .1 (not-false _ (f .if2 .left)); right = right e; spare = spare e })
+    (asks-no-more (a .t .now) (a .sheet .now) (a .r) (a .n) (right e) (formed f) (c .if3 .taken), λ z. record { framed = f .before .ordered .ensures .1 (not-false _ (f .if2 .left)); right = right e; spare = spare e; kept = kept-none _ })
 
 used-requires : tie.Need-used-requires
 used-requires c κs = long (sized (formed (c .before)))
@@ -56,7 +56,7 @@ only-rows-requires c κs = omega (arith, c .used .ensures, few-rows (sized (form
 
 returns-4 : tie.Need-returns-4
 returns-4 c = let k = c .before in let f = k .before .before .before in let e = first (f .before) in let a = start (e .before) .args in
-    (asks-rows (a .t .now) (a .sheet .now) (a .r) (a .n) true (right e) (formed f) (omega arith) (sym (rows k) ∙ c .if4 .taken), λ z. record { framed = f .before .ordered .ensures .1 (not-false _ (f .if2 .left)); right = right e; spare = spare e })
+    (asks-rows (a .t .now) (a .sheet .now) (a .r) (a .n) true (right e) (formed f) (omega arith) (sym (rows k) ∙ c .if4 .taken), λ z. record { framed = f .before .ordered .ensures .1 (not-false _ (f .if2 .left)); right = right e; spare = spare e; kept = kept-none _ })
 
 returns-5 : tie.Need-returns-5
 returns-5 c = let k = c .before in let f = k .before .before .before in let e = first (f .before) in let a = start (e .before) .args in

@@ -28,7 +28,7 @@ part-step-start c = search needs
 
 part-step-end : tie.Need-part-step-end
 part-step-end c =
-    let a = c .before .before .before .before .before .before .before .before .before .before .before .before .before in
+    let a = c .before .before .before .before .before .before .before .before .before .before .before .before .before .before in
     let e : length (map (λ (v : ℕ). v) (a .args .o .bytes)) ≡ 8 = a .good .1 .1 .1 .0 .1 .1 .1 .1 .1 .0 .1 .0 .1 in omega (arith, e, length-map (a .args .o .bytes) (λ (v : ℕ). v), c .before .before .before .before .before .before .before .bytes-in .ensures .1)
 
 cast-step-3 : tie.Need-cast-step-3
@@ -50,8 +50,8 @@ returns : tie.Need-returns
 unfolding turn patchOf
 returns c =
     let w = c .before .before .before .before in
-    let b = w .before .before .before .before .before .before .before .before .before .before .before in
-    let s = b .before .before .before .before .before .before in
+    let b = w .before .before .before .before .before .before .before .before .before .before .before .before in
+    let s = b .before .before .before .before .before .before .before in
     let a = s .args in
     let e = patch-is (a .o .length) (b .bytes-in .result) (a .o .bytes) (b .bytes-in .ensures .0) in
     (w .step .ensures .0 ∙ ap (stepped (run (a .s .result) (a .t .now) (a .sheet .now))) (order-writes (a .r) (a .sheet .now) (a .o) _ (ap (λ (n : ℕ). take n (a .o .bytes)) (sub-zero (b .bytes-in .result)) ∙ e)), w .step .ensures .1)

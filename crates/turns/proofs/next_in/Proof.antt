@@ -61,7 +61,7 @@ returns : tie.Need-returns
 unfolding turn
 returns c =
     let w = c .before .before .before .before in
-    let k = w .before in
+    let k = w .before .before in
     let f = k .before in
     let g = f .before .before in
     let h = g .before in

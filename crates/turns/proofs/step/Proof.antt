@@ -17,18 +17,18 @@ abbrev writing : tie.Start → Writing
 writing s = record { c = s .args .c; r = s .args .r; offset = s .args .offset; patch = s .args .patch .now; called = 0 ∷ []; file = s .args .file; sheet = s .args .sheet .now; club = s .args .club }
 
 abbrev start : tie.After-answer → tie.Start
-start k = k .before .before .before .before .before .before .before .before .before
+start k = k .before .before .before .before .before .before .before .before .before .before .before .before
 
 low : (k : tie.After-answer) → start k .args .sum < 64
-low k = omega (arith, k .before .before .before .before .if2 .left, k .before .before .before .before .before .if1 .left)
+low k = let e = k .before .before .before .before .before .before .before in omega (arith, e .if2 .left, e .before .if1 .left)
 
-ready : (k : tie.After-answer) → let s = start k in Ready (s .args .t .now) (s .args .sheet .now) (s .args .order .now) (s .args .sets .now) (s .args .left)
+ready : (k : tie.After-answer) → let s = start k in Ready (s .args .t .now) (s .args .sheet .now) (s .args .order .now) (s .args .sets .now) (s .args .left) (s .args .choices .now)
 ready k = start k .pre (omega (arith, low k))
 
 answered : (k : tie.After-answer) → let o = outcome (start k .args .t .now) (write (writing (start k))) in (k .answer .result .result ≡ resultOf o) × (k .answer .last .0 ≡ o .table)
 answered k =
     let s = start k in
-    let e = k .answer .ensures (0 ∷ []) (s .args .sheet .now) (s .args .club) refl (ready k .right) (k .before .before .share-asked .ensures) in (e .0, e .1)
+    let e = k .answer .ensures (0 ∷ []) (s .args .sheet .now) (s .args .club) refl (ready k .right) (k .before .before .before .before .before .share-asked .ensures) in (e .0, e .1)
 
 returns : tie.Need-returns
 returns c = let s = c .before .before .before .before in
@@ -46,8 +46,16 @@ share-asked-requires c κs =
     let s = c .before .before .before .before .before .before in
     let y = s .pre (omega (arith, c .before .before .if1 .left)) in (sheet-facts (s .args .sheet .now) (y .right) .long, y .spare)
 
+chosen-requires : tie.Need-chosen-requires
+chosen-requires c κs =
+    let e = c .before .before .before .before in
+    let y = e .before .before .before .before .before .pre (omega (arith, e .before .if1 .left)) in (y .framed, y .kept)
+
 answer-requires : tie.Need-answer-requires
-answer-requires c κs = c .before .before .before .before .before .before .before .before .pre (omega (arith, c .before .before .before .before .if1 .left)) .framed
+answer-requires c κs =
+    let k = c .before in
+    let e = k .before .before .before .before .before in
+    (e .before .before .before .before .before .pre (omega (arith, e .before .if1 .left)) .framed, k .chosen .ensures .0)
 
 may : (f : tie.Then3) → let s = start (f .before .before .before .before) in (length (s .args .sheet .now) ≡ 196) × ((1 ≤ s .args .club) × (s .args .club ≤ 16))
 may f = let k = f .before .before .before .before in may-count (start k .args .t .now) (writing (start k)) _ (answered k .0) (f .if3 .taken)
@@ -58,8 +66,8 @@ left-after-requires c κs = may (c .before)
 count-one-requires : tie.Need-count-one-requires
 count-one-requires c κs = may (c .before .before .before)
 
-add-t28 : tie.Need-add-t28
-add-t28 c = search needs
+add-t33 : tie.Need-add-t33
+add-t33 c = search needs
 
 same-length : tie.Need-same-length
 same-length c = search needs
@@ -75,14 +83,15 @@ returns-3 c =
     let k = f .before .before .before .before in
     let s = start k in
     let e = answered k in
+    let h = k .before .before in
     let n = w .count-one .ensures in (
       same-run refl refl n ∙ one-done (s .args .t .now) (writing s) (s .args .sum) _ _ (low k) (e .0) (e .1) (f .if3 .taken),
-      λ l. subst₂ (λ (v : List ℕ) (m : ℕ). Ready (k .answer .last .0) v (s .args .order .now) (s .args .sets .now) m) (sym n) (sym (d .left-after .ensures))
-          (ready-after (s .args .t .now) (s .args .order .now) (s .args .sets .now) (writing s) _ _ (s .args .left) (e .0) (e .1) (f .if3 .taken) (ready k)),
+      λ l. subst₂ (λ (v : List ℕ) (m : ℕ). Ready (k .answer .last .0) v (s .args .order .now) (s .args .sets .now) m (h .chosen .last .1 .1 .1 .1 .0)) (sym n) (sym (d .left-after .ensures))
+          (ready-after (s .args .t .now) (s .args .order .now) (s .args .sets .now) (writing s) _ _ (s .args .left) _ (e .0) (e .1) (f .if3 .taken) (record { framed = ready k .framed; right = ready k .right; spare = ready k .spare; kept = h .chosen .ensures .1 })),
     )
 
-add-t29 : tie.Need-add-t29
-add-t29 c =
+add-t34 : tie.Need-add-t34
+add-t34 c =
     let f = c .before in
     let k = f .before .before .before .before in
     let s = start k in
@@ -110,14 +119,15 @@ step-spec =
     result-requires
     returns-2
     share-asked-requires
+    chosen-requires
     answer-requires
     left-after-requires
     count-one-requires
-    add-t28
+    add-t33
     same-length
     same-length-2
     returns-3
-    add-t29
+    add-t34
     same-length-3
     same-length-4
     returns-4)

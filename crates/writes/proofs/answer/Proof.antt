@@ -55,7 +55,7 @@ room : (c : tie.Else5) → ltb (c .before .before .before .before .before .settl
 room c = sym (c .before .below-limit .ensures) ∙ not-false _ (c .if5 .left)
 
 range-asked-requires : tie.Need-range-asked-requires
-range-asked-requires c κs = c .before .before .before .pre .formed
+range-asked-requires c κs = c .before .before .before .pre .0 .formed
 
 answer-of-requires : tie.Need-answer-of-requires
 answer-of-requires c κs = search needs
@@ -94,7 +94,8 @@ settle-requires : tie.Need-settle-requires
 settle-requires c κs =
     let u = c .before .before in
     let y = asked u in
-    (u .before .before .before .before .before .pre, grouped u, y .rows, y .answered)
+    let p = u .before .before .before .before .before .pre in
+    (p .0, grouped u, y .rows, y .answered, p .1)
 
 answer-of-requires-3 : tie.Need-answer-of-requires-3
 answer-of-requires-3 c κs = search needs

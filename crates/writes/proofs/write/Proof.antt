@@ -6,6 +6,7 @@ use Rattle.bools.proofs.BoolLaws.{and-l, and-r}
 use Rattle.table.specs.WellFormed.{wellFormed}
 use Rattle.sheet.specs.Sheet.{sheetRight}
 use Rattle.protocol.specs.Calls.{Writing, write, outcome, resultOf, noted, lentSheet}
+use Rattle.settle.proofs.SettleLaws.{known-none}
 use Rattle.writes.proofs.WriteLaws.{one-no, may-count, counted-or-not}
 use Rattle.writes.proofs.write.Statement.{statement}
 use Rattle.writes.proofs.write.Tie as tie
@@ -68,7 +69,7 @@ answered c =
     c .answer .ensures (s .args .called .now) (s .args .sheet .now) (s .args .club) refl y (k .look .ensures .1 (k .look .ensures .0 ∙ y))
 
 answer-requires : tie.Need-answer-requires
-answer-requires c κs = let f = c .before .before .before in let k = f .before .before in k .ordered .ensures .1 (k .ordered .ensures .0 ∙ right f .1)
+answer-requires c κs = let f = c .before .before .before in let k = f .before .before in (k .ordered .ensures .1 (k .ordered .ensures .0 ∙ right f .1), known-none _ _ _)
 
 note-requires-2 : tie.Need-note-requires-2
 note-requires-2 c κs = search needs
