@@ -2,6 +2,7 @@
 //! Prints a table; with a file name, writes a page there too.
 
 mod engines;
+mod limit;
 mod report;
 mod states;
 mod tasks;
@@ -32,8 +33,10 @@ fn main() -> ExitCode {
     let file = std::env::args().nth(1);
     if file.as_deref() == Some(ONCE) {
         let states = states::all();
-        let timings = states.iter().flat_map(|state| state.tasks.iter().map(|&task| time(state, task)));
-        timings.for_each(|timing| println!("{}", timing.line()));
+        for state in &states {
+            let look = limit::measured(state, RUNS, RUN_TIME);
+            state.tasks.iter().for_each(|&task| println!("{}", time(state, task, look).line()));
+        }
         return ExitCode::SUCCESS;
     }
     match measure(file.as_deref()) {
@@ -76,8 +79,8 @@ fn measure(file: Option<&str>) -> Result<(), String> {
     Ok(())
 }
 
-/// Best of several runs, the engines by turns.
-fn time(state: &State, task: Task) -> Timing {
+/// Best of several runs, the engines by turns; `look` is one look at the table.
+fn time(state: &State, task: Task, look: f64) -> Timing {
     const TRIAL: u32 = 20;
     let reference = Engine::default();
     let (trial, left) = task.run(&reference, state, TRIAL);
@@ -91,6 +94,7 @@ fn time(state: &State, task: Task) -> Timing {
         call: task.to_string(),
         library: f64::MAX,
         reference: f64::MAX,
+        look: task.looks_over().then_some(look),
         carried: task.carried(state),
     };
     for _ in 0..RUNS {

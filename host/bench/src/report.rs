@@ -10,6 +10,8 @@ pub struct Timing {
     pub call: String,
     pub library: f64,
     pub reference: f64,
+    /// One look at the bytes of the table, where the call looks over it.
+    pub look: Option<f64>,
     /// Of a send where windows are full.
     pub carried: Option<Carried>,
 }
@@ -21,7 +23,8 @@ impl Timing {
 
     /// As one process tells another: the parts with tabs between them.
     pub fn line(&self) -> String {
-        let line = format!("{}\t{}\t{}\t{}", self.state, self.call, self.library, self.reference);
+        let look = self.look.map_or("-".into(), |look| look.to_string());
+        let line = format!("{}\t{}\t{}\t{}\t{look}", self.state, self.call, self.library, self.reference);
         match &self.carried {
             Some(Carried { given, changed, ranges }) => format!("{line}\t{given}\t{changed}\t{ranges}"),
             None => line,
@@ -32,29 +35,37 @@ impl Timing {
         let mut parts = line.split('\t');
         let (state, call) = (parts.next()?.into(), parts.next()?.into());
         let (library, reference) = (parts.next()?.parse().ok()?, parts.next()?.parse().ok()?);
+        let look = match parts.next()? {
+            "-" => None,
+            look => Some(look.parse().ok()?),
+        };
         let numbers: Option<Vec<usize>> = parts.map(|part| part.parse().ok()).collect();
         let carried = match numbers?[..] {
             [given, changed, ranges] => Some(Carried { given, changed, ranges }),
             [] => None,
             _ => return None,
         };
-        Some(Timing { state, call, library, reference, carried })
+        Some(Timing { state, call, library, reference, look, carried })
     }
 
     /// Takes the better times of two processes.
     pub fn take(&mut self, other: Timing) {
         self.library = self.library.min(other.library);
         self.reference = self.reference.min(other.reference);
+        self.look = self.look.zip(other.look).map(|(look, other)| look.min(other));
     }
 }
 
 /// The timings as a table.
 pub fn table(timings: &[Timing]) -> String {
-    let mut text = String::from("| table | call | library, ns | reference, ns | library / reference |\n");
-    text.push_str("|---|---|---:|---:|---:|\n");
+    let mut text = String::from(
+        "| table | call | library, ns | reference, ns | library / reference | one look, ns | library / look |\n",
+    );
+    text.push_str("|---|---|---:|---:|---:|---:|---:|\n");
     for timing in timings {
-        let Timing { state, call, library, reference, .. } = timing;
-        writeln!(text, "| {state} | {call} | {library:.0} | {reference:.0} | {:.2} |", timing.ratio())
+        let Timing { state, call, library, reference, look, .. } = timing;
+        let look = look.map_or("| | |".into(), |look| format!("| {look:.0} | {:.2} |", library / look));
+        writeln!(text, "| {state} | {call} | {library:.0} | {reference:.0} | {:.2} {look}", timing.ratio())
             .expect("a string takes all");
     }
     text
@@ -137,6 +148,10 @@ pub fn page(timings: &[Timing], load: &str, runs: usize, processes: usize) -> St
          of both. A chart is of as many members as there are machines, in the published grid, and looks at no table; the reference puts its sets together\n\
          from columns. A choice is that of row 1, whose own list is of all machines. A move goes from form 2 up to form 3, or down, with the\n\
          same rows.\n\n\
+         One look: the time of a plain loop that goes once over the bytes that say whether the table is well formed (header, heads, numbers and windows\n\
+         of the copies, rows that are not used; not the contents) and does nothing else. Every call must look at each of them before it answers; what it takes\n\
+         beside that is to compare, to choose, to poll and to store. All of it is little beside a relay's round trip: see the last column of\n\
+         [RELAY-BENCH.md](RELAY-BENCH.md).\n\n\
          {}\n\
          ## An order of a round against a single write\n\n\
          A round of 64 orders looks over the table once, to see that it is well formed, where 64 writes do so 64 times. A 64th of its time, and the time of a\n\

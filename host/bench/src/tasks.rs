@@ -102,6 +102,11 @@ impl Task {
         }
     }
 
+    /// Does a call look over the table of its state, to see that it is well formed?
+    pub fn looks_over(self) -> bool {
+        !matches!(self, Task::Found | Task::Chart | Task::MoveUp | Task::MoveDown)
+    }
+
     /// The refusal number that every call of the task must have.
     fn refusal(self) -> u64 {
         match self {
