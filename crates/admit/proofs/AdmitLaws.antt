@@ -8,8 +8,8 @@ use native.Mathlib.Numerals.{add-one}
 use native.Mathlib.Omega.{arith}
 use lib.Dec.{eqb}
 use lib.ListN.{length, take, drop}
-use Rattle.bytes.specs.Bytes.{put}
-use Rattle.bytes.proofs.CodeLaws.{part_length, part-back, part-is}
+use Rattle.octets.specs.Bytes.{put}
+use Rattle.octets.proofs.CodeLaws.{part_length, part-back, part-is}
 use Rattle.blocks.specs.Blocks.{block, with_block}
 use Rattle.fields.specs.Layout.{store, used, first, name, link, county, capacity_of, used_of, first_of, link_of, row_length, rows_end, row_bytes, with_row}
 use Rattle.fields.proofs.FieldLaws.{length-store, head-room}

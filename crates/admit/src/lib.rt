@@ -1,4 +1,6 @@
 // The table that a joining leaves: the first unused row named and put into the chain.
+#![tactic(auto)]
+
 ghost use Rattle.std.specs.Prelude.{◌≡◌, cond, suc, ◌+◌, ◌*◌, ◌≤◌, ◌<◌, eqb, length};
 ghost use Rattle.blocks.specs.Blocks.{with_block};
 ghost use Rattle.fields.specs.Layout.{store, link, capacity_of, used_of, link_of};

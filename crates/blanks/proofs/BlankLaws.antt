@@ -9,8 +9,8 @@ use lib.Dec.{eqb}
 use lib.ListN.{length, get_or}
 use borrow.Author.Tests.{eqb-true, eq-eqb}
 use Rattle.bools.proofs.BoolLaws.{and_l, and_r, and_i, same_test}
-use Rattle.bytes.specs.Bytes.{all_zero}
-use Rattle.bytes.proofs.CodeLaws.{zero-at, zero_of}
+use Rattle.octets.specs.Bytes.{all_zero}
+use Rattle.octets.proofs.CodeLaws.{zero-at, zero_of}
 use Rattle.blanks.specs.Blanks.{blank}
 
 module _ (s : List ℕ) (step : ℕ) where

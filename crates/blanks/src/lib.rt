@@ -1,9 +1,11 @@
 // Many bytes that are all 0.
+#![tactic(auto)]
+
 ghost use Rattle.std.specs.Prelude.{◌≡◌, ◌+◌, ◌*◌, ◌<◌, eqb, length};
-ghost use Rattle.bytes.specs.Bytes.{all_zero};
+ghost use Rattle.octets.specs.Bytes.{all_zero};
 ghost use Rattle.blanks.specs.Blanks.{blank};
 
-use bytes::joined;
+use octets::joined;
 
 // The bits of two bytes that are a step apart; then of four.
 fn two(s: &[u8], step: usize, k: usize) -> u8

@@ -13,8 +13,8 @@ use lib.ListN.{length, take, drop, length-append, take-append-drop}
 use lib.Seq.{take-add}
 use Rattle.sets.specs.Upto.{Within}
 use Rattle.sets.proofs.UptoLaws.{last}
-use Rattle.bytes.specs.Bytes.{part, zeros}
-use Rattle.bytes.proofs.ByteLaws.{length_part, part-front, part-back, part-whole, length-put, part-put, part_apart, drop-put-after, split-zeros}
+use Rattle.octets.specs.Bytes.{part, zeros}
+use Rattle.octets.proofs.ByteLaws.{length_part, part-front, part-back, part-whole, length-put, part-put, part_apart, drop-put-after, split-zeros}
 use Rattle.bools.proofs.BoolLaws.{or_l, or_r}
 use Rattle.sets.specs.Sets.{no_row, joining}
 use Rattle.sets.proofs.MemberLaws.{only}

@@ -1,6 +1,6 @@
 -- Bytes that are a head of a bytes and then blocks of w bytes, counted from 1: the rows of a table behind its header.
 use Rattle.std.specs.Prelude.{Bool, cond, List, [], ◌++◌, ℕ, zero, suc, ◌+◌, ◌*◌}
-use Rattle.bytes.specs.Bytes.{part, put}
+use Rattle.octets.specs.Bytes.{part, put}
 
 -- block i of xs; there is no block 0
 unfoldable pub block : ℕ → ℕ → ℕ → List ℕ → List ℕ

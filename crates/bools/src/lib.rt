@@ -1,4 +1,6 @@
 // Tests joined without branches in the caller: a loop that gathers one stays straight.
+#![tactic(auto)]
+
 ghost use Rattle.std.specs.Prelude.{◌≡◌, cond, ◌&&◌, ◌||◌};
 
 pub fn both(a: bool, b: bool) -> bool

@@ -11,9 +11,9 @@ use lib.Seq.{drop-drop}
 use borrow.Author.Tests.{lt-leb}
 use Rattle.bools.proofs.BoolLaws.{and_l, and_r}
 use Rattle.sets.specs.Upto.{Within}
-use Rattle.bytes.specs.Bytes.{number, bytes_of, part, zeros, all_zero}
-use Rattle.bytes.proofs.ByteLaws.{length_part, length-zeros, zeros-are, zeros-zero, first-zeros, zero-drop}
-use Rattle.bytes.proofs.CodeLaws.{zero_number}
+use Rattle.octets.specs.Bytes.{number, bytes_of, part, zeros, all_zero}
+use Rattle.octets.proofs.ByteLaws.{length_part, length-zeros, zeros-are, zeros-zero, first-zeros, zero-drop}
+use Rattle.octets.proofs.CodeLaws.{zero_number}
 use Rattle.blocks.specs.Blocks.{block}
 use Rattle.fields.specs.Layout.{get, form, form_value, grid_mark, former_oldest, reserved_in, stride_in, form_of, capacity_of, used_of, file_length_of, row_length, rows_end, row_bytes, with_rows}
 use Rattle.fields.proofs.FieldLaws.{head-room, stride-third}

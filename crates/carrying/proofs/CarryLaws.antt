@@ -6,8 +6,8 @@ use native.Mathlib.Omega.{arith}
 use lib.ListN.{length, take, length-append}
 use lib.Seq.{take_all, take_at, take-add}
 use Rattle.sets.specs.Upto.{Within}
-use Rattle.bytes.specs.Bytes.{number, bytes_of, part}
-use Rattle.bytes.proofs.ByteLaws.{length-bytes, number-bytes, length_part, part-front, part-back, part-part}
+use Rattle.octets.specs.Bytes.{number, bytes_of, part}
+use Rattle.octets.proofs.ByteLaws.{length-bytes, number-bytes, length_part, part-front, part-back, part-part}
 use Rattle.blocks.specs.Blocks.{block, in_turn}
 use Rattle.blocks.proofs.BlockLaws.{in-turn-ext, length-in-turn, block-in-turn, rebuilt-to}
 use Rattle.fields.specs.Layout.{get, form, capacity, used, first, file_length, stride_in, form_of, capacity_of, used_of, first_of, file_length_of, files_of, row_length, rows_end, row_bytes}

@@ -7,7 +7,7 @@ use lib.Dec.{eqb}
 use Rattle.sets.specs.Upto
 use Rattle.sets.specs.Sets
 use Rattle.grid.specs.Sizes
-use Rattle.bytes.specs.Bytes
+use Rattle.octets.specs.Bytes
 use Rattle.blocks.specs.Blocks
 use Rattle.fields.specs.Layout
 use Rattle.linking.specs.Linking

@@ -14,8 +14,8 @@ use borrow.Author.Tests.{eqb-true, eq-eqb, le-leb, lt-leb}
 use Rattle.sets.specs.Upto.{Within, every}
 use Rattle.bools.proofs.BoolLaws.{and_l, and_r, and_i, or_l, or_r}
 use Rattle.sets.proofs.UptoLaws.{every-at, every_of}
-use Rattle.bytes.specs.Bytes.{number, part, zeros, all_zero}
-use Rattle.bytes.proofs.ByteLaws.{length-zeros, zeros-zero, first-zeros, split-zeros}
+use Rattle.octets.specs.Bytes.{number, part, zeros, all_zero}
+use Rattle.octets.proofs.ByteLaws.{length-zeros, zeros-zero, first-zeros, split-zeros}
 use Rattle.blocks.specs.Blocks.{block, in_turn}
 use Rattle.blocks.proofs.BlockLaws.{in-turn-ext, length-in-turn, in-turn-more, in-turn-zeros}
 use Rattle.fields.specs.Layout.{Field, get, store, form_value, rest_in, name, link, version, desired, epoch, members, grid_mark, county, list, is_empty, reserved_in, former_mark, former_oldest, mark_in, oldest_in, spare_in, records, copy_of, body_in, stride_in, form_of, capacity_of, used_of, first_of, file_length_of, row_length, rows_end, row_bytes, name_of, link_of, list_of, county_of}

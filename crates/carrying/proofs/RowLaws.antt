@@ -6,8 +6,8 @@ use Prim.Native.Nat.{ℕ, ◌+◌, ◌-◌, ◌≤◌, ◌<◌}
 use native.Mathlib.Omega.{arith}
 use lib.ListN.{length, take, drop, length-append}
 use lib.Seq.{drop-length, take_at}
-use Rattle.bytes.specs.Bytes.{number, bytes_of, part, put, zeros}
-use Rattle.bytes.proofs.ByteLaws.{length-bytes, length_part, part-front, part-whole, part-part, part-put-in, put_same, length-zeros}
+use Rattle.octets.specs.Bytes.{number, bytes_of, part, put, zeros}
+use Rattle.octets.proofs.ByteLaws.{length-bytes, length_part, part-front, part-whole, part-part, part-put-in, put_same, length-zeros}
 use Rattle.fields.specs.Layout.{Field, get, store, former_oldest, store_records, body_in, stride_in}
 use Rattle.fields.proofs.FieldLaws.{Ends, length-store, stored_bytes, part-store, length-records, body-in, stride-early}
 use Rattle.window.specs.Windows.{places, width, emptied}

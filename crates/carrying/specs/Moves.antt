@@ -2,7 +2,7 @@
 -- newest: a later form changes nothing here.
 use Rattle.std.specs.Prelude.{Bool, ◌&&◌, ◌||◌, List, ◌++◌, ℕ, ◌+◌, ◌-◌, ◌*◌, eqb}
 use Rattle.sets.specs.Upto.{every}
-use Rattle.bytes.specs.Bytes.{bytes_of, part, zeros}
+use Rattle.octets.specs.Bytes.{bytes_of, part, zeros}
 use Rattle.blocks.specs.Blocks.{in_turn}
 use Rattle.fields.specs.Layout.{store, former_oldest, body_in, stride_in, capacity_of, used_of, file_length_of, row_bytes}
 use Rattle.table.specs.WellFormed.{between, plain}

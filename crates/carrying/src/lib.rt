@@ -1,1 +1,3 @@
 // Tables carried over to another form and back: claimed, and proved.
+#![tactic(auto)]
+

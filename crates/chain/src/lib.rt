@@ -1,4 +1,6 @@
 // The chain of used rows.
+#![tactic(auto)]
+
 ghost use Rattle.std.specs.Prelude.{◌≡◌, true, ◌&&◌};
 ghost use Rattle.table.specs.WellFormed.{visits_each, names_rise};
 ghost use Rattle.table.specs.Asked.{Linked, Ordered, walked_into};

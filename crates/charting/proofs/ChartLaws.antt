@@ -12,8 +12,8 @@ use borrow.Author.Tests.{le-leb, lt-leb, leb-true, leb-false, ltb-true}
 use Rattle.bools.proofs.BoolLaws.{and_l}
 use Rattle.sets.proofs.RisingLaws.{among-at}
 use Rattle.grid.specs.Sizes.{grid_by}
-use Rattle.bytes.specs.Bytes.{number, bytes_of, part, put}
-use Rattle.bytes.proofs.ByteLaws.{length-bytes, number-bytes, part-part, length-put, part-put, drop-put-after}
+use Rattle.octets.specs.Bytes.{number, bytes_of, part, put}
+use Rattle.octets.proofs.ByteLaws.{length-bytes, number-bytes, part-part, length-put, part-put, drop-put-after}
 use Rattle.asking.specs.Asking.{first_no}
 use Rattle.charting.specs.Charts.{chart, in_places, has_chart, places, chart_questions, Charted, charted}
 use Rattle.charting.specs.Claims.{ChartIs, PlacesSuffice, PlacesHold, UnusedStay}

@@ -14,7 +14,7 @@ use Rattle.grid.specs.Sizes.{root, root_up, published, new_five, exchanged, grid
 use Rattle.grid.proofs.SizeLaws.{mark-low}
 use Rattle.quorums.specs.Quorums.{touches, covers, read_quorum, write_quorum, quorum}
 use Rattle.quorums.proofs.StarredLaws.{all_pass, each_of}
-use Rattle.bytes.specs.Bytes.{bytes_of, put}
+use Rattle.octets.specs.Bytes.{bytes_of, put}
 use Rattle.asking.specs.Asking.{first_no}
 use Rattle.charting.specs.Charts.{smallest, chart, in_places, has_chart, places, chart_questions, charted}
 use Rattle.charting.specs.Claims.{ThreeHasNoChart, PlacesSuffice, ChartsShown, ListShown, Case, Asked, Answered, cases, CasesHold}

@@ -6,7 +6,7 @@ use Rattle.grid.specs.declared.Grid.{Grid}
 use Rattle.grid.specs.Sizes.{grid_by, mark_fits}
 use Rattle.quorums.specs.declared.Kind.TheVariants.{Write}
 use Rattle.quorums.specs.Quorums.{quorum}
-use Rattle.bytes.specs.Bytes.{bytes_of, put}
+use Rattle.octets.specs.Bytes.{bytes_of, put}
 use Rattle.asking.specs.Asking.{Question, first_no}
 
 -- a smallest write quorum: "those that stop being one when any member is taken out"

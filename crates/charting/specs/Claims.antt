@@ -7,7 +7,7 @@ use Rattle.grid.specs.Sizes.{grid_by}
 use Rattle.quorums.specs.declared.Kind.TheVariants.{Write}
 use Rattle.quorums.specs.Quorums.{quorum}
 use Rattle.quorums.specs.Starred.{Each}
-use Rattle.bytes.specs.Bytes.{number, part}
+use Rattle.octets.specs.Bytes.{number, part}
 use Rattle.charting.specs.Charts.{smallest, chart, has_chart, places, charted}
 
 -- ---- "One argument serves every grid mark": of any grid and any length

@@ -1,1 +1,3 @@
 // The wall chart of quorums: definitions and laws.
+#![tactic(auto)]
+

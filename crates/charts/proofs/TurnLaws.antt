@@ -19,8 +19,8 @@ use Rattle.sets.proofs.KeepLaws.{keep-more}
 use Rattle.sets.proofs.RisingLaws.{upward-more}
 use Rattle.grid.specs.declared.Grid.{Grid}
 use Rattle.grid.specs.Sizes.{mark_fits}
-use Rattle.bytes.specs.Bytes.{bytes_of, put}
-use Rattle.bytes.proofs.ByteLaws.{put-more}
+use Rattle.octets.specs.Bytes.{bytes_of, put}
+use Rattle.octets.proofs.ByteLaws.{put-more}
 use Rattle.charting.specs.Charts.{smallest, chart, in_places, has_chart}
 use Rattle.charting.proofs.Computed.{chart-mark}
 use Rattle.charts.specs.Drawn.{chart_to}

@@ -1,4 +1,6 @@
 // An epoch check: its questions in order, then what is done.
+#![tactic(auto)]
+
 ghost use Rattle.std.specs.Prelude.{◌≡◌};
 ghost use Rattle.protocol.specs.Calls.{result_of, outcome, check};
 

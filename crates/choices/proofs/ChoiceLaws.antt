@@ -11,8 +11,8 @@ use borrow.Author.Tests.{eq-eqb, eqb-true, eqb-false, ne_eqb}
 use Rattle.sets.specs.Upto.{Within, count}
 use Rattle.sets.specs.Sets.{has}
 use Rattle.sets.proofs.SetLaws.{has-pushed}
-use Rattle.bytes.specs.Bytes.{bytes_of, put}
-use Rattle.bytes.proofs.ByteLaws.{length-bytes, put_all}
+use Rattle.octets.specs.Bytes.{bytes_of, put}
+use Rattle.octets.proofs.ByteLaws.{length-bytes, put_all}
 use Rattle.table.specs.WellFormed.{well_formed}
 use Rattle.asking.specs.Asking.{first_no}
 use Rattle.protocol.specs.Calls.{is_used}

@@ -6,7 +6,7 @@ use Rattle.sets.specs.Upto
 use Rattle.sets.specs.Sets
 use Rattle.grid.specs.Sizes
 use Rattle.quorums.specs.Quorums
-use Rattle.bytes.specs.Bytes
+use Rattle.octets.specs.Bytes
 use Rattle.blocks.specs.Blocks
 use Rattle.fields.specs.Layout
 use Rattle.table.specs.Chain

@@ -3,7 +3,7 @@ use Rattle.std.specs.Prelude.{Bool, cond, List, [], ◌∷◌, ℕ, zero, suc, �
 use Rattle.sets.specs.Upto.{count}
 use Rattle.quorums.specs.declared.Kind.{Kind}
 use Rattle.quorums.specs.declared.Kind.TheVariants.{Read, Write}
-use Rattle.bytes.specs.Bytes.{bytes_of}
+use Rattle.octets.specs.Bytes.{bytes_of}
 use Rattle.fields.specs.Layout.{name_of, list_of}
 use Rattle.table.specs.Chain.{frame_of}
 use Rattle.table.specs.WellFormed.{well_formed}

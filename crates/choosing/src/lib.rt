@@ -1,1 +1,3 @@
 // Whom to call, as a definition.
+#![tactic(auto)]
+

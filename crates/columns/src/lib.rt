@@ -1,4 +1,6 @@
 // Is a set of positions a smallest write quorum? By the columns of its grid.
+#![tactic(auto)]
+
 ghost use Rattle.std.specs.Prelude.{◌≡◌, ◌-◌, ◌/◌, ◌^◌, ◌≤◌};
 ghost use Rattle.sets.specs.Sets.{has};
 ghost use Rattle.grid.specs.Sizes.{Fits};
@@ -9,7 +11,7 @@ use grid::Grid;
 use rows::RowSet;
 
 // Of some rows of the grid: the columns with a member, those with two, and those without a gap.
-#[derive(Drop)]
+#[derive(Clone, Copy)]
 pub struct Columns {
     pub touched: RowSet,
     pub twice: RowSet,

@@ -1,1 +1,3 @@
 // A relay's calls in any interleaving, each atomic: definitions and proofs only.
+#![tactic(auto)]
+

@@ -1,4 +1,6 @@
 // Bytes copied over others.
+#![tactic(auto)]
+
 ghost use Rattle.std.specs.Prelude.{◌≡◌, length};
 
 // Bytes copied over as many others, one by one.

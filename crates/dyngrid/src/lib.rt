@@ -1,4 +1,6 @@
 // What a host program in C sees: one function for each call. The result is refusal number times 2^32, plus value.
+#![tactic(auto)]
+
 ghost use Rattle.std.specs.Prelude.{◌≡◌};
 ghost use Rattle.asking.specs.Asking.{result_number};
 ghost use Rattle.charting.specs.Charts.{charted};
@@ -10,7 +12,7 @@ ghost use Rattle.protocol.specs.Calls.{founding, join, read, write, send, check,
 // The number of this interface: it rises with every change of a signature, so that header and archive can be compared.
 #[unsafe(no_mangle)]
 pub extern "C" fn grid_interface() -> u64
-    ensures* { λ r. ⌜ r ≡ 11 ⌝ }
+    ensures { result ≡ 11 }
 {
     11
 }
@@ -25,7 +27,7 @@ pub extern "C" fn grid_found(
     files: u64,
     counties: &[u8],
 ) -> u64
-    ensures* { λ r. ⌜ (let o = outcome table.old (founding (record { capacity = capacity; file_length = file; names = names.now; choice = choice; files = files; counties = counties.now })) in (r ≡ result_of o) × (table.new ≡ o.table) × (names.now ≡ names.now) × (counties.now ≡ counties.now)) ⌝ }
+    ensures { (let o = outcome table.old (founding (record { capacity = capacity; file_length = file; names = names.now; choice = choice; files = files; counties = counties.now })) in (result ≡ result_of o) × (table.new ≡ o.table) × (names.now ≡ names.now) × (counties.now ≡ counties.now)) }
 {
     let rows = capacity as usize;
     let long = file as usize;
@@ -34,7 +36,7 @@ pub extern "C" fn grid_found(
 
 #[unsafe(no_mangle)]
 pub extern "C" fn grid_join(table: &mut [u8], name: u16, county: u64) -> u64
-    ensures* { λ r. ⌜ (let o = outcome table.old (join (record { name = name; county = county })) in (r ≡ result_of o) × (table.new ≡ o.table)) ⌝ }
+    ensures { (let o = outcome table.old (join (record { name = name; county = county })) in (result ≡ result_of o) × (table.new ≡ o.table)) }
 {
     joins::join(table, name, county)
 }
@@ -50,7 +52,7 @@ pub extern "C" fn grid_read(
     called: &mut [u8],
     file: u64,
 ) -> u64
-    ensures* { λ r. ⌜ (let o = outcome table.now (read (record { c = coordinator; r = answering; offset = offset; count = length; buffer = buffer.old; called = called.old; file = file })) in (r ≡ result_of o) × (table.now ≡ o.table) × (buffer.new ≡ o.buffer) × (called.new ≡ o.called)) ⌝ }
+    ensures { (let o = outcome table.now (read (record { c = coordinator; result = answering; offset = offset; count = length; buffer = buffer.old; called = called.old; file = file })) in (result ≡ result_of o) × (table.now ≡ o.table) × (buffer.new ≡ o.buffer) × (called.new ≡ o.called)) }
 {
     let reader = coordinator as usize;
     let from = offset as usize;
@@ -70,7 +72,7 @@ pub extern "C" fn grid_write(
     sheet: &mut [u8],
     club: u64,
 ) -> u64
-    ensures* { λ r. ⌜ (let o = outcome table.old (write (record { c = coordinator; r = answering; offset = offset; patch = patch.now; called = called.old; file = file; sheet = sheet.old; club = club })) in (r ≡ result_of o) × (table.new ≡ o.table) × (patch.now ≡ patch.now) × (called.new ≡ o.called) × (sheet.new ≡ o.sheet)) ⌝ }
+    ensures { (let o = outcome table.old (write (record { c = coordinator; result = answering; offset = offset; patch = patch.now; called = called.old; file = file; sheet = sheet.old; club = club })) in (result ≡ result_of o) × (table.new ≡ o.table) × (patch.now ≡ patch.now) × (called.new ≡ o.called) × (sheet.new ≡ o.sheet)) }
 {
     let writer = coordinator as usize;
     let to = offset as usize;
@@ -87,14 +89,14 @@ pub extern "C" fn grid_round(
     orders: &[u8],
     sheet: &mut [u8],
 ) -> u64
-    ensures* { λ r. ⌜ (let o = round_in table.old sheet.old answering orders.now in (r ≡ result_number o.refusal o.value) × (table.new ≡ o.table) × (orders.now ≡ orders.now) × (sheet.new ≡ o.sheet)) ⌝ }
+    ensures { (let o = round_in table.old sheet.old answering orders.now in (result ≡ result_number o.refusal o.value) × (table.new ≡ o.table) × (orders.now ≡ orders.now) × (sheet.new ≡ o.sheet)) }
 {
     rounds::round_in(table, answering, orders, sheet)
 }
 
 #[unsafe(no_mangle)]
 pub extern "C" fn grid_send(table: &mut [u8], from: u64, to: u64, answering: u64, file: u64) -> u64
-    ensures* { λ r. ⌜ (let o = outcome table.old (send (record { f = from; t = to; r = answering; file = file })) in (r ≡ result_of o) × (table.new ≡ o.table)) ⌝ }
+    ensures { (let o = outcome table.old (send (record { f = from; t = to; result = answering; file = file })) in (result ≡ result_of o) × (table.new ≡ o.table)) }
 {
     sends::send(table, from as usize, to as usize, answering, file)
 }
@@ -106,7 +108,7 @@ pub extern "C" fn grid_check(
     answering: u64,
     sheet: &mut [u8],
 ) -> u64
-    ensures* { λ r. ⌜ (let o = outcome table.old (check (record { c = coordinator; r = answering; sheet = sheet.old })) in (r ≡ result_of o) × (table.new ≡ o.table) × (sheet.new ≡ o.sheet)) ⌝ }
+    ensures { (let o = outcome table.old (check (record { c = coordinator; result = answering; sheet = sheet.old })) in (result ≡ result_of o) × (table.new ≡ o.table) × (sheet.new ≡ o.sheet)) }
 {
     checks::check(table, coordinator as usize, answering, sheet)
 }
@@ -114,14 +116,14 @@ pub extern "C" fn grid_check(
 // A table carried over to another form, into a second buffer.
 #[unsafe(no_mangle)]
 pub extern "C" fn grid_move(table: &[u8], form: u64, new: &mut [u8]) -> u64
-    ensures* { λ r. ⌜ (let o = outcome table.now (carry (record { form = form; dest = new.old })) in (r ≡ result_of o) × (table.now ≡ o.table) × (new.new ≡ o.buffer)) ⌝ }
+    ensures { (let o = outcome table.now (carry (record { form = form; dest = new.old })) in (result ≡ result_of o) × (table.now ≡ o.table) × (new.new ≡ o.buffer)) }
 {
     moves::carry(table, form, new)
 }
 
 #[unsafe(no_mangle)]
 pub extern "C" fn grid_chart(length: u64, mark: u64, list: &mut [u8]) -> u64
-    ensures* { λ r. ⌜ (let o = charted length mark list.old in (r ≡ result_number o.refusal o.value) × (list.new ≡ o.list)) ⌝ }
+    ensures { (let o = charted length mark list.old in (result ≡ result_number o.refusal o.value) × (list.new ≡ o.list)) }
 {
     charts::chart(length, mark, list)
 }
@@ -129,7 +131,7 @@ pub extern "C" fn grid_chart(length: u64, mark: u64, list: &mut [u8]) -> u64
 // The set that a coordinator calls first.
 #[unsafe(no_mangle)]
 pub extern "C" fn grid_choice(table: &[u8], coordinator: u64, kind: u64, set: &mut [u8]) -> u64
-    ensures* { λ r. ⌜ (let o = chosen table.now coordinator kind set.old in (r ≡ result_number o.refusal o.value) × (table.now ≡ table.now) × (set.new ≡ o.set)) ⌝ }
+    ensures { (let o = chosen table.now coordinator kind set.old in (result ≡ result_number o.refusal o.value) × (table.now ≡ table.now) × (set.new ≡ o.set)) }
 {
     choices::choice(table, coordinator as usize, kind, set)
 }
@@ -137,7 +139,7 @@ pub extern "C" fn grid_choice(table: &[u8], coordinator: u64, kind: u64, set: &m
 // A refusal told in one sentence.
 #[unsafe(no_mangle)]
 pub extern "C" fn grid_notice(call: u64, name: u16, number: u32, buffer: &mut [u8]) -> u64
-    ensures* { λ r. ⌜ (let o = noticed call name number buffer.old in (r ≡ result_number o.refusal o.value) × (buffer.new ≡ o.buffer)) ⌝ }
+    ensures { (let o = noticed call name number buffer.old in (result ≡ result_number o.refusal o.value) × (buffer.new ≡ o.buffer)) }
 {
     notices::notice(call, name, number, buffer)
 }

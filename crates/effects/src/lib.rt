@@ -1,4 +1,6 @@
 // A write on a table whose question 1 is answered: its other questions in order, then what is done.
+#![tactic(auto)]
+
 ghost use Rattle.std.specs.Prelude.{◌≡◌, true, List, [], ℕ, eqb, length};
 ghost use Rattle.quorums.specs.declared.Kind.TheVariants.{Write};
 ghost use Rattle.grouping.specs.Grouped.{Framed};

@@ -11,12 +11,12 @@ use lib.ListN.{length, take, drop}
 use lib.Seq.{drop_at, drop-drop, drop-length, length-take-le}
 use borrow.Author.Tests.{le-leb, lt-leb, leb-true, leb-false}
 use Rattle.sets.specs.Upto.{Within}
-use Rattle.bytes.specs.Bytes.{number, bytes_of, part, put, zeros, all_zero}
+use Rattle.octets.specs.Bytes.{number, bytes_of, part, put, zeros, all_zero}
 use Rattle.fields.specs.declared.Laid.{Laid}
 use Rattle.blocks.specs.Blocks.{block}
 use Rattle.blocks.proofs.BlockLaws.{length-block}
 use Rattle.fields.specs.Layout.{Field, get, store, mark, oldest, spare, version, desired, members, grid_mark, list, no_list, row_bytes, list_of, reserved, contents, store_contents, records, store_records, form_value, copy_length, copy_in, copy_of, body_in, stride_in, body_length, stride, form_of, file_length_of, files_of, file_count, row_length}
-use Rattle.bytes.proofs.ByteLaws.{length-bytes, number-bytes, length_part, length-put, part-put, part_apart, drop-put-after, part-put-in, length-zeros, first-zeros, split-zeros}
+use Rattle.octets.proofs.ByteLaws.{length-bytes, number-bytes, length_part, length-put, part-put, part_apart, drop-put-after, part-put-in, length-zeros, first-zeros, split-zeros}
 
 -- the bytes of f end by place n
 abbrev pub Ends : Field → ℕ → Type 0

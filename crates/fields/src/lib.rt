@@ -1,10 +1,12 @@
 // A row of a table, its head and its copies: the offsets of their fields.
+#![tactic(auto)]
+
 ghost use Rattle.std.specs.Prelude.{◌≡◌, true, ◌+◌, ◌≤◌, eqb, length};
 ghost use Rattle.fields.specs.Layout.{get, store, name, link, mark, version, desired, epoch, members, grid_mark, county, oldest, mark_in, oldest_in, list, store_list, is_empty, is_tall, contents, store_contents};
-ghost use Rattle.bytes.specs.Bytes.{part};
+ghost use Rattle.octets.specs.Bytes.{part};
 
 // A list of rows as it was laid: bit i − 1 of `members` for row i; the mark of its grid.
-#[derive(Drop)]
+#[derive(Clone, Copy)]
 pub struct Laid {
     pub members: u64,
     pub mark: u8,
@@ -86,21 +88,21 @@ pub fn name(row: &[u8]) -> u16
     requires { 32 ≤ length row.now }
     ensures { result ≡ get name row.now }
 {
-    bytes::u16_at(row, NAME_AT)
+    octets::u16_at(row, NAME_AT)
 }
 
 pub fn link(row: &[u8]) -> u8
     requires { 32 ≤ length row.now }
     ensures { result ≡ get link row.now }
 {
-    bytes::u8_at(row, LINK_AT)
+    octets::u8_at(row, LINK_AT)
 }
 
 pub fn mark(copy: &[u8]) -> u8
     requires { 12 ≤ length copy.now }
     ensures { result ≡ get mark copy.now }
 {
-    bytes::u8_at(copy, MARK_AT)
+    octets::u8_at(copy, MARK_AT)
 }
 
 pub fn is_stale(copy: &[u8]) -> bool
@@ -114,28 +116,28 @@ pub fn version(copy: &[u8]) -> u32
     requires { 12 ≤ length copy.now }
     ensures { result ≡ get version copy.now }
 {
-    bytes::u32_at(copy, VERSION_AT)
+    octets::u32_at(copy, VERSION_AT)
 }
 
 pub fn desired(copy: &[u8]) -> u32
     requires { 12 ≤ length copy.now }
     ensures { result ≡ get desired copy.now }
 {
-    bytes::u32_at(copy, DESIRED_AT)
+    octets::u32_at(copy, DESIRED_AT)
 }
 
 pub fn epoch(row: &[u8]) -> u32
     requires { 32 ≤ length row.now }
     ensures { result ≡ get epoch row.now }
 {
-    bytes::u32_at(row, EPOCH_AT)
+    octets::u32_at(row, EPOCH_AT)
 }
 
 pub fn members(row: &[u8]) -> u64
     requires { 32 ≤ length row.now }
     ensures { result ≡ get members row.now }
 {
-    bytes::u64_at(row, MEMBERS_AT)
+    octets::u64_at(row, MEMBERS_AT)
 }
 
 // The mark of the grid that a row's list was laid in.
@@ -143,14 +145,14 @@ pub fn grid_mark(row: &[u8]) -> u8
     requires { 32 ≤ length row.now }
     ensures { result ≡ get grid_mark row.now }
 {
-    bytes::u8_at(row, GRID_MARK_AT)
+    octets::u8_at(row, GRID_MARK_AT)
 }
 
 pub fn county(row: &[u8]) -> u8
     requires { 32 ≤ length row.now }
     ensures { result ≡ get county row.now }
 {
-    bytes::u8_at(row, COUNTY_AT)
+    octets::u8_at(row, COUNTY_AT)
 }
 
 // The oldest record of the copy's window.
@@ -158,7 +160,7 @@ pub fn oldest(copy: &[u8]) -> u8
     requires { 12 ≤ length copy.now }
     ensures { result ≡ get oldest copy.now }
 {
-    bytes::u8_at(copy, OLDEST_AT)
+    octets::u8_at(copy, OLDEST_AT)
 }
 
 // The mark and the oldest record where a table of this form has them: before files came a row was its own copy.
@@ -167,7 +169,7 @@ pub fn mark_in(form: u8, copy: &[u8]) -> u8
     ensures { result ≡ get (mark_in form) copy.now }
 {
     if form < WITH_FILES {
-        return bytes::u8_at(copy, FORMER_MARK_AT);
+        return octets::u8_at(copy, FORMER_MARK_AT);
     }
     mark(copy)
 }
@@ -177,7 +179,7 @@ pub fn oldest_in(form: u8, copy: &[u8]) -> u8
     ensures { result ≡ get (oldest_in form) copy.now }
 {
     if form < WITH_FILES {
-        return bytes::u8_at(copy, FORMER_OLDEST_AT);
+        return octets::u8_at(copy, FORMER_OLDEST_AT);
     }
     oldest(copy)
 }
@@ -197,70 +199,70 @@ pub fn set_name(row: &mut [u8], v: u16)
     requires { 32 ≤ length row.old }
     ensures { row.new ≡ store name v row.old }
 {
-    bytes::store_at(row, NAME_AT, 2, v as u64);
+    octets::store_at(row, NAME_AT, 2, v as u64);
 }
 
 pub fn set_link(row: &mut [u8], v: u8)
     requires { 32 ≤ length row.old }
     ensures { row.new ≡ store link v row.old }
 {
-    bytes::store_at(row, LINK_AT, 1, v as u64);
+    octets::store_at(row, LINK_AT, 1, v as u64);
 }
 
 pub fn set_mark(copy: &mut [u8], v: u8)
     requires { 12 ≤ length copy.old }
     ensures { copy.new ≡ store mark v copy.old }
 {
-    bytes::store_at(copy, MARK_AT, 1, v as u64);
+    octets::store_at(copy, MARK_AT, 1, v as u64);
 }
 
 pub fn set_version(copy: &mut [u8], v: u32)
     requires { 12 ≤ length copy.old }
     ensures { copy.new ≡ store version v copy.old }
 {
-    bytes::store_at(copy, VERSION_AT, 4, v as u64);
+    octets::store_at(copy, VERSION_AT, 4, v as u64);
 }
 
 pub fn set_desired(copy: &mut [u8], v: u32)
     requires { 12 ≤ length copy.old }
     ensures { copy.new ≡ store desired v copy.old }
 {
-    bytes::store_at(copy, DESIRED_AT, 4, v as u64);
+    octets::store_at(copy, DESIRED_AT, 4, v as u64);
 }
 
 pub fn set_epoch(row: &mut [u8], v: u32)
     requires { 32 ≤ length row.old }
     ensures { row.new ≡ store epoch v row.old }
 {
-    bytes::store_at(row, EPOCH_AT, 4, v as u64);
+    octets::store_at(row, EPOCH_AT, 4, v as u64);
 }
 
 fn set_members(row: &mut [u8], v: u64)
     requires { 32 ≤ length row.old }
     ensures { row.new ≡ store members v row.old }
 {
-    bytes::store_at(row, MEMBERS_AT, 8, v);
+    octets::store_at(row, MEMBERS_AT, 8, v);
 }
 
 fn set_grid_mark(row: &mut [u8], v: u8)
     requires { 32 ≤ length row.old }
     ensures { row.new ≡ store grid_mark v row.old }
 {
-    bytes::store_at(row, GRID_MARK_AT, 1, v as u64);
+    octets::store_at(row, GRID_MARK_AT, 1, v as u64);
 }
 
 pub fn set_county(row: &mut [u8], v: u8)
     requires { 32 ≤ length row.old }
     ensures { row.new ≡ store county v row.old }
 {
-    bytes::store_at(row, COUNTY_AT, 1, v as u64);
+    octets::store_at(row, COUNTY_AT, 1, v as u64);
 }
 
 pub fn set_oldest(copy: &mut [u8], v: u8)
     requires { 12 ≤ length copy.old }
     ensures { copy.new ≡ store oldest v copy.old }
 {
-    bytes::store_at(copy, OLDEST_AT, 1, v as u64);
+    octets::store_at(copy, OLDEST_AT, 1, v as u64);
 }
 
 pub fn set_list(row: &mut [u8], l: Laid)

@@ -1,4 +1,6 @@
 // The founding of a table: its questions in order, then what is done.
+#![tactic(auto)]
+
 ghost use Rattle.std.specs.Prelude.{◌≡◌, ◌&&◌, ◌+◌, ◌*◌, ◌%◌, eqb, leb, length};
 ghost use Rattle.sets.specs.Upto.{every};
 ghost use Rattle.fields.specs.Layout.{stride};
@@ -20,7 +22,7 @@ fn names_rise(names: &[u8]) -> bool
     let mut low: u16 = 0;
     let mut i = 0;
     while i < n {
-        let x = bytes::u16_at(names, 2 * i);
+        let x = octets::u16_at(names, 2 * i);
         ok = both(ok, low < x);
         low = x;
         i += 1;
@@ -63,7 +65,7 @@ fn counties_right(counties: &[u8], n: usize) -> bool
     let mut ok = true;
     let mut i = 0;
     while i < n {
-        ok = both(ok, is_county(bytes::u8_at(counties, i) as usize));
+        ok = both(ok, is_county(octets::u8_at(counties, i) as usize));
         i += 1;
     }
     ok

@@ -1,4 +1,6 @@
 // The grid of a list: how many rows and columns it has.
+#![tactic(auto)]
+
 ghost use Rattle.std.specs.Prelude.{◌≡◌, cond, leb, ◌≤◌};
 ghost use Rattle.grid.specs.Sizes.{published, no_grid, exchanged, grid_by, mark_fits, new_mark, height, Fits};
 
@@ -6,7 +8,7 @@ use bools::{any, both};
 
 // The sizes of a grid. (The table below has one for each length of a list. Columns first: then no entry lies across two of the stores by
 // which the compiler builds the table.)
-#[derive(Drop)]
+#[derive(Clone, Copy)]
 pub struct Grid {
     pub cols: u8,
     pub rows: u8,

@@ -11,7 +11,7 @@ use Rattle.sets.specs.Upto.{lowest, Within}
 use Rattle.sets.specs.Sets.{has}
 use Rattle.quorums.specs.declared.Kind.{Kind}
 use Rattle.quorums.specs.declared.Kind.TheVariants.{Read, Write}
-use Rattle.bytes.specs.Bytes.{part}
+use Rattle.octets.specs.Bytes.{part}
 use Rattle.fields.specs.Layout.{used_of, files_of, contents_of}
 use Rattle.table.specs.Chain.{frame_of}
 use Rattle.table.specs.WellFormed.{limit}

@@ -15,8 +15,8 @@ use Rattle.quorums.specs.declared.Kind.TheVariants.{Read}
 use Rattle.fields.specs.Layout.{get, epoch, list, copy_bytes, epoch_of, list_of, stale_of, version_of, contents_of}
 use Rattle.counties.specs.Marks.{laid_now}
 use Rattle.protocol.specs.Polls.{polled}
-use Rattle.bytes.specs.Bytes.{zeros}
-use Rattle.bytes.proofs.ByteLaws.{length-zeros}
+use Rattle.octets.specs.Bytes.{zeros}
+use Rattle.octets.proofs.ByteLaws.{length-zeros}
 use Rattle.protocol.specs.Calls.{Founding, names_in, founded_list, founded}
 use Rattle.protocol.proofs.ListLaws.{inhabited}
 use Rattle.fields.proofs.FieldLaws.{BlankCopy}

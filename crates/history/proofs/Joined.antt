@@ -18,7 +18,7 @@ use Rattle.sets.proofs.UptoLaws.{last}
 use Rattle.sets.proofs.SetLaws.{has_within}
 use Rattle.quorums.specs.declared.Kind.{Kind}
 use Rattle.quorums.specs.declared.Kind.TheVariants.{Read}
-use Rattle.bytes.specs.Bytes.{zeros}
+use Rattle.octets.specs.Bytes.{zeros}
 use Rattle.fields.specs.declared.Laid.{Laid}
 use Rattle.fields.specs.Layout.{no_list, is_empty}
 use Rattle.linking.specs.Linking.{inserted, by_name}

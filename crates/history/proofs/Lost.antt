@@ -14,8 +14,8 @@ use Rattle.bools.proofs.BoolLaws.{and_l}
 use Rattle.sets.proofs.SetLaws.{has-lose, has_within, inside-lt}
 use Rattle.quorums.specs.declared.Kind.TheVariants.{Write}
 use Rattle.quorums.proofs.LossLaws.{losing-one}
-use Rattle.bytes.specs.Bytes.{zeros}
-use Rattle.bytes.proofs.ByteLaws.{length-zeros}
+use Rattle.octets.specs.Bytes.{zeros}
+use Rattle.octets.proofs.ByteLaws.{length-zeros}
 use Rattle.grid.specs.Sizes.{new_mark}
 use Rattle.grid.proofs.SizeLaws.{mark-low}
 use Rattle.fields.specs.declared.Laid.{Laid}

@@ -15,8 +15,8 @@ use Rattle.sets.specs.Sets.{has}
 use Rattle.quorums.specs.declared.Kind.TheVariants.{Write}
 use Rattle.fields.specs.Layout.{get, mark, version, desired, epoch, list, contents, copy_bytes, used_of, files_of, file_length_of, name_of, county_of, stale_of, version_of, desired_of, contents_of, epoch_of, list_of, is_tall}
 use Rattle.table.specs.WellFormed.{limit}
-use Rattle.bytes.specs.Bytes.{zeros}
-use Rattle.bytes.proofs.ByteLaws.{length-put}
+use Rattle.octets.specs.Bytes.{zeros}
+use Rattle.octets.proofs.ByteLaws.{length-put}
 use Rattle.table.proofs.FormLaws.{Formed}
 use Rattle.fields.specs.declared.Laid.{Laid}
 use Rattle.fields.proofs.FieldLaws.{BlankCopy}

@@ -15,7 +15,7 @@ use Rattle.bools.proofs.BoolLaws.{and_l, and_r, or_l, or_r}
 use Rattle.sets.proofs.UptoLaws.{every-at, every_of, some_at, some_of}
 use Rattle.sets.proofs.SetLaws.{has_within}
 use Rattle.quorums.specs.declared.Kind.TheVariants.{Write}
-use Rattle.bytes.proofs.ByteLaws.{length-put, length-zeros}
+use Rattle.octets.proofs.ByteLaws.{length-put, length-zeros}
 use Rattle.fields.specs.Layout.{stride, used_of, files_of, file_length_of}
 use Rattle.table.specs.Chain.{frame_of}
 use Rattle.table.specs.WellFormed.{between, is_county, limit, only_rows}
@@ -26,7 +26,7 @@ use Rattle.protocol.specs.Polls.{good_version, current, quorum_held}
 use Rattle.sheet.specs.Sheet.{by_club}
 use Rattle.sheet.proofs.ShownLaws.{open_sheet, open-right, open-asks}
 use Rattle.asking.specs.Asking.{first_no, before}
-use Rattle.bytes.specs.Bytes.{zeros}
+use Rattle.octets.specs.Bytes.{zeros}
 use Rattle.protocol.specs.Calls.{Founding, Writing, founding, write, is_used, in_file, in_group, by_coordinator, questions, outcome, answers, work_set, names_in, names_rising, founded_list}
 use Rattle.protocol.proofs.ListLaws.{one_holds}
 use Rattle.protocol.proofs.PollLaws.{cut_in}

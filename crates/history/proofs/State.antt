@@ -17,7 +17,7 @@ use Rattle.counties.specs.Counties.{Frame, county_at}
 use Rattle.table.proofs.FormLaws.{Formed, well-formed-of, header-facts}
 use Rattle.protocol.specs.Polls.{Poll, polled, listed, highest_epoch, in_force, good_version, good, current, quorum_held, worked_on}
 use Rattle.protocol.specs.Calls.{answers, work_set}
-use Rattle.bytes.specs.Bytes.{zeros}
+use Rattle.octets.specs.Bytes.{zeros}
 use Rattle.bools.proofs.BoolLaws.{and_l, and_r}
 use Rattle.linking.specs.Linking.{by_name}
 use Rattle.linking.proofs.NameLaws.{by_name-same}

@@ -13,7 +13,7 @@ use Rattle.sets.specs.Sets.{has}
 use Rattle.bools.proofs.BoolLaws.{or_l, or_r, or-e, clash, same_test}
 use Rattle.sets.proofs.SetLaws.{has_within}
 use Rattle.quorums.specs.declared.Kind.TheVariants.{Read, Write}
-use Rattle.bytes.specs.Bytes.{put}
+use Rattle.octets.specs.Bytes.{put}
 use Rattle.fields.specs.declared.Laid.{Laid}
 use Rattle.fields.specs.Layout.{is_empty, is_tall}
 use Rattle.counties.specs.Counties.{Frame, list_quorum}

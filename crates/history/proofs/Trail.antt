@@ -9,7 +9,7 @@ use lib.Dec.{leb}
 use borrow.Author.Tests.{le-leb, lt-leb}
 use Rattle.sets.specs.Upto.{Within}
 use Rattle.fields.specs.Layout.{get, version, contents, copy_bytes, used_of, file_length_of, version_of, contents_of}
-use Rattle.bytes.specs.Bytes.{zeros}
+use Rattle.octets.specs.Bytes.{zeros}
 use Rattle.window.specs.Windows.{Patch, Kept, window_of, emptied, patched, sent}
 use Rattle.window.specs.Claims.{Fits, Grown}
 use Rattle.window.proofs.ReachLaws.{grown-more, sent-whole}

@@ -4,7 +4,7 @@ use Rattle.sets.specs.Upto.{every, some}
 use Rattle.sets.specs.Sets.{has, cut_to}
 use Rattle.quorums.specs.declared.Kind.{Kind}
 use Rattle.quorums.specs.declared.Kind.TheVariants.{Write}
-use Rattle.bytes.specs.Bytes.{put, zeros}
+use Rattle.octets.specs.Bytes.{put, zeros}
 use Rattle.fields.specs.declared.Laid.{Laid}
 use Rattle.fields.specs.Layout.{no_list, is_tall}
 use Rattle.linking.specs.Linking.{by_name}

@@ -3,7 +3,7 @@ use Rattle.std.specs.Prelude.{◌≡◌, cond, List, [], ◌∷◌, ℕ, ◌<◌
 use Rattle.sets.specs.Sets.{has}
 use Rattle.quorums.specs.declared.Kind.{Kind}
 use Rattle.quorums.specs.declared.Kind.TheVariants.{Read, Write}
-use Rattle.bytes.specs.Bytes.{part}
+use Rattle.octets.specs.Bytes.{part}
 use Rattle.asking.specs.Asking.{first_no, before}
 use Rattle.sheet.specs.Sheet.{by_club}
 use Rattle.protocol.specs.Calls.{Founding, Reading, Call, founding, join, read, write, send, check, carry, Outcome, questions, outcome}

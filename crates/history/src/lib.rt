@@ -1,1 +1,3 @@
 // Histories of calls: definitions and proofs only.
+#![tactic(auto)]
+

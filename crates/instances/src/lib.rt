@@ -1,1 +1,3 @@
 // Founded histories, computed over bytes, in which the premises of claims are met.
+#![tactic(auto)]
+

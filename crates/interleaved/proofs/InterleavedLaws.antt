@@ -13,7 +13,7 @@ use Rattle.sets.specs.Upto.{Within}
 use Rattle.sets.specs.Sets.{has}
 use Rattle.sets.proofs.SetLaws.{has-suc, empty-at}
 use Rattle.sets.proofs.DigitLaws.{on, on_or, on-power}
-use Rattle.bytes.specs.Bytes.{part}
+use Rattle.octets.specs.Bytes.{part}
 use Rattle.blocks.specs.Blocks.{with_block, with_blocks}
 use Rattle.fields.specs.Layout.{used_of, row_length, row_bytes, with_rows}
 use Rattle.table.specs.WellFormed.{well_formed}

@@ -9,8 +9,8 @@ use lib.Dec.{eqb, ltb}
 use lib.ListN.{length, take, drop, length-drop}
 use borrow.Author.Tests.{eq-eqb, ne_eqb}
 use Rattle.sets.proofs.RisingLaws.{among-e}
-use Rattle.bytes.specs.Bytes.{bytes_of, part, put, zeros}
-use Rattle.bytes.proofs.ByteLaws.{length-bytes, drop-put-after, first-zeros, split-zeros, zeros-are}
+use Rattle.octets.specs.Bytes.{bytes_of, part, put, zeros}
+use Rattle.octets.proofs.ByteLaws.{length-bytes, drop-put-after, first-zeros, split-zeros, zeros-are}
 use Rattle.blocks.specs.Blocks.{block, with_block}
 use Rattle.fields.specs.Layout.{Field, store, form, used, first, file_length, file_count, name, link, county, body_length, bare_row, stride, form_of, capacity_of, used_of, first_of, files_of, file_length_of, row_length, rows_end, row_bytes, name_of, link_of, with_row}
 use Rattle.fields.proofs.FieldLaws.{length-store, stored_bytes, get_other, part-store, head-room, row-newest}

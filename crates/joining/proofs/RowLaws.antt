@@ -15,8 +15,8 @@ use Rattle.bools.proofs.BoolLaws.{and_l, and_r, clash}
 use Rattle.sets.specs.Upto.{Within}
 use Rattle.sets.proofs.UptoLaws.{last}
 use Rattle.sets.proofs.SetLaws.{has_within}
-use Rattle.bytes.specs.Bytes.{number, bytes_of, part, zeros, all_zero}
-use Rattle.bytes.proofs.ByteLaws.{number-bytes, part-part, zero-drop}
+use Rattle.octets.specs.Bytes.{number, bytes_of, part, zeros, all_zero}
+use Rattle.octets.proofs.ByteLaws.{number-bytes, part-part, zero-drop}
 use Rattle.fields.specs.declared.Laid.{Laid}
 use Rattle.fields.specs.Layout.{Field, get, store, form, form_value, capacity, used, first, file_length, file_count, rest_in, name, link, epoch, members, grid_mark, county, list, no_list, is_empty, is_tall, reserved, body_length, bare_row, copy_in, copy_bytes, form_of, capacity_of, used_of, first_of, files_of, file_length_of, row_length, rows_end, row_bytes, name_of, link_of, list_of, county_of}
 use Rattle.fields.proofs.FieldLaws.{Apart, get-store, get_other, drop-store, reserved-store, copy-behind, BlankCopy, zero-copies, blank-copy, list-is}

@@ -1,7 +1,7 @@
 -- What is claimed of a table with a row more, as statements; the proofs are in proofs/.
 use Rattle.std.specs.Prelude.{◌≡◌, cond, List, ℕ, suc, eqb, length, drop}
 use Rattle.sets.specs.Upto.{Within}
-use Rattle.bytes.specs.Bytes.{bytes_of, part}
+use Rattle.octets.specs.Bytes.{bytes_of, part}
 use Rattle.fields.specs.Layout.{store, link, body_length, bare_row, used_of, first_of, file_length_of, files_of, link_of, rows_end, row_bytes}
 use Rattle.linking.specs.Linking.{behind}
 use Rattle.joining.specs.Joining.{row_before}

@@ -1,1 +1,3 @@
 // A table with a row more: definitions and laws.
+#![tactic(auto)]
+

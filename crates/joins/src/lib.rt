@@ -1,4 +1,6 @@
 // A joining: its questions in order, then what is done.
+#![tactic(auto)]
+
 ghost use Rattle.std.specs.Prelude.{◌≡◌, true, eqb};
 ghost use Rattle.sets.specs.Upto.{some};
 ghost use Rattle.fields.specs.Layout.{used_of, name_of};
@@ -12,7 +14,7 @@ use bools::any;
 use values::is_county;
 
 // Where a name goes in the chain: the row before it, 0 where it comes first; and whether it is in use.
-#[derive(Drop)]
+#[derive(Clone, Copy)]
 struct Place {
     before: usize,
     taken: bool,

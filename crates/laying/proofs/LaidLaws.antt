@@ -12,10 +12,10 @@ use lib.ListN.{length, get_or, take, drop, length-append}
 use lib.Seq.{take_at, drop_at, take_all, take-suc, length-take-le}
 use Rattle.sets.specs.Sets.{has, first_rows}
 use Rattle.sets.proofs.SetLaws.{has_first, same-members}
-use Rattle.bytes.specs.Bytes.{bytes_of, put, zeros}
+use Rattle.octets.specs.Bytes.{bytes_of, put, zeros}
 use Rattle.fields.specs.Layout.{store, form, form_value, body_length, stride, capacity, used, first, file_length, file_count, name, link, county, members, grid_mark, store_list}
-use Rattle.bytes.proofs.ByteLaws.{length-put, length-zeros, split-zeros, bytes-zero}
-use Rattle.bytes.proofs.CodeLaws.{part_length, part-back}
+use Rattle.octets.proofs.ByteLaws.{length-put, length-zeros, split-zeros, bytes-zero}
+use Rattle.octets.proofs.CodeLaws.{part_length, part-back}
 use Rattle.fields.specs.declared.Laid.{Laid}
 use Rattle.counties.specs.Counties.{county_at}
 use Rattle.protocol.specs.Calls.{founded_header, founded_row, founded_rows, founded_list, founded}

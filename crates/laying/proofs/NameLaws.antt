@@ -6,7 +6,7 @@ use native.Mathlib.Omega.{arith}
 use lib.ListN.{length, get_or}
 use borrow.Author.Tests.{le-leb}
 use Rattle.counties.specs.Counties.{county_at}
-use Rattle.bytes.specs.Bytes.{number, part}
+use Rattle.octets.specs.Bytes.{number, part}
 use Rattle.protocol.specs.Calls.{names_in}
 
 -- the name of row k + 1

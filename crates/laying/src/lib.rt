@@ -1,4 +1,6 @@
 // A new table laid out.
+#![tactic(auto)]
+
 ghost use Rattle.std.specs.Prelude.{◌≡◌, cond, ℕ, ◌+◌, ◌*◌, ◌≤◌, ◌<◌, eqb, length, get_or};
 ghost use Rattle.sets.specs.Upto.{Within};
 ghost use Rattle.fields.specs.Layout.{store, store_list, name, link, county, stride};
@@ -45,11 +47,11 @@ pub fn lay_table(
     let size = table::row_size(files, file);
     // the rows stand behind the header, up to the end
     let mut at = t.len() - capacity * size;
-    bytes::fill(t, 0);
+    octets::fill(t, 0);
     header::set_header(t, capacity as u8, n as u8, file as u16, files as u8);
     let mut i = 0;
     while i < n {
-        let x = bytes::u16_at(names, 2 * i);
+        let x = octets::u16_at(names, 2 * i);
         let place = counties[i];
         i += 1;
         found_row(&mut t[at..at + size], x, next_row(i, n), place, list);

@@ -1,5 +1,7 @@
 // A level: members in chain order, laid in one grid; the quorum that a set holds of it, and the choice that a name makes over it.
 // The chain order is the first `count` of an array of 64 rows.
+#![tactic(auto)]
+
 ghost use Rattle.std.specs.Prelude.{◌≡◌, true, ◌&&◌, cond, ℕ, ◌+◌, ◌*◌, ◌/◌, ◌^◌, ◌≤◌, ◌<◌, min, eqb, leb, length, get_or, take};
 ghost use Rattle.sets.specs.Upto.{Within, some, upward};
 ghost use Rattle.sets.specs.Sets.{has};
@@ -7,7 +9,7 @@ ghost use Rattle.table.specs.Asked.{Listed};
 ghost use Rattle.counties.specs.Levels.{seats, at_seat, level, level_choice};
 
 use bools::both;
-use bytes::joined;
+use octets::joined;
 use quorums::Kind;
 use rows::RowSet;
 

@@ -10,8 +10,8 @@ use native.Mathlib.Omega.{arith}
 use lib.Dec.{eqb}
 use lib.ListN.{length, take, drop, length-append, length-drop}
 use lib.Seq.{take-append-add, take_all, take_at, drop_at, drop-length, length-take-le}
-use Rattle.bytes.specs.Bytes.{bytes_of, part, put, zeros}
-use Rattle.bytes.proofs.ByteLaws.{length-bytes, length_part, part-front, part-part, bytes-zero}
+use Rattle.octets.specs.Bytes.{bytes_of, part, put, zeros}
+use Rattle.octets.proofs.ByteLaws.{length-bytes, length_part, part-front, part-part, bytes-zero}
 use Rattle.blocks.specs.Blocks.{block, in_turn}
 use Rattle.fields.specs.Layout.{store, former_oldest, body_in, stride_in, form_of, capacity_of, used_of, file_length_of, files_of, row_length, rows_end, row_bytes}
 use Rattle.fields.proofs.FieldLaws.{body-in, rows-small}

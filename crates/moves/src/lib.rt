@@ -1,6 +1,8 @@
 // A table carried over to another form, into a second lent buffer: its questions in order, then what is done.
+#![tactic(auto)]
+
 ghost use Rattle.std.specs.Prelude.{◌≡◌, ◌++◌, ◌+◌, ◌-◌, ◌*◌, ◌≤◌, ◌<◌, length, take};
-ghost use Rattle.bytes.specs.Bytes.{bytes_of, part, zeros};
+ghost use Rattle.octets.specs.Bytes.{bytes_of, part, zeros};
 ghost use Rattle.fields.specs.Layout.{store, former_oldest, form_of};
 ghost use Rattle.table.specs.Asked.{Sized};
 ghost use Rattle.carrying.specs.Moves.{goes_over, all_plain, carried, carried_length};
@@ -41,7 +43,7 @@ fn carry_front(front: &mut [u8], row: &[u8])
     ensures { front.new ≡ store former_oldest 0 row.now }
 {
     copying::copy(front, row);
-    bytes::store_at(front, fields::FORMER_OLDEST_AT, 1, 0);
+    octets::store_at(front, fields::FORMER_OLDEST_AT, 1, 0);
 }
 
 // A row of the new table: head and contents, which end there, then zeros.
@@ -50,7 +52,7 @@ fn carry_row(new: &mut [u8], row: &[u8], end: usize)
     ensures { new.new ≡ store former_oldest 0 (part 0 end row.now) ++ zeros (length new.old - end) }
 {
     carry_front(&mut new[0..end], &row[0..end]);
-    bytes::fill(&mut new[end..], 0);
+    octets::fill(&mut new[end..], 0);
 }
 
 // The header of the new table.
@@ -59,7 +61,7 @@ fn carry_head(dest: &mut [u8], t: &[u8], form: u8)
     ensures { take 16 dest.new ≡ bytes_of 1 form ++ part 1 15 t.now }
 {
     copying::copy(&mut dest[0..header::HEADER], &t[0..header::HEADER]);
-    bytes::store_at(dest, 0, 1, form as u64);
+    octets::store_at(dest, 0, 1, form as u64);
 }
 
 // The table of that form.

@@ -9,8 +9,8 @@ use native.Mathlib.Omega.{arith}
 use borrow.Author.Tests.{ne_eqb}
 use lib.ListN.{length, get_or, take, drop, length-append, get_or-append, get_or-replicate}
 use lib.Seq.{take_all, get_or-append-add}
-use Rattle.bytes.specs.Bytes.{put}
-use Rattle.bytes.proofs.ByteLaws.{put-more}
+use Rattle.octets.specs.Bytes.{put}
+use Rattle.octets.proofs.ByteLaws.{put-more}
 use Rattle.telling.specs.Text.{in_bytes, decimal, spaces, padded, last_of}
 use Rattle.telling.specs.Notices.{word, shows_name, shown_name, reason, heading, sentence}
 use Rattle.telling.proofs.TextLaws.{length-padded, length-spaces, drop-spaces}

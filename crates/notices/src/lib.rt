@@ -1,6 +1,8 @@
 // A refusal told in one sentence: its questions in order, then heading, word and reason one behind the other in the lent buffer.
+#![tactic(auto)]
+
 ghost use Rattle.std.specs.Prelude.{◌≡◌, List, ℕ, ◌+◌, ◌≤◌, length};
-ghost use Rattle.bytes.specs.Bytes.{put};
+ghost use Rattle.octets.specs.Bytes.{put};
 ghost use Rattle.asking.specs.Asking.{result_number};
 ghost use Rattle.telling.specs.Text.{decimal, padded, last_of};
 ghost use Rattle.telling.specs.Notices.{shown_name, heading, sentence, noticed};
@@ -11,7 +13,7 @@ use bools::both;
 
 // Where a text ends that has spaces behind it.
 fn end_of(text: &[u8]) -> usize
-    ensures* { λ r. ⌜ Ends text.now r ⌝ }
+    ensures { Ends text.now result }
 {
     let mut n = text.len();
     while 0 < n {
@@ -26,7 +28,7 @@ fn end_of(text: &[u8]) -> usize
 // A text put at a place without the spaces behind it; where it ends.
 fn say(buffer: &mut [u8], at: usize, text: &[u8]) -> usize
     requires { at + length text.now ≤ length buffer.old }
-    ensures* { λ r. ⌜ ((n : ℕ) (s : List ℕ) → text.now ≡ padded n s → (last_of s ≡ 32 → ⊥) → (r ≡ at + length s) × (buffer.new ≡ put at s buffer.old)) ⌝ }
+    ensures { ((n : ℕ) (s : List ℕ) → text.now ≡ padded n s → (last_of s ≡ 32 → ⊥) → (result ≡ at + length s) × (buffer.new ≡ put at s buffer.old)) }
 {
     let n = end_of(text);
     let end = at + n;
@@ -36,7 +38,7 @@ fn say(buffer: &mut [u8], at: usize, text: &[u8]) -> usize
 
 // A number in decimal figures, as many as there is room for.
 fn figures(s: &mut [u8], v: u64)
-    ensures* { λ r. ⌜ s.new ≡ decimal (length s.old) v ⌝ }
+    ensures { s.new ≡ decimal (length s.old) v }
 {
     let mut left = v;
     let mut i = s.len();
@@ -50,7 +52,7 @@ fn figures(s: &mut [u8], v: u64)
 // A number put at a place, in `width` figures.
 fn say_number(buffer: &mut [u8], at: usize, width: usize, v: u64)
     requires { at + width ≤ length buffer.old }
-    ensures* { λ r. ⌜ buffer.new ≡ put at (decimal width v) buffer.old ⌝ }
+    ensures { buffer.new ≡ put at (decimal width v) buffer.old }
 {
     figures(&mut buffer[at..at + width], v);
 }
@@ -58,7 +60,7 @@ fn say_number(buffer: &mut [u8], at: usize, width: usize, v: u64)
 // How a sentence begins: its text with zeros for the figures, and then the figures.
 fn say_heading(buffer: &mut [u8], call: u64, name: u16, number: u32)
     requires { 45 ≤ length buffer.old }
-    ensures* { λ r. ⌜ buffer.new ≡ put 0 (heading call name number) buffer.old ⌝ }
+    ensures { buffer.new ≡ put 0 (heading call name number) buffer.old }
 {
     let text = *b"Call 00 by machine 00000, number 0000000000: ";
     copying::copy(&mut buffer[0..45], &text[0..45]);
@@ -69,7 +71,7 @@ fn say_heading(buffer: &mut [u8], call: u64, name: u16, number: u32)
 
 // The name that a call shows: a read, a write, a check and a round that of the coordinator, every other 0.
 fn shown_name(call: u64, name: u16) -> u16
-    ensures* { λ r. ⌜ r ≡ shown_name call name ⌝ }
+    ensures { result ≡ shown_name call name }
 {
     match call {
         2 | 3 | 5 | 7 => name,
@@ -80,7 +82,7 @@ fn shown_name(call: u64, name: u16) -> u16
 // The sentence, in a buffer of 160 bytes, with spaces behind it; its length.
 fn tell(buffer: &mut [u8], call: u64, name: u16, number: u32) -> usize
     requires { length buffer.old ≡ 160 }
-    ensures* { λ r. ⌜ (let s = sentence call name number in (r ≡ length s) × (buffer.new ≡ padded 160 s)) ⌝ }
+    ensures { (let s = sentence call name number in (result ≡ length s) × (buffer.new ≡ padded 160 s)) }
 {
     let spaces = [b' '; 160];
     copying::copy(buffer, &spaces[0..160]);
@@ -93,7 +95,7 @@ fn tell(buffer: &mut [u8], call: u64, name: u16, number: u32) -> usize
 
 // The refusal of a call by a number, told in a lent buffer of 160 bytes. Value: the sentence's length.
 pub fn notice(call: u64, name: u16, number: u32, buffer: &mut [u8]) -> u64
-    ensures* { λ x. ⌜ (let o = noticed call name number buffer.old in (x ≡ result_number o.refusal o.value) × (buffer.new ≡ o.buffer)) ⌝ }
+    ensures { (let o = noticed call name number buffer.old in (result ≡ result_number o.refusal o.value) × (buffer.new ≡ o.buffer)) }
 {
     if !both(1 <= call, call <= 10) {
         return result(4, 0);

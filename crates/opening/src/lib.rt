@@ -1,4 +1,6 @@
 // What a round begins with: question 1 is asked once, and hands on the chain order and the counties of the rows.
+#![tactic(auto)]
+
 ghost use Rattle.std.specs.Prelude.{◌≡◌, ◌≤◌, replicate};
 ghost use Rattle.asking.specs.Asking.{first_no, result_number};
 ghost use Rattle.orders.specs.Turns.{first_questions, Ready};
@@ -6,7 +8,7 @@ ghost use Rattle.orders.specs.Turns.{first_questions, Ready};
 use asking::result;
 
 // What is asked before the first order: the first no, 0 where there is none. Then also what is left of the sheet's remainder.
-#[derive(Drop)]
+#[derive(Clone, Copy)]
 pub struct First {
     pub no: u32,
     pub left: u64,
@@ -21,7 +23,7 @@ pub fn asked(
     order: &mut [u8; 64],
     sets: &mut [u64; 8],
 ) -> First
-    ensures* { λ k. ⌜ (k.no ≡ first_no (first_questions t.now sheet.now r n)) × (k.no ≡ 0 → Ready t.now sheet.now order.new sets.new k.left (replicate 16 0)) ⌝ }
+    ensures { (result.no ≡ first_no (first_questions t.now sheet.now r n)) × (result.no ≡ 0 → Ready t.now sheet.now order.new sets.new result.left (replicate 16 0)) }
 {
     let sum = sheets::begun(sheet);
     if !sum.right {
@@ -48,7 +50,7 @@ pub fn asked(
 
 // Where a round stands between two orders: its result so far, and, while nothing is refused, what is left of the sheet's remainder, the chain order
 // and the counties of the rows, and the choices made.
-#[derive(Drop)]
+#[derive(Clone, Copy)]
 pub struct Standing {
     pub result: u64,
     pub left: u64,
@@ -59,7 +61,7 @@ pub struct Standing {
 
 // A round of n orders begins. Table and sheet are lent as to `next`, and stay as they are.
 pub fn begin(t: &mut [u8], sheet: &mut [u8], r: u64, n: usize) -> Standing
-    ensures* { λ k. ⌜ (k.result ≡ result_number (first_no (first_questions t.old sheet.old r n)) 0) × (k.result ≤ 64 → Ready t.new sheet.new k.order k.sets k.left k.choices) × (t.new ≡ t.old) × (sheet.new ≡ sheet.old) ⌝ }
+    ensures { (result.result ≡ result_number (first_no (first_questions t.old sheet.old r n)) 0) × (result.result ≤ 64 → Ready t.new sheet.new result.order result.sets result.left result.choices) × (t.new ≡ t.old) × (sheet.new ≡ sheet.old) }
 {
     let mut order = [0u8; 64];
     let mut sets = [0u64; 8];

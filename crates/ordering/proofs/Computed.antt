@@ -12,7 +12,7 @@ use Rattle.sets.specs.Sets
 use Rattle.grid.specs.Sizes
 use Rattle.quorums.specs.Quorums
 use Rattle.quorums.proofs.StarredLaws.{all_pass, each_of}
-use Rattle.bytes.specs.Bytes
+use Rattle.octets.specs.Bytes
 use Rattle.blocks.specs.Blocks
 use Rattle.fields.specs.Layout
 use Rattle.counties.specs.Levels

@@ -11,7 +11,7 @@ use borrow.Author.Tests.{eq-eqb, ne_eqb}
 use Rattle.sets.specs.Upto.{Within}
 use Rattle.sets.specs.Sets.{has}
 use Rattle.quorums.specs.Starred.{Each}
-use Rattle.bytes.specs.Bytes.{number, part}
+use Rattle.octets.specs.Bytes.{number, part}
 use Rattle.fields.specs.Layout.{get, name, link, county, used_of, name_of, link_of, county_of, rows_end, row_bytes, copy_bytes}
 use Rattle.table.specs.WellFormed.{well_formed}
 use Rattle.table.proofs.TableLaws.{Like, like-end}

@@ -9,7 +9,7 @@ use native.Mathlib.Decide.{ℕ_discrete}
 use lib.Dec.{eqb}
 use lib.ListN.{length, take, drop}
 use borrow.Author.Tests.{eq-eqb, ne_eqb}
-use Rattle.bytes.specs.Bytes.{number, part}
+use Rattle.octets.specs.Bytes.{number, part}
 use Rattle.protocol.proofs.Unanswered.{first_part}
 use Rattle.protocol.specs.Calls.{Writing, Outcome, write, questions, done, lent_sheet, outcome}
 use Rattle.protocol.proofs.QuestionLaws.{refusal_is, when-done, when-refused}

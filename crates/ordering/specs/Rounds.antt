@@ -1,6 +1,6 @@
 -- "A round entered together": what a list of orders does under one answering set, with one sheet.
 use Rattle.std.specs.Prelude.{Bool, true, false, cond, List, [], ◌∷◌, ℕ, zero, suc, ◌/◌, ◌%◌, eqb, length, take, drop}
-use Rattle.bytes.specs.Bytes.{number, part}
+use Rattle.octets.specs.Bytes.{number, part}
 use Rattle.fields.specs.Layout.{used_of}
 use Rattle.table.specs.WellFormed.{between, only_rows, well_formed}
 use Rattle.sheet.specs.Sheet.{sheet_right}

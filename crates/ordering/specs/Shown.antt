@@ -1,7 +1,7 @@
 -- Rounds of bytes, computed: two machines with two files of nine bytes.
 use Rattle.std.specs.Prelude.{◌≡◌, List, [], ◌∷◌, ◌++◌, ℕ, ◌-◌, length, take}
 use Rattle.quorums.specs.Starred.{Each}
-use Rattle.bytes.specs.Bytes.{put, zeros}
+use Rattle.octets.specs.Bytes.{put, zeros}
 use Rattle.fields.specs.Layout.{contents_of}
 use Rattle.sheet.specs.Sheet.{count_of}
 use Rattle.sheet.specs.Shown.{club, sheet_of}

@@ -1,7 +1,9 @@
 // A round entered together: an order of it, and what a list of orders does, defined.
+#![tactic(auto)]
+
 
 // An order of a round: who coordinates, how many bytes, where they go and the bytes; of which file, and for which club.
-#[derive(Drop)]
+#[derive(Clone, Copy)]
 pub struct Order {
     pub coordinator: u8,
     pub length: u8,

@@ -11,7 +11,7 @@ use lib.ListN.{get_or, set, replicate, length-set, get_or-replicate}
 use lib.Seq.{get_or-set_same, get_or-set_other}
 use Rattle.sets.specs.Upto.{Within}
 use Rattle.quorums.specs.declared.Kind.TheVariants.{Write}
-use Rattle.bytes.specs.Bytes.{part}
+use Rattle.octets.specs.Bytes.{part}
 use Rattle.fields.specs.Layout.{row_bytes, used_of, list_of}
 use Rattle.fields.proofs.FieldLaws.{head-list}
 use Rattle.grouping.specs.Grouped.{Framed}

@@ -1,4 +1,6 @@
 // One order of a round made: the write that it stands for. The choice of a coordinator among the first 16 rows is made once, and kept.
+#![tactic(auto)]
+
 ghost use Rattle.std.specs.Prelude.{◌≡◌, [], ◌∷◌, ◌≤◌};
 ghost use Rattle.quorums.specs.declared.Kind.TheVariants.{Write};
 ghost use Rattle.grouping.specs.Grouped.{Framed};
@@ -11,7 +13,7 @@ use quorums::Kind;
 use rows::RowSet;
 
 // A round's result so far, and, while nothing is refused, what is left of the sheet's remainder.
-#[derive(Drop)]
+#[derive(Clone, Copy)]
 pub struct Turn {
     pub result: u64,
     pub left: u64,
@@ -61,7 +63,7 @@ pub fn step(
     choices: &mut [u64; 16],
 ) -> Turn
     requires { sum ≤ 64 → Ready t.old sheet.old order.now sets.now left choices.old }
-    ensures* { λ x. ⌜ (record { result = x.result; table = t.new; sheet = sheet.new } ≡ stepped (record { result = sum; table = t.old; sheet = sheet.old }) (record { c = c; r = r; offset = offset; patch = patch.now; called = 0 ∷ []; file = file; sheet = sheet.old; club = club })) × (x.result ≤ 64 → Ready t.new sheet.new order.now sets.now x.left choices.new) ⌝ }
+    ensures { (record { result = result.result; table = t.new; sheet = sheet.new } ≡ stepped (record { result = sum; table = t.old; sheet = sheet.old }) (record { c = c; r = r; offset = offset; patch = patch.now; called = 0 ∷ []; file = file; sheet = sheet.old; club = club })) × (result.result ≤ 64 → Ready t.new sheet.new order.now sets.now result.left choices.new) }
 {
     if 64 < sum {
         return Turn {

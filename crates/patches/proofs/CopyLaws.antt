@@ -8,9 +8,9 @@ use lib.ListN.{length, take, drop, length-take, length-drop}
 use lib.Seq.{drop-drop, take_all}
 use borrow.Author.Tests.{le-leb, eq-eqb}
 use Rattle.sets.specs.Upto.{Within}
-use Rattle.bytes.specs.Bytes.{number, bytes_of, part, put, zeros, all_zero}
-use Rattle.bytes.proofs.ByteLaws.{bytes-zero, length-zeros, zeros-are, length_part, put_same}
-use Rattle.bytes.proofs.CodeLaws.{zero_number}
+use Rattle.octets.specs.Bytes.{number, bytes_of, part, put, zeros, all_zero}
+use Rattle.octets.proofs.ByteLaws.{bytes-zero, length-zeros, zeros-are, length_part, put_same}
+use Rattle.octets.proofs.CodeLaws.{zero_number}
 use Rattle.blocks.specs.Blocks.{block, with_block}
 use Rattle.blocks.proofs.BlockLaws.{length-stays, length-block}
 use Rattle.fields.specs.Layout.{get, store, oldest, records, store_records}

@@ -10,7 +10,7 @@ use lib.Seq.{drop-append-le}
 use borrow.Author.Tests.{leb-true, leb-false, le-leb, lt-leb}
 use Rattle.bools.proofs.BoolLaws.{and_l, and_r}
 use Rattle.sets.specs.Upto.{Within, among}
-use Rattle.bytes.specs.Bytes.{put}
+use Rattle.octets.specs.Bytes.{put}
 use Rattle.fields.specs.Layout.{get}
 use Rattle.linking.specs.Linking.{chain}
 use Rattle.linking.proofs.PathLaws.{chain-zero, chain-suc}

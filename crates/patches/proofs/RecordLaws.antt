@@ -5,9 +5,9 @@ use Prim.Native.Nat.{ℕ, zero, suc, ◌+◌, ◌-◌, ◌*◌, ◌≤◌}
 use native.Mathlib.Omega.{arith}
 use lib.ListN.{length, take, drop}
 use lib.Seq.{drop-drop}
-use Rattle.bytes.specs.Bytes.{bytes_of, put, zeros}
-use Rattle.bytes.proofs.ByteLaws.{split-zeros, length-zeros}
-use Rattle.bytes.proofs.CodeLaws.{part-back, part-is}
+use Rattle.octets.specs.Bytes.{bytes_of, put, zeros}
+use Rattle.octets.proofs.ByteLaws.{split-zeros, length-zeros}
+use Rattle.octets.proofs.CodeLaws.{part-back, part-is}
 use lib.Seq.{drop_at}
 use Rattle.blocks.specs.Blocks.{block, with_block}
 use Rattle.window.specs.Windows.{record_with}

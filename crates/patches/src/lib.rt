@@ -1,4 +1,6 @@
 // The window of a copy takes a patch; the patches of a window are laid over contents.
+#![tactic(auto)]
+
 ghost use Rattle.std.specs.Prelude.{◌≡◌, true, cond, [], ◌∷◌, ℕ, ◌≤◌, eqb, length, drop};
 ghost use Rattle.sets.specs.Upto.{Within};
 ghost use Rattle.blocks.specs.Blocks.{block, with_block};
@@ -10,7 +12,7 @@ ghost use Rattle.patches.specs.Places.{Placed};
 use windows::{PLACES, WIDTH, next_of};
 
 // How many records a right window has in use, and the youngest of them, 0 for none.
-#[derive(Drop)]
+#[derive(Clone, Copy)]
 struct Tail {
     count: usize,
     youngest: usize,
@@ -22,7 +24,7 @@ fn is_unused(records: &[u8], x: usize) -> bool
     ensures { result ≡ eqb (get size (block 0 36 x records.now)) 0 }
 {
     let at = (x - 1) * WIDTH;
-    bytes::u8_at(records, at + 1) == 0
+    octets::u8_at(records, at + 1) == 0
 }
 
 fn either(c: bool, a: usize, b: usize) -> usize
@@ -74,7 +76,7 @@ fn ended(oldest: usize, records: &[u8]) -> Tail
 }
 
 // Where a patch goes: the record that it takes, the youngest one before it, and the oldest one after.
-#[derive(Drop)]
+#[derive(Clone, Copy)]
 struct Place {
     taken: usize,
     youngest: usize,
@@ -106,7 +108,7 @@ fn relink(r: &mut [u8], x: usize)
     requires { length r.old ≡ 36 }
     ensures { r.new ≡ store younger x r.old }
 {
-    bytes::store_at(r, 0, 1, x as u64);
+    octets::store_at(r, 0, 1, x as u64);
 }
 
 // Record l, if it is one, is followed by record x.
@@ -126,9 +128,9 @@ fn write_record(r: &mut [u8], offset: usize, patch: &[u8])
     requires { (length r.old ≡ 36) × (length patch.now ≤ 32) }
     ensures { r.new ≡ record_with (record { offset = offset; bytes = patch.now }) }
 {
-    bytes::fill(r, 0);
-    bytes::store_at(r, 1, 1, patch.len() as u64);
-    bytes::store_at(r, 2, 2, offset as u64);
+    octets::fill(r, 0);
+    octets::store_at(r, 1, 1, patch.len() as u64);
+    octets::store_at(r, 2, 2, offset as u64);
     let end = 4 + patch.len();
     copying::copy(&mut r[4..end], patch);
 }
@@ -152,7 +154,7 @@ fn clear(copy: &mut [u8])
     }
     fields::set_oldest(copy, 0);
     let at = copy.len() - fields::RECORDS;
-    bytes::fill(&mut copy[at..], 0);
+    octets::fill(&mut copy[at..], 0);
 }
 
 // The records of a window take a patch, at its place.
@@ -186,8 +188,8 @@ fn lay_where(contents: &mut [u8], wanted: bool, r: &[u8])
     if !wanted {
         return;
     }
-    let size = bytes::u8_at(r, 1) as usize;
-    let start = bytes::u16_at(r, 2) as usize;
+    let size = octets::u8_at(r, 1) as usize;
+    let start = octets::u16_at(r, 2) as usize;
     let end = start + size;
     let stop = 4 + size;
     copying::copy(&mut contents[start..end], &r[4..stop]);

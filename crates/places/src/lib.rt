@@ -1,4 +1,6 @@
 // Arrays with a place for each of the 64 rows: what the rows of a set have.
+#![tactic(auto)]
+
 ghost use Rattle.std.specs.Prelude.{◌≡◌, ◌&&◌, ltb};
 ghost use Rattle.sets.specs.Upto.{some};
 ghost use Rattle.sets.specs.Sets.{has};
@@ -7,7 +9,7 @@ ghost use Rattle.places.specs.Places.{placed, Tops, Better, Behind};
 use rows::RowSet;
 
 // The highest value, and the rows that have it.
-#[derive(Drop)]
+#[derive(Clone, Copy)]
 pub struct Top {
     pub value: u32,
     pub rows: RowSet,

@@ -1,4 +1,6 @@
 // What the rows that answered say of a file.
+#![tactic(auto)]
+
 ghost use Rattle.std.specs.Prelude.{◌≡◌, ◌^◌, ◌<◌};
 ghost use Rattle.sets.specs.Upto.{Within};
 ghost use Rattle.sets.specs.Sets.{has};
@@ -10,7 +12,7 @@ ghost use Rattle.polls.specs.Shows.{Shows};
 use rows::RowSet;
 
 // The state gathered by a poll: a place for each of the 64 rows, 0 for rows that did not answer; which rows are stale, and which have a list.
-#[derive(Drop)]
+#[derive(Clone, Copy)]
 pub struct Poll {
     pub stale: RowSet,
     pub listed: RowSet,

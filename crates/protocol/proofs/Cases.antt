@@ -4,7 +4,7 @@ use mathlib.Core.List.{List, [], ◌∷◌, ◌++◌}
 use Prim.Native.Nat.{ℕ, zero, suc, ◌+◌, ◌-◌, ◌*◌}
 use lib.ListN.{replicate}
 use Rattle.sets.specs.Upto.{upward}
-use Rattle.bytes.specs.Bytes.{bytes_of, put, zeros}
+use Rattle.octets.specs.Bytes.{bytes_of, put, zeros}
 use Rattle.fields.specs.Layout.{stride}
 use Rattle.protocol.specs.Calls.{Call, founded}
 use Rattle.carrying.proofs.Computed.{early, late}

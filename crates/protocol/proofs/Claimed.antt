@@ -11,8 +11,8 @@ use Rattle.sets.specs.Upto.{every}
 use Rattle.sets.specs.Sets.{has}
 use Rattle.bools.proofs.BoolLaws.{clash}
 use Rattle.quorums.specs.declared.Kind.TheVariants.{Read, Write}
-use Rattle.bytes.specs.Bytes.{part, zeros}
-use Rattle.bytes.proofs.ByteLaws.{length-zeros}
+use Rattle.octets.specs.Bytes.{part, zeros}
+use Rattle.octets.proofs.ByteLaws.{length-zeros}
 use Rattle.fields.specs.Layout.{stride, used_of, name_of, version_of, rows_end}
 use Rattle.table.specs.Chain.{frame_of}
 use Rattle.table.specs.WellFormed.{between, is_county, limit, well_formed}

@@ -7,7 +7,7 @@ use native.Mathlib.Nat.{mul-le-mul_right}
 use native.Mathlib.Omega.{arith}
 use lib.ListN.{length}
 use Rattle.sets.specs.Upto.{Within}
-use Rattle.bytes.specs.Bytes.{part}
+use Rattle.octets.specs.Bytes.{part}
 use Rattle.blocks.proofs.BlockLaws.{length-stays, head-stays, block_same, block-other, Altered, blocks-changed}
 use Rattle.fields.specs.declared.Laid.{Laid}
 use Rattle.fields.specs.Layout.{get, name, link, epoch, county, list, reserved, file_length, copy_length, stride, copy_in, in_copy, in_copies, copy_bytes, used_of, files_of, file_length_of, row_bytes}

@@ -13,7 +13,7 @@ use Rattle.sets.specs.Upto.{Within}
 use Rattle.sets.specs.Sets.{has}
 use Rattle.quorums.specs.declared.Kind.TheVariants.{Write}
 use Rattle.counties.proofs.MarkLaws.{mark-small}
-use Rattle.bytes.specs.Bytes.{put}
+use Rattle.octets.specs.Bytes.{put}
 use Rattle.fields.specs.declared.Laid.{Laid}
 use Rattle.fields.specs.Layout.{is_tall, contents, copy_length, row_length, row_bytes, in_copy, copy_bytes, used_of, files_of, file_length_of, name_of, county_of, epoch_of, version_of, with_row, with_rows}
 use Rattle.table.specs.Chain.{frame_of}

@@ -19,13 +19,13 @@ use Rattle.sets.proofs.UptoLaws.{every-at, every_of}
 use Rattle.sets.proofs.SetLaws.{has_all_lem}
 use Rattle.sets.proofs.CountLaws.{count-one}
 use Rattle.sets.proofs.RisingLaws.{upward-length, upward-among}
-use Rattle.bytes.specs.Bytes.{number, bytes_of, part, zeros, all_zero}
+use Rattle.octets.specs.Bytes.{number, bytes_of, part, zeros, all_zero}
 use Rattle.blocks.specs.Blocks.{block}
 use Rattle.fields.specs.declared.Laid.{Laid}
 use Rattle.fields.specs.Layout.{is_tall, get, form, form_value, capacity, used, first, file_length, file_count, rest_in, name, link, epoch, members, grid_mark, county, list, reserved, body_length, stride, copy_in, copy_bytes, form_of, row_length, rows_end, row_bytes, capacity_of, used_of, first_of, file_length_of, files_of, name_of, link_of, list_of, county_of}
 use Rattle.linking.specs.Linking.{chain}
 use Rattle.table.specs.WellFormed.{between, is_county, limit, header_values, length_right, visits_each, names_rise, unused_zero}
-use Rattle.bytes.proofs.ByteLaws.{length-bytes, number-bytes, length-zeros, zeros-zero}
+use Rattle.octets.proofs.ByteLaws.{length-bytes, number-bytes, length-zeros, zeros-zero}
 use Rattle.fields.proofs.FieldLaws.{row-newest, files-newest, BlankCopy, zero-copies, blank-copy, list-is}
 use Rattle.table.proofs.FormLaws.{between_is, is-between, HeadFacts, blank-facts, Formed}
 use Rattle.table.proofs.CountyLaws.{county-at}

@@ -7,7 +7,7 @@ use native.Mathlib.Decide.{dec_le}
 use native.Mathlib.Omega.{arith}
 use lib.ListN.{drop}
 use Rattle.sets.specs.Upto.{Within}
-use Rattle.bytes.specs.Bytes.{all_zero}
+use Rattle.octets.specs.Bytes.{all_zero}
 use Rattle.fields.specs.Layout.{get, form, capacity, used, first, file_length, file_count, rest_in, name, link, county, form_of, capacity_of, used_of, first_of, file_length_of, files_of, name_of, link_of, county_of, rows_end, row_bytes}
 use Rattle.table.specs.Chain.{order_of, frame_of}
 use Rattle.table.specs.WellFormed.{header_values, length_right, visits_each, names_rise, unused_zero}

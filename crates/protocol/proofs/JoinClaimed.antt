@@ -17,7 +17,7 @@ use Rattle.sets.proofs.UptoLaws.{last, some-none, some-ext}
 use Rattle.sets.proofs.SetLaws.{empty-at, has_within}
 use Rattle.quorums.specs.declared.Kind.{Kind}
 use Rattle.quorums.specs.declared.Kind.TheVariants.{Write}
-use Rattle.bytes.specs.Bytes.{part}
+use Rattle.octets.specs.Bytes.{part}
 use Rattle.fields.specs.declared.Laid.{Laid}
 use Rattle.fields.specs.Layout.{no_list, is_empty, capacity, capacity_of, used_of, first_of, name_of, link_of, county_of, row_bytes}
 use Rattle.table.specs.Chain.{order_of, frame_of}

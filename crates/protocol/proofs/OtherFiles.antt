@@ -14,7 +14,7 @@ use Rattle.sets.specs.Sets.{has}
 use Rattle.sets.proofs.SetLaws.{empty-at}
 use Rattle.quorums.specs.declared.Kind.{Kind}
 use Rattle.quorums.specs.declared.Kind.TheVariants.{Read, Write}
-use Rattle.bytes.specs.Bytes.{part}
+use Rattle.octets.specs.Bytes.{part}
 use Rattle.fields.specs.Layout.{get, name, link, county, epoch, mark, version, desired, no_list, contents, used_of, name_of, link_of, epoch_of, list_of, stale_of, version_of, desired_of, contents_of, row_bytes, row_length, rows_end, copy_in, copy_bytes}
 use Rattle.blocks.specs.Blocks.{block}
 use Rattle.table.proofs.FormLaws.{Formed, well-formed-of}

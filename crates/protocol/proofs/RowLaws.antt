@@ -12,9 +12,9 @@ use borrow.Author.Tests.{leb-true, eqb-true}
 use Rattle.sets.specs.Upto.{Within, every}
 use Rattle.bools.proofs.BoolLaws.{and_l, and_r, or-e}
 use Rattle.sets.proofs.UptoLaws.{every-at}
-use Rattle.bytes.specs.Bytes.{number, part, put}
+use Rattle.octets.specs.Bytes.{number, part, put}
 use Rattle.fields.specs.Layout.{Field, get, store, name, link, mark, version, desired, epoch, members, grid_mark, county, list, store_list, reserved, spare, contents, store_contents, copy_length}
-use Rattle.bytes.proofs.ByteLaws.{put_all}
+use Rattle.octets.proofs.ByteLaws.{put_all}
 use Rattle.fields.proofs.FieldLaws.{Apart, length-store, get-store, get_other, part-store, drop-store, contents-store, length-contents, part-contents, get-contents, contents-contents, contents-long, copy_is, list-is}
 use Rattle.fields.specs.declared.Laid.{Laid}
 use Rattle.window.specs.Windows.{Window, Patch, window_right, window_of, store_window, added}

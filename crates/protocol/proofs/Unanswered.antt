@@ -14,13 +14,13 @@ use Rattle.sets.specs.Sets.{has}
 use Rattle.sets.proofs.SetLaws.{has_within}
 use Rattle.quorums.specs.declared.Kind.{Kind}
 use Rattle.quorums.specs.declared.Kind.TheVariants.{Read, Write}
-use Rattle.bytes.specs.Bytes.{number, part, zeros}
+use Rattle.octets.specs.Bytes.{number, part, zeros}
 use Rattle.fields.specs.Layout
 use Rattle.fields.specs.Layout.{is_tall, get, mark, version, desired, epoch, list, no_list, used_of, first_of, file_length_of, name_of, link_of, county_of, stale_of, version_of, desired_of, epoch_of, list_of, contents_of, files_of, copy_in, in_copy, copy_bytes, row_bytes, row_length, rows_end, form_of, capacity_of}
 use Rattle.linking.specs.Linking.{chain}
 use Rattle.table.specs.Chain.{order_of, frame_of}
 use Rattle.table.specs.WellFormed.{between, limit, only_rows, length_right, unused_zero}
-use Rattle.bytes.proofs.ByteLaws.{part-part, zeros-are}
+use Rattle.octets.proofs.ByteLaws.{part-part, zeros-are}
 use Rattle.table.proofs.FormLaws.{Formed, formed, header-facts}
 use Rattle.table.proofs.CountyLaws.{county-at, county-same, frame_same}
 use Rattle.counties.specs.Counties.{list_choice}

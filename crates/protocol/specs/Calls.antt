@@ -4,7 +4,7 @@ use Rattle.sets.specs.Upto.{every, some, count, lowest}
 use Rattle.sets.specs.Sets.{has}
 use Rattle.quorums.specs.declared.Kind.{Kind}
 use Rattle.quorums.specs.declared.Kind.TheVariants.{Read, Write}
-use Rattle.bytes.specs.Bytes.{bytes_of, part, zeros}
+use Rattle.octets.specs.Bytes.{bytes_of, part, zeros}
 use Rattle.fields.specs.declared.Laid.{Laid}
 use Rattle.fields.specs.Layout.{is_tall, form_value, body_length, stride, in_copy, form_of, capacity_of, used_of, file_length_of, files_of, name_of, county_of, copy_bytes, stale_of, version_of, desired_of, contents_of, with_row, with_rows}
 use Rattle.table.specs.Chain.{frame_of}

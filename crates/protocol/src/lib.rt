@@ -1,1 +1,3 @@
 // The protocol's definitions.
+#![tactic(auto)]
+

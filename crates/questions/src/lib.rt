@@ -1,4 +1,6 @@
 // The questions that a call is asked before its poll, the limit, and the answer of a read or a write.
+#![tactic(auto)]
+
 ghost use Rattle.std.specs.Prelude.{◌≡◌, true, ◌&&◌, [], ◌+◌, ◌≤◌, leb, ltb, length};
 ghost use Rattle.table.specs.WellFormed.{limit, well_formed};
 ghost use Rattle.asking.specs.Asking.{first_no, result_number};
@@ -10,14 +12,14 @@ use bools::both;
 use rows::RowSet;
 
 // What a read or a write answers: its result, and how many machines were called.
-#[derive(Drop)]
+#[derive(Clone, Copy)]
 pub struct Answered {
     pub result: u64,
     pub called: u8,
 }
 
 pub fn answer_of(refusal: u32, value: u32, called: u8) -> Answered
-    ensures* { λ r. ⌜ r ≡ record { result = result_number refusal value; called = called } ⌝ }
+    ensures { result ≡ record { result = result_number refusal value; called = called } }
 {
     Answered {
         result: result(refusal, value),
@@ -27,7 +29,7 @@ pub fn answer_of(refusal: u32, value: u32, called: u8) -> Answered
 
 // How many machines were called, noted in a list of one byte; one of another length is left alone.
 pub fn note(bytes: &mut [u8], called: u8)
-    ensures* { λ r. ⌜ bytes.new ≡ noted bytes.old called ⌝ }
+    ensures { bytes.new ≡ noted bytes.old called }
 {
     if bytes.len() == 1 {
         bytes[0] = called;
@@ -36,7 +38,7 @@ pub fn note(bytes: &mut [u8], called: u8)
 
 // Question 8: may a version or an epoch number still grow?
 pub fn below_limit(number: u32) -> bool
-    ensures* { λ r. ⌜ r ≡ ltb number limit ⌝ }
+    ensures { result ≡ ltb number limit }
 {
     number < 1_000_000
 }
@@ -44,7 +46,7 @@ pub fn below_limit(number: u32) -> bool
 // Questions 2 and 3 of a call by a coordinator, after 1: the first no, 0 where there is none.
 pub fn coordinator_asked(t: &[u8], c: usize, answering: RowSet) -> u32
     requires { well_formed t.now ≡ true }
-    ensures* { λ r. ⌜ r ≡ first_no (by_coordinator t.now c answering.bits []) ⌝ }
+    ensures { result ≡ first_no (by_coordinator t.now c answering.bits []) }
 {
     let used = header::used(t);
     if both(
@@ -61,7 +63,7 @@ pub fn coordinator_asked(t: &[u8], c: usize, answering: RowSet) -> u32
 
 // Is a range of at least one byte within a file of so many? (A sum could be too large.)
 fn in_range(file: usize, offset: usize, count: usize) -> bool
-    ensures* { λ r. ⌜ r ≡ (leb 1 count && leb (offset + count) file) ⌝ }
+    ensures { result ≡ (leb 1 count && leb (offset + count) file) }
 {
     if count == 0 {
         return false;
@@ -75,7 +77,7 @@ fn in_range(file: usize, offset: usize, count: usize) -> bool
 // Question 16: is this a file of the group?
 pub fn in_group(t: &[u8], q: usize) -> bool
     requires { 16 ≤ length t.now }
-    ensures* { λ r. ⌜ r ≡ in_group t.now q ⌝ }
+    ensures { result ≡ in_group t.now q }
 {
     values::between(1, q, header::files(t))
 }
@@ -90,7 +92,7 @@ pub fn range_asked(
     count: usize,
 ) -> u32
     requires { well_formed t.now ≡ true }
-    ensures* { λ r. ⌜ r ≡ first_no (to_range t.now q c answering.bits offset count) ⌝ }
+    ensures { result ≡ first_no (to_range t.now q c answering.bits offset count) }
 {
     let no = coordinator_asked(t, c, answering);
     if no != 0 {

@@ -12,7 +12,7 @@ use Rattle.sets.specs.Upto.{Within, lowest}
 use Rattle.sets.specs.Sets.{has}
 use Rattle.sets.proofs.SetLaws.{has_within}
 use Rattle.quorums.specs.declared.Kind.TheVariants.{Read}
-use Rattle.bytes.specs.Bytes.{part}
+use Rattle.octets.specs.Bytes.{part}
 use Rattle.fields.specs.Layout.{used_of, file_length_of, name_of, copy_bytes, contents, contents_of}
 use Rattle.fields.proofs.FieldLaws.{copy_is}
 use Rattle.table.specs.Chain.{frame_of}

@@ -1,4 +1,6 @@
 // A read: its questions in order, then what is done.
+#![tactic(auto)]
+
 ghost use Rattle.std.specs.Prelude.{◌≡◌, List, ℕ, eqb, length};
 ghost use Rattle.grouping.specs.Grouped.{Framed};
 ghost use Rattle.protocol.specs.Calls.{result_of, outcome, read, noted};

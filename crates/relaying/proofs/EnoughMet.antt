@@ -17,7 +17,7 @@ use Rattle.quorums.specs.Quorums.{is_position, read_choice, write_choice, choice
 use Rattle.fields.specs.Layout.{used_of, file_length_of, files_of}
 use Rattle.table.specs.WellFormed.{between, is_county, only_rows}
 use Rattle.table.proofs.FormLaws.{well-formed-of}
-use Rattle.bytes.specs.Bytes.{zeros}
+use Rattle.octets.specs.Bytes.{zeros}
 use Rattle.linking.specs.Linking.{inserted, by_name}
 use Rattle.asking.specs.Asking.{first_no, before}
 use Rattle.sheet.proofs.ShownLaws.{open_sheet, open-right}

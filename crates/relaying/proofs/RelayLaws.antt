@@ -11,8 +11,8 @@ use Rattle.sets.specs.Upto.{Within}
 use Rattle.sets.specs.Sets.{has}
 use Rattle.blocks.specs.Blocks.{block}
 use Rattle.blocks.proofs.BlockLaws.{Altered, blocks-changed, alike}
-use Rattle.bytes.specs.Bytes.{bytes_of, part, zeros}
-use Rattle.bytes.proofs.ByteLaws.{length-zeros}
+use Rattle.octets.specs.Bytes.{bytes_of, part, zeros}
+use Rattle.octets.proofs.ByteLaws.{length-zeros}
 use Rattle.fields.specs.Layout.{get, link, epoch, county, list, no_list, is_empty, is_tall, bare_row, body_length, stride, copy_length, copy_in, copy_bytes, files_of, file_length_of, row_length, rows_end, used_of, name_of, link_of, list_of, county_of, row_bytes, with_rows}
 use Rattle.counties.specs.Marks.{mark_right}
 use Rattle.table.specs.WellFormed.{well_formed}

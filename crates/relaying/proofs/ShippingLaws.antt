@@ -9,7 +9,7 @@ use Rattle.sets.specs.Upto.{Within}
 use Rattle.sets.specs.Sets.{has}
 use Rattle.blocks.specs.Blocks.{block}
 use Rattle.blocks.proofs.BlockLaws.{Altered, blocks-changed, alike}
-use Rattle.bytes.specs.Bytes.{part}
+use Rattle.octets.specs.Bytes.{part}
 use Rattle.fields.specs.Layout.{used_of, row_length, rows_end, row_bytes, with_rows}
 use Rattle.table.specs.WellFormed.{well_formed}
 use Rattle.table.proofs.FormLaws.{formed, well-formed-of, rows-room}

@@ -5,8 +5,8 @@ use Prim.Native.Nat.{ℕ, zero, suc, ◌+◌, ◌-◌, ◌≤◌}
 use native.Mathlib.Omega.{arith}
 use lib.ListN.{length, take, drop}
 use Rattle.sets.specs.Upto.{Within}
-use Rattle.bytes.specs.Bytes.{put}
-use Rattle.bytes.proofs.CodeLaws.{part-back, part-is, part_length}
+use Rattle.octets.specs.Bytes.{put}
+use Rattle.octets.proofs.CodeLaws.{part-back, part-is, part_length}
 use Rattle.blocks.specs.Blocks.{with_block}
 use Rattle.fields.specs.Layout.{used_of, row_length, rows_end, row_bytes, with_row}
 use Rattle.table.specs.Asked.{Sized}

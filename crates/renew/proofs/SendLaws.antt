@@ -5,8 +5,8 @@ use Prim.Native.Nat.{ℕ, ◌+◌, ◌-◌, ◌≤◌}
 use native.Mathlib.Omega.{arith}
 use lib.ListN.{length, take, drop, length-take, length-drop}
 use lib.Seq.{drop-drop}
-use Rattle.bytes.specs.Bytes.{part, put}
-use Rattle.bytes.proofs.CodeLaws.{tail-is}
+use Rattle.octets.specs.Bytes.{part, put}
+use Rattle.octets.proofs.CodeLaws.{tail-is}
 use Rattle.fields.specs.Layout.{get, store, mark, version, desired, oldest, contents, records, store_contents, store_records}
 use Rattle.fields.proofs.FieldLaws.{length-store, contents-store}
 use Rattle.window.specs.Windows.{Window, window_of, store_window, sent}

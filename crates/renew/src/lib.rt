@@ -1,4 +1,6 @@
 // A copy made anew by a send.
+#![tactic(auto)]
+
 ghost use Rattle.std.specs.Prelude.{◌≡◌, ◌+◌, ◌-◌, ◌*◌, ◌≤◌, length};
 ghost use Rattle.sets.specs.Upto.{Within};
 ghost use Rattle.blocks.specs.Blocks.{with_block};

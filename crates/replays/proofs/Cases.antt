@@ -5,7 +5,7 @@ use Prim.Native.Nat.{ℕ, ◌+◌, ◌-◌, ◌*◌, ◌/◌}
 use lib.Dec.{eqb}
 use lib.ListN.{length, take, replicate}
 use Rattle.sets.specs.Upto.{upward}
-use Rattle.bytes.specs.Bytes.{zeros}
+use Rattle.octets.specs.Bytes.{zeros}
 use Rattle.fields.specs.Layout.{Field, get, stride, mark, oldest, version, desired, epoch, members, records, row_bytes, copy_bytes, contents_of}
 use Rattle.protocol.specs.Calls.{outcome}
 use Rattle.protocol.proofs.Histories.{fo, jn, rdq, wrq, snq, rdc, wrc, rd, wr, ck, same}

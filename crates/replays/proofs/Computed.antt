@@ -9,7 +9,7 @@ use Rattle.sets.specs.Sets
 use Rattle.sets.proofs.SetLaws.{has_within}
 use Rattle.grid.specs.Sizes
 use Rattle.quorums.specs.Quorums
-use Rattle.bytes.specs.Bytes
+use Rattle.octets.specs.Bytes
 use Rattle.blocks.specs.Blocks
 use Rattle.fields.specs.Layout
 use Rattle.table.specs.Chain

@@ -1,4 +1,6 @@
 // A round: the orders of a list in turn, each a write, up to the first refusal.
+#![tactic(auto)]
+
 ghost use Rattle.std.specs.Prelude.{◌≡◌};
 ghost use Rattle.asking.specs.Asking.{result_number};
 ghost use Rattle.ordering.specs.Rounds.{round_of, round_in};
@@ -13,7 +15,7 @@ const ORDER: usize = 16;
 
 // The orders of a list in turn. Value: how many are done.
 pub fn round(t: &mut [u8], r: u64, list: &[Order], sheet: &mut [u8]) -> u64
-    ensures* { λ n. ⌜ (let o = round_of t.old sheet.old r list.now in (n ≡ result_number o.refusal o.value) × (t.new ≡ o.table) × (list.now ≡ list.now) × (sheet.new ≡ o.sheet)) ⌝ }
+    ensures { (let o = round_of t.old sheet.old r list.now in (result ≡ result_number o.refusal o.value) × (t.new ≡ o.table) × (list.now ≡ list.now) × (sheet.new ≡ o.sheet)) }
 {
     let mut s = begin(t, sheet, r, list.len());
     let mut i = 0;
@@ -26,7 +28,7 @@ pub fn round(t: &mut [u8], r: u64, list: &[Order], sheet: &mut [u8]) -> u64
 
 // The orders of a list of bytes in turn. Value: how many are done. A list that ends inside an order is refused.
 pub fn round_in(t: &mut [u8], r: u64, list: &[u8], sheet: &mut [u8]) -> u64
-    ensures* { λ n. ⌜ (let o = round_in t.old sheet.old r list.now in (n ≡ result_number o.refusal o.value) × (t.new ≡ o.table) × (list.now ≡ list.now) × (sheet.new ≡ o.sheet)) ⌝ }
+    ensures { (let o = round_in t.old sheet.old r list.now in (result ≡ result_number o.refusal o.value) × (t.new ≡ o.table) × (list.now ≡ list.now) × (sheet.new ≡ o.sheet)) }
 {
     let mut order = [0u8; 64];
     let mut sets = [0u64; 8];

@@ -1,9 +1,11 @@
 // A set of rows: bit i - 1 for row i, rows 1 to 64. Positions and columns of a grid count the same way.
+#![tactic(auto)]
+
 ghost use Rattle.std.specs.Prelude.{◌≡◌, cond, not, ◌+◌, ◌-◌, ◌%◌, ◌≤◌};
 ghost use Rattle.sets.specs.Upto.{every, some, count, lowest};
 ghost use Rattle.sets.specs.Sets.{has, first_rows, gaining, losing, cut_to, left_of, joining};
 
-#[derive(Drop)]
+#[derive(Clone, Copy)]
 pub struct RowSet {
     pub bits: u64,
 }

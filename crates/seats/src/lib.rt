@@ -1,1 +1,3 @@
 // The seats of a list on a well-formed table: claimed, and proved.
+#![tactic(auto)]
+

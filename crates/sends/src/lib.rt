@@ -1,4 +1,6 @@
 // A send: its questions in order, then what is done.
+#![tactic(auto)]
+
 ghost use Rattle.std.specs.Prelude.{◌≡◌, not, cond, ◌&&◌, ◌≤◌, eqb, leb, length};
 ghost use Rattle.fields.specs.Layout.{get, mark, version, desired};
 ghost use Rattle.table.specs.WellFormed.{between, only_rows};

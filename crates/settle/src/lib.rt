@@ -1,4 +1,6 @@
 // The set that a call works on: P or R.
+#![tactic(auto)]
+
 ghost use Rattle.std.specs.Prelude.{◌≡◌, true, not, cond, ◌&&◌, ◌^◌, ◌<◌, take};
 ghost use Rattle.sets.specs.Upto.{Within, count};
 ghost use Rattle.sets.specs.Sets.{has};
@@ -15,7 +17,7 @@ use rows::RowSet;
 use verdicts::{Verdict, asked, judged, quorum_held};
 
 // The set that a call works on: the first no among questions 6 and 7 (0: none), its good rows and their version, and how many machines were called.
-#[derive(Drop)]
+#[derive(Clone, Copy)]
 pub struct Settled {
     pub rows: RowSet,
     pub refusal: u32,

@@ -1,1 +1,3 @@
 // Fair use of imports, of calls and of whole histories.
+#![tactic(auto)]
+

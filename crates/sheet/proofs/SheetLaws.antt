@@ -14,7 +14,7 @@ use Rattle.sets.specs.Upto.{Within, every}
 use Rattle.sets.proofs.UptoLaws.{every-at, every_of}
 use Rattle.blocks.specs.Blocks.{block}
 use Rattle.blocks.proofs.BlockLaws.{Altered, length-block, length-stays, block_same, block-other, tail-stays, blocks-changed}
-use Rattle.bytes.specs.Bytes.{number, part}
+use Rattle.octets.specs.Bytes.{number, part}
 use Rattle.fields.specs.Layout.{get, store}
 use Rattle.fields.proofs.FieldLaws.{length-store, get-store, get_other}
 use Rattle.asking.specs.Asking.{Question, first_no}

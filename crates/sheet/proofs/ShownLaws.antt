@@ -10,7 +10,7 @@ use Rattle.bools.proofs.BoolLaws.{and_l, and_r}
 use Rattle.sets.specs.Upto.{every}
 use Rattle.sets.proofs.UptoLaws.{every-at}
 use Rattle.blocks.specs.Blocks.{block, with_block, with_blocks}
-use Rattle.bytes.specs.Bytes.{number, bytes_of, part, put, zeros}
+use Rattle.octets.specs.Bytes.{number, bytes_of, part, put, zeros}
 use Rattle.fields.specs.Layout.{get, store}
 use Rattle.asking.specs.Asking.{first_no}
 use Rattle.quorums.proofs.StarredLaws.{all_pass, each_of, same, same-is}

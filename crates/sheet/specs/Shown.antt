@@ -1,7 +1,7 @@
 -- Sheets computed from both sides: the rules that make one right, what it says to a club, what is left of it.
 use Rattle.std.specs.Prelude.{◌≡◌, Bool, true, false, List, [], ◌∷◌, ◌++◌, ℕ, ◌-◌, length, take, get_or}
 use Rattle.sets.specs.Upto.{Within}
-use Rattle.bytes.specs.Bytes.{bytes_of, zeros}
+use Rattle.octets.specs.Bytes.{bytes_of, zeros}
 use Rattle.quorums.specs.Starred.{Each}
 use Rattle.asking.specs.Asking.{first_no}
 use Rattle.sheet.specs.Sheet.{sheet_right, by_club, counted, cleared}

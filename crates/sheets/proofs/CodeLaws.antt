@@ -14,8 +14,8 @@ use borrow.Author.Tests.{le-leb, lt-leb, lt-ltb, le-ltb, eq-eqb, ne_eqb}
 use Rattle.bools.proofs.BoolLaws.{and_assoc}
 use Rattle.sets.specs.Upto.{Within, every}
 use Rattle.blocks.specs.Blocks.{block, with_block, with_blocks}
-use Rattle.bytes.specs.Bytes.{number, bytes_of, part, put}
-use Rattle.bytes.proofs.ByteLaws.{length-bytes, length_part, part-part, put-put}
+use Rattle.octets.specs.Bytes.{number, bytes_of, part, put}
+use Rattle.octets.proofs.ByteLaws.{length-bytes, length_part, part-part, put-put}
 use Rattle.fields.specs.Layout.{get, store}
 use Rattle.asking.specs.Asking.{first_no}
 use Rattle.sheet.specs.Sheet.{sum, line_of, assured, ceiling, counting, total, assured_of, ceiling_of, count_of, total_of, all_assured, remainder, all_beyond, line_right, sheet_right, is_club, by_club, counted, cleared}

@@ -1,4 +1,6 @@
 // A sheet of fair use: is it right, may a club write by it; one more write counted, all counts 0.
+#![tactic(auto)]
+
 ghost use Rattle.std.specs.Prelude.{◌≡◌, true, cond, [], ◌+◌, ◌-◌, ltb, length};
 ghost use Rattle.sets.specs.Upto.{Within, every};
 ghost use Rattle.asking.specs.Asking.{first_no};
@@ -30,7 +32,7 @@ fn taken_by(assured: u32, count: u32) -> u32
 }
 
 // What the lines of a sheet come to.
-#[derive(Drop)]
+#[derive(Clone, Copy)]
 struct Lines {
     right: bool,
     taken: u64,
@@ -46,8 +48,8 @@ fn added(s: &[u8]) -> Lines
     let mut x = 0;
     while x < CLUBS {
         let at = x * LINE;
-        let ceiling = bytes::u32_at(s, at + CEILING_AT);
-        let most = taken_by(bytes::u32_at(s, at), bytes::u32_at(s, at + COUNT_AT));
+        let ceiling = octets::u32_at(s, at + CEILING_AT);
+        let most = taken_by(octets::u32_at(s, at), octets::u32_at(s, at + COUNT_AT));
         right = both(right, both(ceiling <= LIMIT, most <= ceiling));
         taken += most as u64;
         x += 1;
@@ -66,7 +68,7 @@ fn left_of(total: u64, taken: u64) -> u64
 }
 
 // Is a sheet right, and what is left of its remainder?
-#[derive(Drop)]
+#[derive(Clone, Copy)]
 pub struct Sum {
     pub right: bool,
     pub left: u64,
@@ -77,7 +79,7 @@ fn summed(s: &[u8]) -> Sum
     ensures { (result.right ≡ sheet_right s.now) × (result.left ≡ remainder s.now - all_beyond s.now) }
 {
     let lines = added(s);
-    let total = bytes::u32_at(s, TOTAL_AT);
+    let total = octets::u32_at(s, TOTAL_AT);
     let small = both(lines.right, total <= LIMIT);
     Sum {
         right: both(small, lines.taken <= total as u64),
@@ -117,18 +119,18 @@ pub fn share_asked(s: &[u8], club: u64, left: u64) -> u32
         return 18;
     }
     let at = (club as usize - 1) * LINE;
-    let count = bytes::u32_at(s, at + COUNT_AT);
-    if bytes::u32_at(s, at + CEILING_AT) <= count {
+    let count = octets::u32_at(s, at + COUNT_AT);
+    if octets::u32_at(s, at + CEILING_AT) <= count {
         return 18;
     }
-    if count < bytes::u32_at(s, at) {
+    if count < octets::u32_at(s, at) {
         return 0;
     }
     if 0 < left { 0 } else { 19 }
 }
 
 // What a sheet says to a club's write: is it right, and 18 or 19 where the club may not write, else 0.
-#[derive(Drop)]
+#[derive(Clone, Copy)]
 pub struct Told {
     pub right: bool,
     pub no: u32,
@@ -157,7 +159,7 @@ pub fn left_after(s: &[u8], club: usize, left: u64) -> u64
     ensures { result ≡ left - cond (ltb (count_of s.now club) (assured_of s.now club)) 0 1 }
 {
     let at = (club - 1) * LINE;
-    if bytes::u32_at(s, at + COUNT_AT) < bytes::u32_at(s, at) {
+    if octets::u32_at(s, at + COUNT_AT) < octets::u32_at(s, at) {
         return left;
     }
     left_of(left, 1)
@@ -169,8 +171,8 @@ pub fn count_one(s: &mut [u8], club: usize)
     ensures { s.new ≡ counted s.old club }
 {
     let at = (club - 1) * LINE + COUNT_AT;
-    let count = bytes::u32_at(s, at);
-    bytes::store_at(s, at, 4, count as u64 + 1);
+    let count = octets::u32_at(s, at);
+    octets::store_at(s, at, 4, count as u64 + 1);
 }
 
 // Every count becomes 0.
@@ -180,7 +182,7 @@ pub fn clear(s: &mut [u8])
 {
     let mut x = 0;
     while x < CLUBS {
-        bytes::store_at(s, x * LINE + COUNT_AT, 4, 0);
+        octets::store_at(s, x * LINE + COUNT_AT, 4, 0);
         x += 1;
     }
 }

@@ -12,8 +12,8 @@ use Rattle.bools.proofs.BoolLaws.{or-e}
 use Rattle.sets.specs.Upto.{Within}
 use Rattle.sets.specs.Sets.{no_row, joining}
 use Rattle.sets.proofs.MemberLaws.{only}
-use Rattle.bytes.specs.Bytes.{put}
-use Rattle.bytes.proofs.CodeLaws.{part-back, part-is, part_length}
+use Rattle.octets.specs.Bytes.{put}
+use Rattle.octets.proofs.CodeLaws.{part-back, part-is, part_length}
 use Rattle.blocks.specs.Blocks.{block, with_block}
 use Rattle.blocks.proofs.BlockLaws.{ends, Altered, blocks-changed, none-changed, one_more}
 use Rattle.fields.specs.Layout.{used_of, row_length, rows_end, row_bytes, with_rows}

@@ -14,8 +14,8 @@ use Rattle.bools.proofs.BoolLaws.{and_i, or_l, or_r}
 use Rattle.sets.specs.Upto.{Within, every, some}
 use Rattle.sets.specs.Sets.{has}
 use Rattle.sets.proofs.UptoLaws.{every_of, some-none}
-use Rattle.bytes.specs.Bytes.{number, part, all_zero}
-use Rattle.bytes.proofs.CodeLaws.{number-first, zero-append}
+use Rattle.octets.specs.Bytes.{number, part, all_zero}
+use Rattle.octets.proofs.CodeLaws.{number-first, zero-append}
 use Rattle.fields.specs.declared.Laid.{Laid}
 use Rattle.fields.specs.Layout.{get, form_value, name, link, epoch, members, county, list, is_empty, is_tall, used_of, first_of, row_bytes, name_of, link_of, epoch_of, list_of, county_of}
 use Rattle.counties.specs.Marks.{mark_right, tall_table, tall_right}

@@ -12,8 +12,8 @@ use lib.ListN.{length, set, length-set}
 use borrow.Author.Tests.{lt-ltb, le-ltb, eqb-true, eq-eqb, leb-true}
 use Rattle.bools.proofs.BoolLaws.{and_l, and_r, and_i, clash}
 use Rattle.sets.specs.Upto.{Within}
-use Rattle.bytes.specs.Bytes.{number, part, all_zero}
-use Rattle.bytes.proofs.CodeLaws.{number-first, zero_number, zero-numbers}
+use Rattle.octets.specs.Bytes.{number, part, all_zero}
+use Rattle.octets.proofs.CodeLaws.{number-first, zero_number, zero-numbers}
 use Rattle.fields.specs.Layout.{get, county, grid_mark}
 use Rattle.table.specs.WellFormed.{between, is_county}
 use Rattle.straight.specs.Straight.{behind, numbered}

@@ -2,7 +2,7 @@
 use Rattle.std.specs.Prelude.{◌≡◌, true, cond, ◌&&◌, ◌⊎◌, List, ℕ, zero, suc, ◌+◌, ◌≤◌, ◌<◌, ltb, set}
 use Rattle.sets.specs.Upto.{Within, every}
 use Rattle.sets.specs.Sets.{has}
-use Rattle.bytes.specs.Bytes.{number, part, all_zero}
+use Rattle.octets.specs.Bytes.{number, part, all_zero}
 use Rattle.fields.specs.Layout.{get, form_value, members, county, is_tall, used_of, first_of, row_bytes, name_of, link_of, epoch_of, list_of}
 use Rattle.counties.specs.Marks.{mark_right, tall_right}
 use Rattle.table.specs.WellFormed.{limit, only_rows, head_right, lists_agree, marks_right}

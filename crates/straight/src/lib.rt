@@ -1,8 +1,10 @@
 // Heads of a table as most calls meet it: the chain goes from row to row, and the rows have one list or two. One pass sees all that question 1 asks of such
 // heads; where it ends early, nothing is said of the table.
+#![tactic(auto)]
+
 ghost use Rattle.std.specs.Prelude.{◌≡◌, true, ◌+◌, ◌≤◌, length};
 ghost use Rattle.sets.specs.Upto.{Within};
-ghost use Rattle.bytes.specs.Bytes.{number, part, all_zero};
+ghost use Rattle.octets.specs.Bytes.{number, part, all_zero};
 ghost use Rattle.fields.specs.Layout.{get, epoch, list, members, county, is_tall, form_of, used_of, row_length, epoch_of, list_of};
 ghost use Rattle.counties.specs.Marks.{mark_right};
 ghost use Rattle.table.specs.WellFormed.{limit, only_rows};
@@ -29,7 +31,7 @@ fn leads_on(row: &[u8], i: usize, n: usize) -> bool
     requires { (i ≤ n) × (n ≤ 64) × (32 ≤ length row.now) }
     ensures { result ≡ true → number (part 2 8 row.now) ≡ behind n i }
 {
-    let next = bytes::u64_at(row, LINK_AT) as usize;
+    let next = octets::u64_at(row, LINK_AT) as usize;
     if next == i + 1 {
         return i != n;
     }
@@ -44,7 +46,7 @@ fn county_of(row: &[u8], i: usize, n: usize) -> u8
     if !leads_on(row, i, n) {
         return 0;
     }
-    if bytes::u16_at(row, GAP_AT) != 0 {
+    if octets::u16_at(row, GAP_AT) != 0 {
         return 0;
     }
     let list = RowSet {
@@ -53,10 +55,10 @@ fn county_of(row: &[u8], i: usize, n: usize) -> u8
     if !list.at(i - 1) {
         return 0;
     }
-    if bytes::u16_at(row, REST_AT) != 0 {
+    if octets::u16_at(row, REST_AT) != 0 {
         return 0;
     }
-    let wide = bytes::u32_at(row, COUNTY_AT) as usize;
+    let wide = octets::u32_at(row, COUNTY_AT) as usize;
     if values::is_county(wide) {
         return wide as u8;
     }
@@ -74,7 +76,7 @@ fn has_list(row: &[u8], since: u32, laid: Laid) -> bool
     if fields::members(row) != laid.members {
         return false;
     }
-    bytes::u16_at(row, fields::GRID_MARK_AT) == laid.mark as u16
+    octets::u16_at(row, fields::GRID_MARK_AT) == laid.mark as u16
 }
 
 // The row that has the other list, once row i was looked at: `other`, or row i where all before it have the list of row 1; 0 where row i has a third.
@@ -93,7 +95,7 @@ fn other_with(t: &[u8], size: usize, other: usize, i: usize, since: u32, laid: L
     if other != 1 {
         return 0;
     }
-    if bytes::u8_at(row, fields::GRID_MARK_AT + 1) != 0 {
+    if octets::u8_at(row, fields::GRID_MARK_AT + 1) != 0 {
         return 0;
     }
     i

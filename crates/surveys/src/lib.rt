@@ -1,4 +1,6 @@
 // What a check finds of the set that answered: has it the whole list in force, does it hold a quorum, is it current in every file.
+#![tactic(auto)]
+
 ghost use Rattle.std.specs.Prelude.{◌≡◌, true, not, ◌&&◌, ◌||◌, ℕ, ◌^◌, ◌<◌, take};
 ghost use Rattle.sets.specs.Upto.{some};
 ghost use Rattle.sets.specs.Sets.{has};
@@ -44,7 +46,7 @@ pub fn held_unless(
 }
 
 // What is found of a set in each file: its good rows and their version; and is it current for every file? Place q − 1 is for file q.
-#[derive(Drop)]
+#[derive(Clone, Copy)]
 pub struct Survey {
     pub goods: [u64; 8],
     pub versions: [u32; 8],

@@ -18,7 +18,7 @@ use Rattle.bools.proofs.BoolLaws.{and_l, and_r}
 use Rattle.sets.proofs.UptoLaws.{every-at}
 use Rattle.sets.proofs.SetLaws.{empty-at, gain-where}
 use Rattle.fields.specs.Layout.{form_value, form_of, used_of, first_of, link_of, name_of}
-use Rattle.bytes.specs.Bytes.{put}
+use Rattle.octets.specs.Bytes.{put}
 use Rattle.linking.specs.Linking.{chain}
 use Rattle.linking.proofs.PathLaws.{chain-zero, chain-suc}
 use Rattle.table.specs.Chain.{order_of}

@@ -5,8 +5,8 @@ use Prim.Native.Nat.{ℕ, zero, suc, ◌+◌, ◌-◌, ◌*◌, ◌≤◌}
 use native.Mathlib.Nat.{suc-mul}
 use native.Mathlib.Omega.{arith}
 use lib.ListN.{length, take, drop}
-use Rattle.bytes.specs.Bytes.{put}
-use Rattle.bytes.proofs.CodeLaws.{part-is, part-back, part_length}
+use Rattle.octets.specs.Bytes.{put}
+use Rattle.octets.proofs.CodeLaws.{part-is, part-back, part_length}
 use Rattle.blocks.specs.Blocks.{block, with_block}
 
 -- it ends within the row

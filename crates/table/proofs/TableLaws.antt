@@ -8,7 +8,7 @@ use native.Mathlib.Omega.{arith}
 use lib.Dec.{eqb}
 use lib.ListN.{length, take, drop}
 use Rattle.sets.specs.Upto.{Within}
-use Rattle.bytes.specs.Bytes.{number, part}
+use Rattle.octets.specs.Bytes.{number, part}
 use Rattle.fields.specs.Layout.{Field, get, form, file_length, file_count, form_of, file_length_of, files_of, row_length, rows_end, row_bytes, with_row, with_rows}
 use Rattle.blocks.specs.Blocks.{block}
 use Rattle.blocks.proofs.BlockLaws.{length-block, Altered, blocks-changed, one-changed}

@@ -13,7 +13,7 @@ use lib.Text.{eqt, eqt_refl}
 use Rattle.bools.proofs.BoolLaws.{or-e, clash}
 use Rattle.sets.specs.Upto.{every}
 use Rattle.sets.proofs.UptoLaws.{every-at}
-use Rattle.bytes.specs.Bytes.{part}
+use Rattle.octets.specs.Bytes.{part}
 use Rattle.asking.specs.Asking.{first_no}
 use Rattle.telling.specs.Text.{in_bytes, decimal, shown, spaces, padded, last_of}
 use Rattle.telling.specs.Notices.{words, word, shows_name, shown_name, no_reason, reasons, reason, heading, sentence, figures_in, in_papers, notice_questions, noticed}

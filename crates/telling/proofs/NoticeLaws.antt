@@ -8,7 +8,7 @@ use lib.Dec.{eqb}
 use lib.ListN.{length, length-append}
 use borrow.Author.Tests.{eq-eqb, ne_eqb, eqb-true, eqb-false, le-leb}
 use Rattle.sets.specs.Upto.{Within}
-use Rattle.bytes.specs.Bytes.{part}
+use Rattle.octets.specs.Bytes.{part}
 use Rattle.asking.specs.Asking.{first_no}
 use Rattle.telling.specs.Text.{in_bytes, decimal, padded, last_of}
 use Rattle.telling.specs.Notices.{word, shows_name, shown_name, reason, heading, sentence, figures_in, in_papers, notice_questions, Noticed, noticed}

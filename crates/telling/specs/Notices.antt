@@ -1,7 +1,7 @@
 -- A refusal told in one sentence; call, name and number read off it again; the call that tells it.
 use Rattle.std.specs.Prelude.{Bool, cond, ◌&&◌, ◌||◌, List, [], ◌∷◌, ◌++◌, ℕ, eqb, leb, length, get_or}
 use Prim.Native.String.{String}
-use Rattle.bytes.specs.Bytes.{part}
+use Rattle.octets.specs.Bytes.{part}
 use Rattle.asking.specs.Asking.{Question, first_no}
 use Rattle.telling.specs.Text.{in_bytes, decimal, shown, padded}
 

@@ -1,1 +1,3 @@
 // Notices of refused calls in plain words: definitions and laws.
+#![tactic(auto)]
+

@@ -1,5 +1,7 @@
 // A list of rows on two levels: the quorum that a set holds of it, and the choice that a name makes over it.
 // The chain order is the first `count` of an array of 64 rows; the counties are eight sets of rows.
+#![tactic(auto)]
+
 ghost use Rattle.std.specs.Prelude.{◌≡◌, true, ◌&&◌, ℕ, leb, take};
 ghost use Rattle.sets.specs.Upto.{Within, some};
 ghost use Rattle.sets.specs.Sets.{has};

@@ -5,8 +5,8 @@ use mathlib.Core.List.{List, [], ◌∷◌}
 use Prim.Native.Nat.{ℕ, ◌≤◌, ◌+◌, ◌-◌}
 use native.Mathlib.Omega.{arith}
 use lib.ListN.{take, drop}
-use Rattle.bytes.specs.Bytes.{number, part}
-use Rattle.bytes.proofs.ByteLaws.{part-part}
+use Rattle.octets.specs.Bytes.{number, part}
+use Rattle.octets.proofs.ByteLaws.{part-part}
 use Rattle.table.specs.WellFormed.{between}
 use Rattle.ordering.specs.declared.Order.{Order}
 use Rattle.ordering.specs.Rounds.{patch_of, writing, order_in}

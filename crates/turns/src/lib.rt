@@ -1,4 +1,6 @@
 // One order more of a round, as a struct and in bytes.
+#![tactic(auto)]
+
 ghost use Rattle.std.specs.Prelude.{◌≡◌, cond, ◌≤◌, length};
 ghost use Rattle.table.specs.WellFormed.{between};
 ghost use Rattle.ordering.specs.Rounds.{order_in};
@@ -22,7 +24,7 @@ fn bytes_in(count: u8) -> usize
 // One order more.
 pub fn next(t: &mut [u8], sheet: &mut [u8], r: u64, o: Order, s: Standing) -> Standing
     requires { s.result ≤ 64 → Ready t.old sheet.old s.order s.sets s.left s.choices }
-    ensures* { λ k. ⌜ (record { result = k.result; table = t.new; sheet = sheet.new } ≡ turn r (record { result = s.result; table = t.old; sheet = sheet.old }) o) × (k.result ≤ 64 → Ready t.new sheet.new k.order k.sets k.left k.choices) ⌝ }
+    ensures { (record { result = result.result; table = t.new; sheet = sheet.new } ≡ turn r (record { result = s.result; table = t.old; sheet = sheet.old }) o) × (result.result ≤ 64 → Ready t.new sheet.new result.order result.sets result.left result.choices) }
 {
     let order = s.order;
     let sets = s.sets;
@@ -66,20 +68,20 @@ pub fn next_in(
     choices: &mut [u64; 16],
 ) -> Turn
     requires { (sum ≤ 64 → Ready t.old sheet.old order.now sets.now left choices.old) × (length o.now ≡ 16) }
-    ensures* { λ x. ⌜ (record { result = x.result; table = t.new; sheet = sheet.new } ≡ turn r (record { result = sum; table = t.old; sheet = sheet.old }) (order_in o.now)) × (x.result ≤ 64 → Ready t.new sheet.new order.now sets.now x.left choices.new) ⌝ }
+    ensures { (record { result = result.result; table = t.new; sheet = sheet.new } ≡ turn r (record { result = sum; table = t.old; sheet = sheet.old }) (order_in o.now)) × (result.result ≤ 64 → Ready t.new sheet.new order.now sets.now result.left choices.new) }
 {
-    let n = bytes_in(bytes::u8_at(o, 1));
+    let n = bytes_in(octets::u8_at(o, 1));
     step(
         t,
         sheet,
         order,
         sets,
-        bytes::u8_at(o, 0) as usize,
+        octets::u8_at(o, 0) as usize,
         r,
-        bytes::u16_at(o, 2) as usize,
+        octets::u16_at(o, 2) as usize,
         &o[4..4 + n],
-        bytes::u8_at(o, 12) as usize,
-        bytes::u8_at(o, 13) as u64,
+        octets::u8_at(o, 12) as usize,
+        octets::u8_at(o, 13) as u64,
         sum,
         left,
         choices,

@@ -8,8 +8,8 @@ use lib.Dec.{eqb, leb, ltb}
 use lib.ListN.{length, take, drop, length-take, length-drop}
 use borrow.Author.Tests.{le-leb, lt-leb, eqb-true, eq-eqb, ne_eqb}
 use Rattle.bools.proofs.BoolLaws.{and_l, and_r}
-use Rattle.bytes.specs.Bytes.{number, part, all_zero}
-use Rattle.bytes.proofs.CodeLaws.{tail-is, zero_number, zero-numbers}
+use Rattle.octets.specs.Bytes.{number, part, all_zero}
+use Rattle.octets.proofs.CodeLaws.{tail-is, zero_number, zero-numbers}
 use Rattle.fields.specs.Layout.{get, form_value, mark, oldest, version, desired, spare, mark_in, oldest_in, spare_in, records}
 use Rattle.window.specs.Windows.{window_right, window_in}
 use Rattle.windows.specs.Visits.{window}

@@ -8,8 +8,8 @@ use lib.Dec.{eqb, leb}
 use lib.ListN.{length}
 use borrow.Author.Tests.{lt-leb, ne_eqb}
 use Rattle.bools.proofs.BoolLaws.{and_assoc}
-use Rattle.bytes.specs.Bytes.{number, part, all_zero}
-use Rattle.bytes.proofs.CodeLaws.{number-first, first-within, zero_number, zero-numbers, zero-append}
+use Rattle.octets.specs.Bytes.{number, part, all_zero}
+use Rattle.octets.proofs.CodeLaws.{number-first, first-within, zero_number, zero-numbers, zero-append}
 use Rattle.fields.specs.Layout.{get, name, link, epoch, county, form_value, reserved_in, reserved}
 use Rattle.table.specs.WellFormed.{between, limit, is_county, head_values, list_right, county_right, plain_right, head_right}
 

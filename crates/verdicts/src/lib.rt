@@ -1,4 +1,6 @@
 // What is found of a set of rows that answered: its good rows, the list in force, and questions 6 and 7.
+#![tactic(auto)]
+
 ghost use Rattle.std.specs.Prelude.{◌≡◌, true, not, cond, ◌&&◌, List, ℕ, ◌^◌, ◌<◌, take};
 ghost use Rattle.sets.specs.Upto.{Within, lowest};
 ghost use Rattle.sets.specs.Sets.{has};
@@ -19,7 +21,7 @@ use quorums::Kind;
 use rows::RowSet;
 
 // Of a set, by a poll: its good rows, their version, is it current.
-#[derive(Drop)]
+#[derive(Clone, Copy)]
 pub struct Tally {
     pub good: RowSet,
     pub version: u32,
@@ -27,14 +29,14 @@ pub struct Tally {
 }
 
 // Of a set: the highest epoch of its rows that have a list, and the list in force, V.
-#[derive(Drop)]
+#[derive(Clone, Copy)]
 struct Force {
     epoch: u32,
     list: Laid,
 }
 
 // Both of a set.
-#[derive(Drop)]
+#[derive(Clone, Copy)]
 pub struct Verdict {
     pub good: RowSet,
     pub version: u32,

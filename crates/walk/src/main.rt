@@ -1,4 +1,6 @@
 // The walk: four machines, seven calls; each line says step, call, refusal number and value.
+#![tactic(auto)]
+
 use libc::STDOUT_FILENO;
 
 fn line(step: u64, call: &[u8], res: u64) {

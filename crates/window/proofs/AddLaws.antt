@@ -14,8 +14,8 @@ use Rattle.bools.proofs.BoolLaws.{or_l, or_r, clash}
 use Rattle.sets.specs.Upto.{Within, every, among}
 use Rattle.sets.proofs.UptoLaws.{last}
 use Rattle.sets.proofs.RisingLaws.{among-head, among-tail, among-e}
-use Rattle.bytes.specs.Bytes.{all_zero, zeros}
-use Rattle.bytes.proofs.ByteLaws.{zero-drop, zeros-zero, length-zeros}
+use Rattle.octets.specs.Bytes.{all_zero, zeros}
+use Rattle.octets.proofs.ByteLaws.{zero-drop, zeros-zero, length-zeros}
 use Rattle.blocks.specs.Blocks.{block, with_block}
 use Rattle.blocks.proofs.BlockLaws.{one-changed, tail-stays, ends}
 use Rattle.fields.specs.Layout.{get, store}

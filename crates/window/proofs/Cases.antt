@@ -5,7 +5,7 @@ use Prim.Native.Nat.{ℕ, zero, suc, ◌+◌, ◌-◌}
 use lib.Dec.{eqb}
 use lib.ListN.{replicate}
 use Rattle.sets.specs.Upto.{upward}
-use Rattle.bytes.specs.Bytes.{bytes_of, put, zeros}
+use Rattle.octets.specs.Bytes.{bytes_of, put, zeros}
 use Rattle.window.specs.Windows.{Window, Patch, path, patches, window_right, emptied, added, sent}
 
 unfoldable pub same : List ℕ → List ℕ → Bool

@@ -2,7 +2,7 @@
 use mathlib.Core.Path.{◌≡◌, refl}
 use mathlib.Core.Bool.{true}
 use Rattle.sets.specs.Upto.{every, some, lowest, upward, among}
-use Rattle.bytes.specs.Bytes.{number, bytes_of, part, put, zeros, all_zero}
+use Rattle.octets.specs.Bytes.{number, bytes_of, part, put, zeros, all_zero}
 use Rattle.blocks.specs.Blocks.{block, with_block}
 use Rattle.fields.specs.Layout.{get, store}
 use Rattle.linking.specs.Linking.{chain, last_of}

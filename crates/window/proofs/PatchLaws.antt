@@ -9,8 +9,8 @@ use lib.ListN.{length, drop, length-append}
 use lib.Seq.{take_at, drop_at, drop-drop}
 use borrow.Author.Tests.{leb-true, le-leb}
 use Rattle.bools.proofs.BoolLaws.{and_l, clash, same_test}
-use Rattle.bytes.specs.Bytes.{number, bytes_of, part, zeros, all_zero}
-use Rattle.bytes.proofs.ByteLaws.{length-bytes, length-zeros, zeros-zero, zeros-are, drop-put-after}
+use Rattle.octets.specs.Bytes.{number, bytes_of, part, zeros, all_zero}
+use Rattle.octets.proofs.ByteLaws.{length-bytes, length-zeros, zeros-zero, zeros-are, drop-put-after}
 use Rattle.fields.specs.Layout.{get, store}
 use Rattle.fields.proofs.FieldLaws.{length-store, get-store, get_other, part-store}
 use Rattle.window.specs.Windows.{Patch, width, younger, size, start, patch_in, record_with, record_right}

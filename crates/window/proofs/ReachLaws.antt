@@ -9,8 +9,8 @@ use lib.Dec.{leb}
 use lib.ListN.{length, drop, length-append, length-drop}
 use lib.Seq.{drop-drop, drop-length, drop-append-le}
 use borrow.Author.Tests.{leb-true, le-leb, lt-leb}
-use Rattle.bytes.specs.Bytes.{put}
-use Rattle.bytes.proofs.ByteLaws.{length-put, length-zeros}
+use Rattle.octets.specs.Bytes.{put}
+use Rattle.octets.proofs.ByteLaws.{length-put, length-zeros}
 use Rattle.window.specs.Windows.{Window, Patch, Kept, patches, window_right, added, patched, laid, lastly, sent}
 use Rattle.window.specs.Claims.{Whole, Fits, LatestKept, StaysRight, Grown, SentIsWhole}
 use Rattle.window.proofs.AddLaws.{patches-added, added-long, patches-emptied, emptied-whole, emptied-right, added-right}

@@ -11,8 +11,8 @@ use borrow.Author.Tests.{leb-true, le-leb}
 use Rattle.bools.proofs.BoolLaws.{and_l, and_r, and_i}
 use Rattle.sets.specs.Upto.{Within, every, lowest, among}
 use Rattle.sets.proofs.UptoLaws.{every-at, every_of, lowest-is, lowest-none}
-use Rattle.bytes.specs.Bytes.{part, all_zero}
-use Rattle.bytes.proofs.ByteLaws.{zero-drop}
+use Rattle.octets.specs.Bytes.{part, all_zero}
+use Rattle.octets.proofs.ByteLaws.{zero-drop}
 use Rattle.blocks.specs.Blocks.{block}
 use Rattle.blocks.proofs.BlockLaws.{length-block}
 use Rattle.linking.specs.Linking.{behind}

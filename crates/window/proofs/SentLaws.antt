@@ -10,8 +10,8 @@ use borrow.Author.Tests.{leb-true}
 use Rattle.bools.proofs.BoolLaws.{and_l, and_r}
 use Rattle.sets.specs.Upto.{among}
 use Rattle.sets.proofs.RisingLaws.{among-head, among-tail}
-use Rattle.bytes.specs.Bytes.{put}
-use Rattle.bytes.proofs.ByteLaws.{length_part, length-put}
+use Rattle.octets.specs.Bytes.{put}
+use Rattle.octets.proofs.ByteLaws.{length_part, length-put}
 use Rattle.fields.specs.Layout.{get}
 use Rattle.window.specs.Windows.{Window, Patch, size, start, patch_in, record_of, path, patches, record_right, window_right, laid, lastly, sent}
 use Rattle.window.specs.Claims.{Whole}

@@ -1,6 +1,6 @@
 -- What is claimed of windows.
 use Rattle.std.specs.Prelude.{◌≡◌, true, [], ◌∷◌, ◌++◌, ℕ, suc, ◌+◌, ◌-◌, ◌≤◌, ◌<◌, length, drop}
-use Rattle.bytes.specs.Bytes.{zeros}
+use Rattle.octets.specs.Bytes.{zeros}
 use Rattle.window.specs.Windows.{Window, Patch, Kept, patches, window_right, emptied, added, patched, sent}
 
 -- a window has 16 records of 36 bytes

@@ -1,7 +1,7 @@
 -- "Each row keeps a window on its latest 16 patches of at most 32 bytes."
 use Rattle.std.specs.Prelude.{Bool, true, cond, ◌&&◌, List, [], ◌∷◌, ◌++◌, map, ℕ, ◌+◌, ◌-◌, ◌*◌, eqb, leb, length, drop}
 use Rattle.sets.specs.Upto.{every, lowest, among}
-use Rattle.bytes.specs.Bytes.{bytes_of, part, put, zeros, all_zero}
+use Rattle.octets.specs.Bytes.{bytes_of, part, put, zeros, all_zero}
 use Rattle.blocks.specs.Blocks.{block, with_block}
 use Rattle.fields.specs.Layout.{Field, get, store, oldest, oldest_in, records, store_records}
 use Rattle.linking.specs.Linking.{chain, last_of}

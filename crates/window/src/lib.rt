@@ -1,1 +1,3 @@
 // A chain of links, and one put in: definitions and laws.
+#![tactic(auto)]
+

@@ -11,8 +11,8 @@ use borrow.Author.Tests.{leb-true, le-leb, eqb-true, eq-eqb}
 use Rattle.bools.proofs.BoolLaws.{and_l, and_r, and_i, and_assoc, clash, same_test}
 use Rattle.sets.specs.Upto.{Within, every, count, among}
 use Rattle.sets.proofs.UptoLaws.{every-at, every_of}
-use Rattle.bytes.specs.Bytes.{number, part, all_zero}
-use Rattle.bytes.proofs.ByteLaws.{part-part}
+use Rattle.octets.specs.Bytes.{number, part, all_zero}
+use Rattle.octets.proofs.ByteLaws.{part-part}
 use Rattle.blocks.specs.Blocks.{block}
 use Rattle.fields.specs.Layout.{get}
 use Rattle.linking.specs.Linking.{chain}

@@ -12,9 +12,9 @@ use borrow.Author.Tests.{eqb-true, eq-eqb, leb-true}
 use Rattle.bools.proofs.BoolLaws.{and_l, and_r, and_assoc, same_test, clash}
 use Rattle.sets.specs.Upto.{Within, every}
 use Rattle.sets.proofs.UptoLaws.{every-at, every_of, every-ext}
-use Rattle.bytes.specs.Bytes.{number, part, all_zero}
-use Rattle.bytes.proofs.ByteLaws.{length_part, part-part, zero-drop}
-use Rattle.bytes.proofs.CodeLaws.{number-one, zero-at, zero_of}
+use Rattle.octets.specs.Bytes.{number, part, all_zero}
+use Rattle.octets.proofs.ByteLaws.{length_part, part-part, zero-drop}
+use Rattle.octets.proofs.CodeLaws.{number-one, zero-at, zero_of}
 use Rattle.blocks.specs.Blocks.{block}
 use Rattle.fields.specs.Layout.{get}
 use Rattle.window.specs.Windows.{size}

@@ -1,7 +1,7 @@
 -- What the code finds out of a window: where its chain leads, and what stands in its records.
 use Rattle.std.specs.Prelude.{◌≡◌, Bool, true, false, not, ◌&&◌, List, ℕ, suc, ◌+◌, ◌-◌, ◌*◌, ◌≤◌, ◌<◌, min, eqb, leb, length, get_or, drop}
 use Rattle.sets.specs.Upto.{every, among}
-use Rattle.bytes.specs.Bytes.{all_zero}
+use Rattle.octets.specs.Bytes.{all_zero}
 use Rattle.blocks.specs.Blocks.{block}
 use Rattle.fields.specs.Layout.{get}
 use Rattle.window.specs.Windows.{Window, younger, size, start, path, window_right}

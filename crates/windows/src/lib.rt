@@ -1,15 +1,17 @@
 // Question 1 of a window: its chain, and its records.
+#![tactic(auto)]
+
 ghost use Rattle.std.specs.Prelude.{◌≡◌, true, cond, ◌+◌, ◌*◌, ◌≤◌, min, eqb, length, get_or, drop};
 ghost use Rattle.sets.specs.Upto.{Within, every, count};
 ghost use Rattle.sets.specs.Sets.{has};
-ghost use Rattle.bytes.specs.Bytes.{all_zero};
+ghost use Rattle.octets.specs.Bytes.{all_zero};
 ghost use Rattle.blocks.specs.Blocks.{block};
 ghost use Rattle.fields.specs.Layout.{get};
 ghost use Rattle.window.specs.Windows.{younger, path, window_right};
 ghost use Rattle.windows.specs.Visits.{window, visits, head_right, tail_zero, Distances, over, Short, broken, Leads};
 
 use bools::both;
-use bytes::joined;
+use octets::joined;
 use rows::RowSet;
 
 // A window has so many records of so many bytes.
@@ -23,7 +25,7 @@ pub fn next_of(records: &[u8], x: usize) -> usize
     ensures { result ≡ get younger (block 0 36 x records.now) }
 {
     let at = (x - 1) * WIDTH;
-    bytes::u8_at(records, at) as usize
+    octets::u8_at(records, at) as usize
 }
 
 // As many records as were passed, if they are records 1 to so many; else one more than there are.
@@ -63,8 +65,8 @@ fn head_right(file: usize, records: &[u8], x: usize) -> bool
     ensures { result ≡ head_right file (block 0 36 x records.now) }
 {
     let at = (x - 1) * WIDTH;
-    let size = bytes::u8_at(records, at + 1) as usize;
-    let end = bytes::u16_at(records, at + 2) as usize + size;
+    let size = octets::u8_at(records, at + 1) as usize;
+    let end = octets::u16_at(records, at + 2) as usize + size;
     let some = both(1 <= size, size <= 32);
     both(some, end <= file)
 }
@@ -77,7 +79,7 @@ fn one_more(n: usize, more: bool) -> usize
 }
 
 // The records before the first one whose head is not right, and how many of them the record behind them does not follow.
-#[derive(Drop)]
+#[derive(Clone, Copy)]
 struct Heads {
     count: usize,
     breaks: usize,
@@ -208,7 +210,7 @@ pub fn records_right(file: usize, version: u32, oldest: usize, records: &[u8]) -
         return false;
     }
     let end = k * WIDTH;
-    if !bytes::all_zero(&records[end..]) {
+    if !octets::all_zero(&records[end..]) {
         return false;
     }
     tails_zero(&table, k, records)
@@ -220,7 +222,7 @@ pub fn window_right(file: usize, version: u32, oldest: usize, records: &[u8]) ->
     ensures { result ≡ window_right file version (window oldest records.now) }
 {
     if oldest == 0 {
-        return bytes::all_zero(records);
+        return octets::all_zero(records);
     }
     records_right(file, version, oldest, records)
 }

@@ -1,4 +1,6 @@
 // The wordings of notices: a call's word by its number, and the reason of a refusal by its number, each with spaces behind it.
+#![tactic(auto)]
+
 ghost use Rattle.std.specs.Prelude.{◌≡◌};
 ghost use Rattle.telling.specs.Text.{in_bytes, padded};
 ghost use Rattle.telling.specs.Notices.{word, reason};

@@ -1,4 +1,6 @@
 // A write: question 1, then all others and what is done, then its notes.
+#![tactic(auto)]
+
 ghost use Rattle.std.specs.Prelude.{◌≡◌, cond, ◌^◌, ◌<◌, ltb, length};
 ghost use Rattle.sets.specs.Upto.{Within};
 ghost use Rattle.sheet.specs.Sheet.{counted};

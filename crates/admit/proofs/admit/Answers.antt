@@ -1,0 +1,44 @@
+use native.Mathlib.Omega.{arith}
+use borrow.Author.Rules.{rules}
+use Rattle.table.proofs.WellFormedLaws.{header, long, few-rows}
+use Rattle.admit.proofs.AdmitLaws.{row_fits, link_fits, admitted}
+use Rattle.admit.proofs.admit.Goals as goal
+
+pub row_length-size-requires : goal.row_length-size-requires
+row_length-size-requires c = (long c.requires.0, c.requires.0.header)
+
+pub used-used-requires : goal.used-used-requires
+used-used-requires c = long c.requires.0
+
+pub first-first-requires : goal.first-first-requires
+first-first-requires c = long c.requires.0
+
+pub overflow_cast-first : goal.overflow_cast-first
+overflow_cast-first c = omega (arith, c.first-first.ensures, few-rows c.requires.0, (header c.requires.0.header).first)
+
+pub overflow_cast-count : goal.overflow_cast-count
+overflow_cast-count c = omega (arith, c.used-used.ensures, few-rows c.requires.0)
+
+pub overflow_add-row : goal.overflow_add-row
+overflow_add-row c = omega (arith, c.used-used.ensures, few-rows c.requires.0)
+
+pub add_row-requires : goal.add_row-requires
+add_row-requires c =
+                row_fits c.requires.0 c.requires.1 _ _ c.row_length-size.ensures c.used-used.ensures
+
+pub link_row-requires : goal.link_row-requires
+link_row-requires c =
+                rw c.add_row.auto.0 (link_fits c.requires.0 c.requires.1 _ _ c.row_length-size.ensures c.requires.2)
+
+pub set_used-requires : goal.set_used-requires
+set_used-requires c =
+            omega (arith, c.link_row.auto.0, c.add_row.auto.0, long c.requires.0)
+
+pub set_first-requires : goal.set_first-requires
+set_first-requires c =
+                omega (arith, c.set_used.auto.0, c.link_row.auto.0, c.add_row.auto.0, long c.requires.0)
+
+pub returns : goal.returns
+returns c =
+                                        admitted c.requires.0 c.requires.1 _ _ _ _ _ _ _ _ _ _ _ _ c.row_length-size.ensures c.used-used.ensures c.first-first.ensures c.row_behind.ensures c.front.ensures
+    c.add_row.ensures c.link_row.ensures c.set_used.ensures c.set_first.ensures

@@ -1,0 +1,87 @@
+use mathlib.Core.Path.{◌≡◌, sym, ◌∙◌, ap}
+use mathlib.Core.Logic.{⊎_elim}
+use Prim.Native.Nat.{◌+◌, ◌≤◌}
+use native.Mathlib.Omega.{arith}
+use borrow.Author.Rules.{rules}
+use borrow.Author.Tests.{not-true, not-false}
+use Rattle.bools.proofs.BoolLaws.{clash}
+use Rattle.fields.specs.Layout.{get, epoch, list, epoch_of, list_of, is_empty}
+use Rattle.table.proofs.WellFormedLaws.{few-rows}
+use Rattle.agreement.specs.Compared.{Apart}
+use Rattle.agreement.proofs.AgreeLaws.{apart_more, join-none, join-like, join-listed}
+use Rattle.agreement.proofs.found.Goals as goal
+
+-- list and epoch of row k + 1, and of row j
+own : (c : goal.After-list-own) → let a = c.args in c.list-own.result ≡ list_of a.t.now (a.k + 1)
+unfolding list_of
+own c = c.list-own.ensures ∙ ap list c.row_of-row.ensures.0
+
+its-epoch : (c : goal.After-epoch-epoch) → let a = c.args in c.epoch-epoch.result ≡ epoch_of a.t.now (a.k + 1)
+unfolding epoch_of
+its-epoch c = c.epoch-epoch.ensures ∙ ap (get epoch) c.row_of-row.ensures.0
+
+other : (c : goal.After-list-list) → c.list-list.result ≡ list_of c.args.t.now c.loop-j.j
+unfolding list_of
+other c = c.list-list.ensures ∙ ap list c.row_of-other.ensures.0
+
+other-epoch : (c : goal.After-epoch) → c.epoch.result ≡ epoch_of c.args.t.now c.loop-j.j
+unfolding epoch_of
+other-epoch c = c.epoch.ensures ∙ ap (get epoch) c.row_of-other.ensures.0
+
+-- the two are of one epoch
+alike : (c : goal.Then-epoch) → let a = c.args in epoch_of a.t.now (a.k + 1) ≡ epoch_of a.t.now c.loop-j.j
+alike c = sym (its-epoch c.before.before.before.before.before) ∙ c.if-epoch.true ∙ other-epoch c.before
+
+pub overflow_add-k : goal.overflow_add-k
+overflow_add-k c = omega (arith, few-rows c.requires.0)
+
+pub row_of-row-requires : goal.row_of-row-requires
+row_of-row-requires c = (c.requires.0, omega arith)
+
+pub list-own-requires : goal.list-own-requires
+list-own-requires c = c.row_of-row.ensures.1
+
+pub epoch-epoch-requires : goal.epoch-epoch-requires
+epoch-epoch-requires c = c.row_of-row.ensures.1
+
+pub loop-j-init : goal.loop-j-init
+loop-j-init c = (c.requires.2, λ i w h q. c.requires.3 i w h (sym (its-epoch c) ∙ q))
+
+pub row_of-other-requires : goal.row_of-other-requires
+row_of-other-requires c = (c.requires.0, omega (arith, c.requires.1))
+
+pub epoch-requires : goal.epoch-requires
+epoch-requires c = c.row_of-other.ensures.1
+
+pub list-list-requires : goal.list-list-requires
+list-list-requires c = c.row_of-other.ensures.1
+
+pub returns-then-same : goal.returns-then-same
+returns-then-same c all =
+                let a = c.args in
+    join-like a.t.now a.k c.loop-j.j (omega (arith, c.loop-j-test.true)) (alike (goal.at.returns-then-same c).Then-epoch) all
+    (sym (own (goal.at.returns-then-same c).After-list-own) ∙ c.same.ensures.0 c.if-same.true ∙ other (goal.at.returns-then-same c).After-list-list)
+
+pub returns-then-not-is_empty : goal.returns-then-not-is_empty
+returns-then-not-is_empty c all =
+                            let a = c.args in
+    c.is_empty-then-not-is_empty.ensures ∙ ap is_empty (own (goal.at.returns-then-not-is_empty c).After-list-own)
+    ∙ join-listed a.t.now a.k c.loop-j.j (omega (arith, c.loop-j-test.true)) (alike (goal.at.returns-then-not-is_empty c).Then-epoch) all
+    (ap is_empty (sym (other (goal.at.returns-then-not-is_empty c).After-list-list)) ∙ sym c.is_empty.ensures ∙ not-true _ c.if-not-is_empty.true)
+    (λ q. clash (sym c.if-same.false ∙ c.same.ensures.1 (own (goal.at.returns-then-not-is_empty c).After-list-own ∙ q ∙ sym (other (goal.at.returns-then-not-is_empty c).After-list-list))))
+
+pub loop-j-preserved : goal.loop-j-preserved
+unfolding list_of
+loop-j-preserved c =
+    let l = c.loop-j in (
+      omega arith,
+      apart_more _ _ _ l.j l.invariant.1 (λ q. ⊎_elim
+          (λ w. ap is_empty (sym (w.1.ensures ∙ ap list c.row_of-other.ensures.0)) ∙ sym w.4.ensures ∙ not-false _ w.5.left)
+          (λ w. absurd (w.left (q ∙ sym (other-epoch (goal.at.loop-j-preserved c).After-epoch))))
+          c.if-epoch.branch),
+    )
+
+pub returns : goal.returns
+returns c all =
+        let a = c.args in
+    join-none a.t.now a.k (λ i w h q. c.loop-j.invariant.1 i w (omega (arith, c.loop-j-test.false)) (its-epoch (goal.at.returns c).After-epoch-epoch ∙ q))

@@ -1,0 +1,7 @@
+use mathlib.Core.Path.{◌∙◌, ap₂}
+use mathlib.Core.Bool.{Bool, not, ◌&&◌}
+use borrow.Author.Rules.{rules}
+use Rattle.agreement.proofs.is_wide.Goals as goal
+
+pub returns : goal.returns
+returns c = c.both.ensures ∙ ap₂ (λ (x y : Bool). not x && not y) c.is_empty.ensures c.is_tall.ensures

@@ -1,0 +1,48 @@
+use mathlib.Core.Path.{◌≡◌, sym, ◌∙◌, ap}
+use mathlib.Core.Logic.{⊎_elim}
+use Prim.Native.Nat.{◌+◌}
+use native.Mathlib.Omega.{arith}
+use borrow.Author.Rules.{rules}
+use borrow.Author.Tests.{not-true}
+use Rattle.bools.proofs.BoolLaws.{clash}
+use Rattle.fields.specs.Layout.{list, list_of, is_empty}
+use Rattle.table.proofs.WellFormedLaws.{few-rows}
+use Rattle.agreement.proofs.AgreeLaws.{join-like, join-listed}
+use Rattle.agreement.proofs.joins.Goals as goal
+
+-- the lists of row k + 1 and row k
+own : (c : goal.After-list-own) → let a = c.args in c.list-own.result ≡ list_of a.t.now (a.k + 1)
+unfolding list_of
+own c = c.list-own.ensures ∙ ap list c.row_of.ensures.0
+
+last : (c : goal.After-list-last) → let a = c.args in c.list-last.result ≡ list_of a.t.now a.k
+unfolding list_of
+last c = c.list-last.ensures ∙ ap list c.row_of-then-like.ensures.0
+
+pub overflow_add-k : goal.overflow_add-k
+overflow_add-k c = omega (arith, few-rows c.requires.0)
+
+pub row_of-requires-then-like : goal.row_of-requires-then-like
+row_of-requires-then-like c =
+            (c.requires.0, omega (arith, c.requires.1, c.requires.3 c.if-like.true))
+
+pub returns-then-same : goal.returns-then-same
+returns-then-same c all =
+                    let like = c.requires.3 c.if-like.true in
+    join-like c.args.t.now c.args.k c.args.k (omega (arith, like.0)) like.1 all
+    (sym (own (goal.at.returns-then-same c).After-list-own) ∙ c.same.ensures.0 c.if-same.true ∙ last (goal.at.returns-then-same c).After-list-last)
+
+pub returns-then-not-is_empty : goal.returns-then-not-is_empty
+returns-then-not-is_empty c all =
+                            let like = c.requires.3 c.if-like.true in
+    c.is_empty-then-not-is_empty.ensures ∙ ap is_empty (own (goal.at.returns-then-not-is_empty c).After-list-own)
+    ∙ join-listed c.args.t.now c.args.k c.args.k (omega (arith, like.0)) like.1 all
+    (ap is_empty (sym (last (goal.at.returns-then-not-is_empty c).After-list-last)) ∙ sym c.is_empty.ensures ∙ not-true _ c.if-not-is_empty.true)
+    (λ q. clash (sym c.if-same.false ∙ c.same.ensures.1 (own (goal.at.returns-then-not-is_empty c).After-list-own ∙ q ∙ sym (last (goal.at.returns-then-not-is_empty c).After-list-last))))
+
+pub found-requires : goal.found-requires
+found-requires c =
+        ⊎_elim
+    (λ w. (c.requires.0, c.requires.1, omega (arith, w.9), λ i v h q. absurd (omega (arith, w.9))))
+    (λ w. (c.requires.0, c.requires.1, omega (arith, w.1, c.requires.2), λ i v h q. c.requires.4 w.0.left i v (omega (arith, w.1)) q))
+    c.if-like.branch

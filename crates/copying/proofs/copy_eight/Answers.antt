@@ -1,0 +1,11 @@
+use borrow.Author.Rules.{rules}
+use mathlib.Core.Path.{◌∙◌}
+use Rattle.copying.proofs.CopyLaws.{front_long, front-is}
+use Rattle.copying.proofs.copy_eight.Goals as goal
+
+pub slice_bounds-copy_each-end : goal.slice_bounds-copy_each-end
+slice_bounds-copy_each-end c = front_long _ _ c.args.from.now _ c.copy_each.ensures c.requires.1
+
+pub returns : goal.returns
+returns c =
+                c.copy_each-2.ensures ∙ front-is _ _ c.args.from.now _ c.copy_each.ensures c.requires.1

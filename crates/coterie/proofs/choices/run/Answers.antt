@@ -1,0 +1,7 @@
+use native.Mathlib.Omega.{arith}
+use borrow.Author.Rules.{rules}
+use Rattle.coterie.proofs.TurnLaws.{run_is}
+use Rattle.coterie.proofs.choices.run.Goals as goal
+
+pub returns : goal.returns
+returns c = let a = c.args in run_is _ a.at a.n (omega arith) c.first-set.ensures

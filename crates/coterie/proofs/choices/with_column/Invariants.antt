@@ -1,0 +1,16 @@
+use mathlib.Core.Bool.{Bool}
+use mathlib.Core.Path.{◌≡◌, sym, ap, ◌∙◌}
+use Prim.Native.Nat.{ℕ, suc, ◌+◌, ◌-◌, ◌≤◌, ◌%◌}
+use native.Mathlib.Omega.{arith}
+use native.Mathlib.Nat.{mod-eq_of_lt}
+use borrow.Author.Rules.{rules}
+use Rattle.coterie.proofs.TurnLaws.{column_to, column-start, column-turn, column-next, column-end}
+use Rattle.grid.specs.Sizes.{column_of}
+use Rattle.sets.specs.Sets.{has, gaining}
+use Rattle.coterie.proofs.choices.with_column.Given as goal
+
+abbrev pub invariant-loop-at : goal.invariant-loop-at
+invariant-loop-at l = (1 ≤ l.at) × (l.at ≤ l.length + l.columns) × (column_of l.columns l.at ≡ l.j) × (has l.grown.bits ≡ column_to l.columns l.length l.j (has l.initial.grown.bits) l.at)
+
+abbrev pub decreases-loop-at : goal.decreases-loop-at
+decreases-loop-at l = suc l.length - l.at

@@ -1,0 +1,48 @@
+use mathlib.Core.Path.{◌≡◌, sym, ◌∙◌, ap}
+use mathlib.Core.Bool.{true}
+use Prim.Native.Nat.{ℕ, ◌+◌, ◌-◌, ◌≤◌, ◌<◌}
+use native.Mathlib.Omega.{arith}
+use borrow.Author.Rules.{rules}
+use Rattle.sets.specs.Upto.{Within}
+use Rattle.fields.specs.Layout.{get, county, used_of, row_bytes}
+use Rattle.table.proofs.WellFormedLaws.{few-rows}
+use Rattle.grouping.proofs.GroupLaws.{same_more}
+use Rattle.grouping.proofs.all_in.Goals as goal
+
+-- the row of this turn is a used one
+turn : (c : goal.In-loop-k) → Within (used_of c.args.t.now) (c.loop-k.k + 1) × (c.loop-k.k < 64)
+turn c =
+            let w : Within (used_of c.args.t.now) (c.loop-k.k + 1) = omega (arith, c.requires.2, c.loop-k-test.true) in
+    (w, omega (arith, w, few-rows c.requires.0))
+
+pub loop-k-init : goal.loop-k-init
+loop-k-init c = (omega arith, λ e i w. absurd (omega arith))
+
+pub overflow_add-k : goal.overflow_add-k
+overflow_add-k c = omega (arith, (turn c).1)
+
+pub row_at-requires : goal.row_at-requires
+row_at-requires c = (c.requires.0, c.requires.1, (turn c).0)
+
+pub county-own-requires : goal.county-own-requires
+county-own-requires c = c.row_at.ensures.1
+
+pub overflow_add-k-in-loop-k : goal.overflow_add-k-in-loop-k
+overflow_add-k-in-loop-k c = omega (arith, (turn (goal.at.overflow_add-k-in-loop-k c).In-loop-k).1)
+
+pub loop-k-smaller : goal.loop-k-smaller
+loop-k-smaller c = let less = c.loop-k-test.true in omega arith
+
+pub loop-k-preserved : goal.loop-k-preserved
+loop-k-preserved c =
+            let l = c.loop-k in
+    (
+      omega (arith, c.loop-k-test.true),
+      λ e. same_more _ c.args.which l.k _ l.same l.invariant.1 (c.county-own.ensures ∙ ap (get county) c.row_at.ensures.0) (sym c.both-same.ensures ∙ e),
+    )
+
+pub returns : goal.returns
+returns c =
+    let l = c.loop-k in
+        let done = c.loop-k-test.false in
+    λ e i w. l.invariant.1 e i (omega (arith, w, c.requires.2, done))

@@ -1,0 +1,17 @@
+use mathlib.Core.Path.{◌≡◌, sym, ◌∙◌, ap}
+use mathlib.Core.Bool.{true}
+use Prim.Native.Nat.{ℕ, ◌+◌, ◌-◌, ◌≤◌, ◌<◌}
+use native.Mathlib.Omega.{arith}
+use borrow.Author.Rules.{rules}
+use Rattle.sets.specs.Upto.{Within}
+use Rattle.fields.specs.Layout.{get, county, used_of, row_bytes}
+use Rattle.table.proofs.WellFormedLaws.{few-rows}
+use Rattle.grouping.proofs.GroupLaws.{same_more}
+use Rattle.grouping.proofs.all_in.Given as goal
+
+-- the first k rows have it
+abbrev pub invariant-loop-k : goal.invariant-loop-k
+invariant-loop-k l = (l.k ≤ l.used) × (l.same ≡ true → (i : ℕ) → Within l.k i → l.which ≡ get county (row_bytes l.t i))
+
+abbrev pub decreases-loop-k : goal.decreases-loop-k
+decreases-loop-k l = l.used - l.k

@@ -1,0 +1,21 @@
+use mathlib.Core.Path.{◌≡◌, ◌∙◌, ap}
+use mathlib.Core.Bool.{not, cond}
+use Prim.Native.Nat.{ℕ, ◌+◌, ◌-◌, ◌≤◌}
+use native.Mathlib.Nat.{mod-eq_of_lt}
+use native.Mathlib.Omega.{arith}
+use borrow.Author.Rules.{rules}
+use Rattle.bools.proofs.BoolLaws.{not-not}
+use Rattle.sets.specs.Upto.{some}
+use Rattle.sets.specs.Sets.{has, gaining}
+use Rattle.sets.proofs.SetLaws.{has-empty}
+use Rattle.sets.proofs.GatherLaws.{up_to, none-gathered, one-gathered}
+use Rattle.counties.specs.Counties.{in_county, has_members}
+use Rattle.grouping.specs.Grouped.{county_by}
+use Rattle.grouping.proofs.having.Given as goal
+
+-- the first k counties are looked at
+abbrev pub invariant-loop-k : goal.invariant-loop-k
+invariant-loop-k l = (l.k ≤ 8) × (has l.out.bits ≡ up_to l.k (λ j. some 64 (in_county (county_by l.sets) (has l.members.bits) j)))
+
+abbrev pub decreases-loop-k : goal.decreases-loop-k
+decreases-loop-k l = 8 - l.k

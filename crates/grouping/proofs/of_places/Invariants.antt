@@ -1,0 +1,15 @@
+use mathlib.Core.Path.{◌≡◌, ap}
+use Prim.Native.Nat.{ℕ, ◌+◌, ◌-◌, ◌≤◌}
+use native.Mathlib.Omega.{arith}
+use borrow.Author.Rules.{rules}
+use lib.ListN.{length, get_or}
+use Rattle.grouping.specs.Grouped.{Filled}
+use Rattle.grouping.proofs.GroupLaws.{none_filled, places-grouped}
+use Rattle.grouping.proofs.of_places.Given as goal
+
+-- the first k rows are in their sets
+abbrev pub invariant-loop-k : goal.invariant-loop-k
+invariant-loop-k l = (l.k ≤ length l.places) × Filled (λ i. get_or l.places (i - 1) 0) l.k l.sets
+
+abbrev pub decreases-loop-k : goal.decreases-loop-k
+decreases-loop-k l = length l.places - l.k

@@ -1,0 +1,93 @@
+use mathlib.Core.Path.{◌≡◌, refl, sym, ◌∙◌, ap}
+use mathlib.Core.Bool.{Bool, true, false, not, ◌&&◌}
+use Prim.Native.Nat.{◌<◌}
+use native.Mathlib.Omega.{arith}
+use borrow.Author.Rules.{rules}
+use borrow.Author.Tests.{not-true, not-false, lt-ltb, le-ltb}
+use lib.Dec.{eqb}
+use Rattle.sets.specs.Upto.{some}
+use Rattle.fields.specs.Layout.{capacity_of, used_of, name_of}
+use Rattle.table.specs.WellFormed.{between, is_county, well_formed}
+use Rattle.table.proofs.WellFormedLaws.{sized, long, few-rows}
+use Rattle.joining.proofs.FrameLaws.{before-used}
+use Rattle.asking.specs.Asking.{first_no}
+use Rattle.protocol.specs.Calls.{Joining, join, questions}
+use Rattle.protocol.proofs.QuestionLaws.{county-is}
+use Rattle.questions.proofs.QuestionLaws.{refused-is}
+use Rattle.joins.proofs.JoinLaws.{name_free, join-answers, join-done}
+use Rattle.joins.proofs.join.Goals as goal
+
+-- the arguments of the call
+abbrev joining : goal.Start → Joining
+joining s = record { name = s.args.name; county = s.args.county }
+
+-- question 1 is yes
+formed : (c : goal.Else-not-ordered) → well_formed c.args.t.now ≡ true
+formed c = sym c.ordered.ensures.0 ∙ not-false _ c.if-not-ordered.false
+
+-- question 13, as it was asked
+named : (c : goal.After-any) → let a = c.args in (between 1 a.name 65_535 && not (some (used_of a.t.now) (λ i. eqb (name_of a.t.now i) a.name))) ≡ not c.any.result
+named c =
+    let a = c.args in
+    ap (λ (b : Bool). between 1 a.name 65_535 && not b) (sym c.place_of-place.ensures.1) ∙ name_free a.name _ (omega arith) ∙ ap not (sym c.any.ensures)
+
+-- and 14
+room : (c : goal.Else-capacity-used) → let t = c.args.t.now in used_of t < capacity_of t
+room c = omega (arith, c.capacity.ensures, c.used-used.ensures, c.if-capacity-used.false)
+
+-- and 20
+placed : (c : goal.Else-not-is_county) → is_county c.args.county ≡ true
+placed c = sym c.is_county.ensures ∙ not-false _ c.if-not-is_county.false
+
+passed : (c : goal.Else-not-is_county) → first_no (questions c.args.t.now (join (joining c.before.before.before.before.before.before.before.before.before.before.before.before.before.before))) ≡ 0
+passed c =
+            join-answers _ _ true true true true (formed c.before.before.before.before.before.before.before.before.before) (named c.before.before.before.before.before.before ∙ ap not c.if-any.false) (lt-ltb _ _ (room c.before.before)) (placed c)
+
+pub returns-then-not-ordered : goal.returns-then-not-ordered
+returns-then-not-ordered c =
+        let no = refused-is c.args.t.now (join (joining (goal.at.returns-then-not-ordered c).Start)) 1 (join-answers _ _ false _ _ _ (sym c.ordered.ensures.0 ∙ not-true _ c.if-not-ordered.true) refl refl refl) (omega arith) in
+    (c.result.ensures ∙ no.result, no.table)
+
+pub place_of-place-requires : goal.place_of-place-requires
+place_of-place-requires c = (formed (goal.at.place_of-place-requires c).Else-not-ordered, (c.ordered.ensures.1 (not-false _ c.if-not-ordered.false)).ordered)
+
+pub returns-then-any : goal.returns-then-any
+returns-then-any c =
+        let no = refused-is c.args.t.now (join (joining (goal.at.returns-then-any c).Start)) 13 (join-answers _ _ true false _ _ (formed (goal.at.returns-then-any c).Else-not-ordered) (named (goal.at.returns-then-any c).After-any ∙ ap not c.if-any.true) refl refl) (omega arith) in
+    (c.result-then-any.ensures ∙ no.result, no.table)
+
+pub used-used-requires : goal.used-used-requires
+used-used-requires c = long (sized (formed (goal.at.used-used-requires c).Else-not-ordered))
+
+pub capacity-requires : goal.capacity-requires
+capacity-requires c = long (sized (formed (goal.at.capacity-requires c).Else-not-ordered))
+
+pub returns-then-capacity-used : goal.returns-then-capacity-used
+returns-then-capacity-used c =
+                let full = le-ltb (used_of c.args.t.now) (capacity_of c.args.t.now) (omega (arith, c.capacity.ensures, c.used-used.ensures, c.if-capacity-used.true)) in
+    let no = refused-is c.args.t.now (join (joining (goal.at.returns-then-capacity-used c).Start)) 14 (join-answers _ _ true true false _ (formed (goal.at.returns-then-capacity-used c).Else-not-ordered) (named (goal.at.returns-then-capacity-used c).After-any ∙ ap not c.if-any.false) full refl) (omega arith) in
+    (c.result-then-capacity-used.ensures ∙ no.result, no.table)
+
+pub returns-then-not-is_county : goal.returns-then-not-is_county
+returns-then-not-is_county c =
+                    let no = refused-is c.args.t.now (join (joining (goal.at.returns-then-not-is_county c).Start)) 20 (join-answers _ _ true true true false (formed (goal.at.returns-then-not-is_county c).Else-not-ordered) (named (goal.at.returns-then-not-is_county c).After-any ∙ ap not c.if-any.false) (lt-ltb _ _ (room (goal.at.returns-then-not-is_county c).Else-capacity-used)) (sym c.is_county.ensures ∙ not-true _ c.if-not-is_county.true)) (omega arith) in
+    (c.result-then-not-is_county.ensures ∙ no.result, no.table)
+
+pub overflow_cast-county : goal.overflow_cast-county
+overflow_cast-county c = record { fits = omega (arith, county-is _ (placed (goal.at.overflow_cast-county c).Else-not-is_county)) }
+
+pub admit-requires : goal.admit-requires
+admit-requires c =
+            let f = formed (goal.at.admit-requires c).Else-not-ordered in
+        (sized f, room (goal.at.admit-requires c).Else-capacity-used, rw c.place_of-place.ensures.0 (before-used c.args.t.now f c.args.name (room (goal.at.admit-requires c).Else-capacity-used)))
+
+pub overflow_cast-used : goal.overflow_cast-used
+overflow_cast-used c = omega (arith, c.used-used.ensures, few-rows (sized (formed (goal.at.overflow_cast-used c).Else-not-ordered)))
+
+pub overflow_add-used : goal.overflow_add-used
+overflow_add-used c = omega (arith, c.used-used.ensures, few-rows (sized (formed (goal.at.overflow_add-used c).Else-not-ordered)))
+
+pub returns : goal.returns
+returns c =
+                    let yes = join-done c.args.t.now (joining (goal.at.returns c).Start) _ _ _ (passed (goal.at.returns c).Else-not-is_county) c.used-used.ensures c.place_of-place.ensures.0 c.admit.ensures in
+    (c.result-2.ensures ∙ yes.0, yes.1)

@@ -1,0 +1,19 @@
+use mathlib.Core.Path.{sym, ap, ◌∙◌}
+use mathlib.Core.List.{List}
+use Prim.Native.Nat.{ℕ}
+use borrow.Author.Rules.{rules}
+use Rattle.lists.proofs.StraightLaws.{listed-straight}
+use Rattle.counties.specs.Levels.{seats, at_seat}
+use Rattle.sets.specs.Sets.{has}
+use Rattle.lists.proofs.held_positions.Goals as goal
+
+pub straight-requires : goal.straight-requires
+straight-requires c = c.requires.places
+
+pub held_straight-requires : goal.held_straight-requires
+held_straight-requires c = c.requires.few
+
+pub returns-then-straight : goal.returns-then-straight
+returns-then-straight c =
+            let a = c.args in
+    c.held_straight.ensures ∙ ap (λ (xs : List ℕ). at_seat (seats xs (has a.members.bits)) (has a.set.bits)) (sym (listed-straight c.requires (c.straight.ensures c.if-straight.true)))

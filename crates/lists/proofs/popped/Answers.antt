@@ -1,0 +1,5 @@
+use borrow.Author.Rules.{rules}
+use Rattle.lists.proofs.popped.Goals as goal
+
+pub returns-then-counts : goal.returns-then-counts
+returns-then-counts c = rw c.if-counts.true

@@ -1,0 +1,21 @@
+use mathlib.Core.Bool.{cond, ◌&&◌}
+use mathlib.Core.Path.{◌≡◌, sym, ap, ◌∙◌}
+use Prim.Native.Nat.{ℕ, ◌+◌, ◌-◌, ◌/◌, ◌%◌, ◌^◌, ◌≤◌, ◌<◌}
+use native.Mathlib.Nat.{div-one}
+use native.Mathlib.Omega.{arith}
+use borrow.Author.Rules.{rules}
+use lib.ListN.{length, get_or, take}
+use lib.Dec.{eqb}
+use Rattle.lists.proofs.SeatLaws.{row-place, left-next, seated-next, none-seated}
+use Rattle.counties.specs.Levels.{seats, at_seat}
+use Rattle.sets.proofs.SetLaws.{has-empty}
+use Rattle.sets.specs.Sets.{has, gaining}
+use Rattle.sets.specs.Upto.{some, keep}
+use Rattle.lists.proofs.seated.Given as goal
+
+abbrev pub invariant-loop-j : goal.invariant-loop-j
+invariant-loop-j l = (l.j ≤ l.count) × (l.left.bits ≡ l.initial.left.bits / 2 ^ length (seats (take l.j l.order) (has l.members.bits)))
+    × (has l.set.bits ≡ (λ (i : ℕ). some 64 (λ k. has l.initial.left.bits k && at_seat (seats (take l.j l.order) (has l.members.bits)) (eqb i) k)))
+
+abbrev pub decreases-loop-j : goal.decreases-loop-j
+decreases-loop-j l = l.count - l.j

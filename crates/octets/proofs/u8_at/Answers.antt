@@ -1,0 +1,7 @@
+use mathlib.Core.Path.{sym}
+use borrow.Author.Rules.{rules}
+use Rattle.octets.proofs.CodeLaws.{number-one}
+use Rattle.octets.proofs.u8_at.Goals as goal
+
+pub returns : goal.returns
+returns c = sym (number-one _ _)

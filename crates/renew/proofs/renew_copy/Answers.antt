@@ -1,0 +1,6 @@
+use borrow.Author.Rules.{rules}
+use Rattle.renew.proofs.renew_copy.Goals as goal
+
+pub returns : goal.returns
+returns c =
+    rw (c.set_desired.ensures, c.set_version.ensures, c.set_mark.ensures)

@@ -1,0 +1,9 @@
+use Prim.Native.Nat.{◌%◌}
+use native.Mathlib.Numerals.{add-one}
+use borrow.Author.Rules.{rules}
+use Rattle.sets.specs.Sets.{has}
+use Rattle.rows.proofs.RowSet.at.Goals as goal
+
+pub returns : goal.returns
+unfolding has
+returns c = rw (add-one (c.args.k % 64))

@@ -1,0 +1,41 @@
+use borrow.Author.Rules.{rules}
+use mathlib.Core.Path.{◌≡◌, sym, ◌∙◌, ap}
+use native.Mathlib.Omega.{arith}
+use Rattle.fields.specs.Layout.{get, version, file_length_of}
+use Rattle.fields.proofs.FieldLaws.{copy_is}
+use Rattle.table.proofs.WellFormedLaws.{newest, sized}
+use Rattle.asking.specs.Asking.{first_no}
+use Rattle.protocol.specs.Calls.{Sending, send, questions}
+use Rattle.protocol.proofs.QuestionLaws.{SendYes, send-yes}
+use Rattle.questions.proofs.QuestionLaws.{refused-is}
+use Rattle.sends.proofs.SendLaws.{sender-right, send-done}
+use Rattle.sends.proofs.send.Goals as goal
+
+-- the arguments of the call
+abbrev sending : goal.Start → Sending
+sending s = record { f = s.args.from; t = s.args.to; r = s.args.r; file = s.args.file }
+
+passed : (c : goal.Else-no-ne0) → first_no (questions c.args.t.now (send (sending c.before.before.before))) ≡ 0
+passed c = sym c.send_asked-no.ensures ∙ (let none : c.send_asked-no.result ≡ 0 = omega arith in none)
+
+yes : (c : goal.Else-no-ne0) → SendYes c.args.t.now (sending c.before.before.before)
+yes c = send-yes _ _ (passed c)
+
+pub returns-then-no-ne0 : goal.returns-then-no-ne0
+returns-then-no-ne0 c =
+        let no = refused-is c.args.t.now (send (sending (goal.at.returns-then-no-ne0 c).Start)) _ (sym c.send_asked-no.ensures) (omega arith) in
+    (c.result.ensures ∙ no.result, no.table)
+
+pub copy_of-requires : goal.copy_of-requires
+copy_of-requires c = let y = yes c in (sized y.formed, newest _ y.formed, y.from-used, y.group)
+
+pub version-version-requires : goal.version-version-requires
+version-version-requires c = omega (arith, c.copy_of.ensures.1, copy_is (file_length_of c.args.t.now))
+
+pub refresh-requires : goal.refresh-requires
+refresh-requires c = let y = yes (goal.at.refresh-requires c).Else-no-ne0 in (sized y.formed, newest _ y.formed, y.group, y.from-used, y.to-used, sender-right _ _ y)
+
+pub returns : goal.returns
+returns c =
+        let done = send-done c.args.t.now (sending (goal.at.returns c).Start) _ (passed (goal.at.returns c).Else-no-ne0) (c.version-version.ensures ∙ ap (get version) c.copy_of.ensures.0) in
+    (c.result-2.ensures ∙ done.0, c.refresh.ensures ∙ done.1)

@@ -1,0 +1,13 @@
+use Rattle.surveys.proofs.SurveyLaws.{Seen, seen_none, seen_more, seen_all}
+use Rattle.table.proofs.WellFormedLaws.{header, long}
+use borrow.Author.Rules.{rules}
+use native.Mathlib.Omega.{arith}
+use Prim.Native.Nat.{◌-◌, ◌≤◌, ◌<◌}
+use mathlib.Core.Path.{refl}
+use Rattle.surveys.proofs.look_through.Given as goal
+
+abbrev pub invariant-loop-k : goal.invariant-loop-k
+invariant-loop-k l = (l.k ≤ l.files) × Seen l.t l.s.bits l.k l.goods l.versions l.all
+
+abbrev pub decreases-loop-k : goal.decreases-loop-k
+decreases-loop-k l = l.files - l.k

@@ -1,0 +1,23 @@
+use mathlib.Core.Path.{◌≡◌, ◌∙◌, ap, ap₂}
+use mathlib.Core.Bool.{Bool, ◌&&◌}
+use Prim.Native.Nat.{ℕ, ◌+◌, ◌-◌, ◌≤◌}
+use native.Mathlib.Nat.{mod-eq_of_lt}
+use native.Mathlib.Omega.{arith}
+use borrow.Author.Rules.{rules}
+use lib.ListN.{take}
+use Rattle.sets.specs.Upto.{some}
+use Rattle.sets.specs.Sets.{has}
+use Rattle.sets.proofs.SetLaws.{has-empty}
+use Rattle.sets.proofs.GatherLaws.{none-joined, one-joined}
+use Rattle.counties.specs.Levels.{level_choice}
+use Rattle.counties.specs.Counties.{in_county}
+use Rattle.grouping.specs.Grouped.{county_by}
+use Rattle.tiers.proofs.chosen_within.Given as goal
+
+-- the first k counties are looked at
+abbrev pub invariant-loop-k : goal.invariant-loop-k
+invariant-loop-k l =
+    (l.k ≤ 8) × (has l.out.bits ≡ (λ (i : ℕ). some l.k (λ j. has l.up.bits j && level_choice l.kind l.list.mark (take l.count l.order) (in_county (county_by l.sets) (has l.list.members) j) l.name i)))
+
+abbrev pub decreases-loop-k : goal.decreases-loop-k
+decreases-loop-k l = 8 - l.k

@@ -1,0 +1,7 @@
+use borrow.Author.Rules.{rules}
+use Rattle.table.specs.WellFormed.{between}
+use Rattle.values.proofs.between.Goals as goal
+
+pub returns : goal.returns
+unfolding between
+returns c = c.both.ensures

@@ -1,0 +1,7 @@
+use borrow.Author.Rules.{rules}
+use Rattle.protocol.specs.Calls.{answers}
+use Rattle.verdicts.proofs.tallied.Goals as goal
+
+pub returns : goal.returns
+unfolding answers
+returns c = c.tally_of.ensures _ _ _ c.gather-said.ensures

@@ -1,0 +1,11 @@
+use mathlib.Core.Path.{◌∙◌, ap}
+use Prim.Native.Nat.{min}
+use borrow.Author.Rules.{rules}
+use Rattle.windows.specs.Visits.{over}
+use Rattle.windows.proofs.ZeroLaws.{far}
+use Rattle.windows.proofs.over.Goals as goal
+
+pub returns : goal.returns
+unfolding over
+returns c =
+        c.smaller.ensures ∙ ap (min _) (far _ c.args.n _ c.UNKNOWN-pre.0 c.UNKNOWN-pre.3 c.UNKNOWN-pre.4)
