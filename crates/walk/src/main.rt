@@ -1,21 +1,18 @@
 // The walk: four machines, seven calls; each line says step, call, refusal number and value.
 #![tactic(auto)]
 
-use libc::STDOUT_FILENO;
+use std::io;
 
-fn line(step: u64, call: &[u8], res: u64) {
-    io::print_decimal(STDOUT_FILENO, step);
-    io::write_all(STDOUT_FILENO, b" ");
-    io::write_all(STDOUT_FILENO, call);
-    io::write_all(STDOUT_FILENO, b" ");
-    io::print_decimal(STDOUT_FILENO, res / 4_294_967_296);
-    io::write_all(STDOUT_FILENO, b" ");
-    io::print_decimal(STDOUT_FILENO, res % 4_294_967_296);
-    io::write_all(STDOUT_FILENO, b"\n");
+fn line(rt: &HostRuntime, step: u64, call: &str, res: u64) -> io::Result<()> {
+    println!(rt;
+        "{step} {call} {} {}",
+        res / 4_294_967_296,
+        res % 4_294_967_296
+    )
 }
 
 // Rows in answering sets count from the right: row 1 is the last digit.
-fn main() {
+fn main(rt: HostRuntime) -> io::Result<()> {
     let mut table = [0u8; 2512];
     let mut byte = [0u8; 1];
     let mut called = [0u8; 1];
@@ -33,8 +30,9 @@ fn main() {
         b"\x01\x01\x01\x01",
     );
     line(
+        &rt,
         1,
-        b"write",
+        "write",
         writes::write(
             &mut table,
             1,
@@ -46,15 +44,17 @@ fn main() {
             &mut sheet,
             1,
         ),
-    );
+    )?;
     line(
+        &rt,
         2,
-        b"read",
+        "read",
         reads::read(&table, 4, 0b1100, 0, 1, &mut byte, &mut called, 1),
-    );
+    )?;
     line(
+        &rt,
         3,
-        b"write",
+        "write",
         writes::write(
             &mut table,
             2,
@@ -66,21 +66,24 @@ fn main() {
             &mut sheet,
             1,
         ),
-    );
+    )?;
     line(
+        &rt,
         4,
-        b"read",
+        "read",
         reads::read(&table, 4, 0b1100, 0, 1, &mut byte, &mut called, 1),
-    );
-    line(5, b"send", sends::send(&mut table, 3, 4, 0b1100, 1));
+    )?;
+    line(&rt, 5, "send", sends::send(&mut table, 3, 4, 0b1100, 1))?;
     line(
+        &rt,
         6,
-        b"check",
+        "check",
         checks::check(&mut table, 1, 0b1011, &mut sheet),
-    );
+    )?;
     line(
+        &rt,
         7,
-        b"write",
+        "write",
         writes::write(
             &mut table,
             3,
@@ -92,5 +95,5 @@ fn main() {
             &mut sheet,
             1,
         ),
-    );
+    )
 }
