@@ -28,15 +28,15 @@ add_row-requires c =
 
 pub link_row-requires : goal.link_row-requires
 link_row-requires c =
-                rw c.add_row.auto.0 (link_fits c.requires.0 c.requires.1 _ _ c.row_length-size.ensures c.requires.2)
+                rw c.add_row.auto.t (link_fits c.requires.0 c.requires.1 _ _ c.row_length-size.ensures c.requires.2)
 
 pub set_used-requires : goal.set_used-requires
 set_used-requires c =
-            omega (arith, c.link_row.auto.0, c.add_row.auto.0, long c.requires.0)
+            omega (arith, c.link_row.auto.t, c.add_row.auto.t, long c.requires.0)
 
 pub set_first-requires : goal.set_first-requires
 set_first-requires c =
-                omega (arith, c.set_used.auto.0, c.link_row.auto.0, c.add_row.auto.0, long c.requires.0)
+                omega (arith, c.set_used.auto.t, c.link_row.auto.t, c.add_row.auto.t, long c.requires.0)
 
 pub returns : goal.returns
 returns c =

@@ -9,27 +9,28 @@ use Rattle.fields.specs.Layout.{get, epoch, list, epoch_of, list_of, is_empty}
 use Rattle.table.proofs.WellFormedLaws.{few-rows}
 use Rattle.agreement.specs.Compared.{Apart}
 use Rattle.agreement.proofs.AgreeLaws.{apart_more, join-none, join-like, join-listed}
+use Rattle.agreement.proofs.found.Goals.{After-epoch, After-epoch-epoch, After-list-list, After-list-own, Then-epoch}
 use Rattle.agreement.proofs.found.Goals as goal
 
 -- list and epoch of row k + 1, and of row j
-own : (c : goal.After-list-own) → let a = c.args in c.list-own.result ≡ list_of a.t.now (a.k + 1)
+own : (c : After-list-own) → let a = c.args in c.list-own.result ≡ list_of a.t.now (a.k + 1)
 unfolding list_of
 own c = c.list-own.ensures ∙ ap list c.row_of-row.ensures.0
 
-its-epoch : (c : goal.After-epoch-epoch) → let a = c.args in c.epoch-epoch.result ≡ epoch_of a.t.now (a.k + 1)
+its-epoch : (c : After-epoch-epoch) → let a = c.args in c.epoch-epoch.result ≡ epoch_of a.t.now (a.k + 1)
 unfolding epoch_of
 its-epoch c = c.epoch-epoch.ensures ∙ ap (get epoch) c.row_of-row.ensures.0
 
-other : (c : goal.After-list-list) → c.list-list.result ≡ list_of c.args.t.now c.loop-j.j
+other : (c : After-list-list) → c.list-list.result ≡ list_of c.args.t.now c.loop-j.j
 unfolding list_of
 other c = c.list-list.ensures ∙ ap list c.row_of-other.ensures.0
 
-other-epoch : (c : goal.After-epoch) → c.epoch.result ≡ epoch_of c.args.t.now c.loop-j.j
+other-epoch : (c : After-epoch) → c.epoch.result ≡ epoch_of c.args.t.now c.loop-j.j
 unfolding epoch_of
 other-epoch c = c.epoch.ensures ∙ ap (get epoch) c.row_of-other.ensures.0
 
 -- the two are of one epoch
-alike : (c : goal.Then-epoch) → let a = c.args in epoch_of a.t.now (a.k + 1) ≡ epoch_of a.t.now c.loop-j.j
+alike : (c : Then-epoch) → let a = c.args in epoch_of a.t.now (a.k + 1) ≡ epoch_of a.t.now c.loop-j.j
 alike c = sym (its-epoch c.before.before.before.before.before) ∙ c.if-epoch.true ∙ other-epoch c.before
 
 pub overflow_add-k : goal.overflow_add-k
@@ -67,7 +68,7 @@ returns-then-not-is_empty c all =
                             let a = c.args in
     c.is_empty-then-not-is_empty.ensures ∙ ap is_empty (own (goal.at.returns-then-not-is_empty c).After-list-own)
     ∙ join-listed a.t.now a.k c.loop-j.j (omega (arith, c.loop-j-test.true)) (alike (goal.at.returns-then-not-is_empty c).Then-epoch) all
-    (ap is_empty (sym (other (goal.at.returns-then-not-is_empty c).After-list-list)) ∙ sym c.is_empty.ensures ∙ not-true _ c.if-not-is_empty.true)
+    (ap is_empty (sym (other (goal.at.returns-then-not-is_empty c).After-list-list)) ∙ sym c.is_empty.ensures ∙ c.if-not-is_empty.true)
     (λ q. clash (sym c.if-same.false ∙ c.same.ensures.1 (own (goal.at.returns-then-not-is_empty c).After-list-own ∙ q ∙ sym (other (goal.at.returns-then-not-is_empty c).After-list-list))))
 
 pub loop-j-preserved : goal.loop-j-preserved

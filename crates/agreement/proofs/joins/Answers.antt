@@ -8,14 +8,15 @@ use Rattle.bools.proofs.BoolLaws.{clash}
 use Rattle.fields.specs.Layout.{list, list_of, is_empty}
 use Rattle.table.proofs.WellFormedLaws.{few-rows}
 use Rattle.agreement.proofs.AgreeLaws.{join-like, join-listed}
+use Rattle.agreement.proofs.joins.Goals.{After-list-last, After-list-own}
 use Rattle.agreement.proofs.joins.Goals as goal
 
 -- the lists of row k + 1 and row k
-own : (c : goal.After-list-own) → let a = c.args in c.list-own.result ≡ list_of a.t.now (a.k + 1)
+own : (c : After-list-own) → let a = c.args in c.list-own.result ≡ list_of a.t.now (a.k + 1)
 unfolding list_of
 own c = c.list-own.ensures ∙ ap list c.row_of.ensures.0
 
-last : (c : goal.After-list-last) → let a = c.args in c.list-last.result ≡ list_of a.t.now a.k
+last : (c : After-list-last) → let a = c.args in c.list-last.result ≡ list_of a.t.now a.k
 unfolding list_of
 last c = c.list-last.ensures ∙ ap list c.row_of-then-like.ensures.0
 
@@ -37,7 +38,7 @@ returns-then-not-is_empty c all =
                             let like = c.requires.3 c.if-like.true in
     c.is_empty-then-not-is_empty.ensures ∙ ap is_empty (own (goal.at.returns-then-not-is_empty c).After-list-own)
     ∙ join-listed c.args.t.now c.args.k c.args.k (omega (arith, like.0)) like.1 all
-    (ap is_empty (sym (last (goal.at.returns-then-not-is_empty c).After-list-last)) ∙ sym c.is_empty.ensures ∙ not-true _ c.if-not-is_empty.true)
+    (ap is_empty (sym (last (goal.at.returns-then-not-is_empty c).After-list-last)) ∙ sym c.is_empty.ensures ∙ c.if-not-is_empty.true)
     (λ q. clash (sym c.if-same.false ∙ c.same.ensures.1 (own (goal.at.returns-then-not-is_empty c).After-list-own ∙ q ∙ sym (last (goal.at.returns-then-not-is_empty c).After-list-last))))
 
 pub found-requires : goal.found-requires

@@ -13,19 +13,20 @@ use Rattle.table.specs.WellFormed.{marks_right}
 use Rattle.table.proofs.WellFormedLaws.{header, long}
 use Rattle.agreement.specs.Compared.{agrees}
 use Rattle.agreement.proofs.AgreeLaws.{agree-not, run-apart, Passed, first-passed, like-passed, next-passed, all-passed}
+use Rattle.agreement.proofs.lists_right.Goals.{After-epoch, After-epoch-epoch-in-loop-k, After-list-own}
 use Rattle.agreement.proofs.lists_right.Goals as goal
 
 -- list and epoch of row k + 1
-its-list : (c : goal.After-list-own) →     c.list-own.result ≡ list_of c.args.t.now (c.loop-k.k + 1)
+its-list : (c : After-list-own) →     c.list-own.result ≡ list_of c.args.t.now (c.loop-k.k + 1)
 unfolding list_of
 its-list c = c.list-own.ensures ∙ ap list c.row_at-row.ensures.0
 
-its-epoch : (c : goal.After-epoch) →     c.epoch.result ≡ epoch_of c.args.t.now (c.loop-k.k + 1)
+its-epoch : (c : After-epoch) →     c.epoch.result ≡ epoch_of c.args.t.now (c.loop-k.k + 1)
 unfolding epoch_of
 its-epoch c = c.epoch.ensures ∙ ap (get epoch) c.row_at-row.ensures.0
 
 -- it is of the epoch of row k
-alike : (c : goal.After-epoch) →     let t = c.args.t.now in
+alike : (c : After-epoch) →     let t = c.args.t.now in
     eqb c.epoch.result c.loop-k.epoch ≡ true → (1 ≤ c.loop-k.k) × (epoch_of t (c.loop-k.k + 1) ≡ epoch_of t c.loop-k.k)
 alike c e = let l = c.loop-k in (l.invariant.0, sym (its-epoch c) ∙ eqb-true _ _ e ∙ l.invariant.2.epoch)
 
@@ -71,13 +72,13 @@ unfolding agrees
 returns-then-not-joins c =
         let l = c.loop-k in
         let t = c.args.t.now in
-    ap (λ (b : Bool). b && (marks_right t && tall_right (used_of t) (list_of t))) (agree-not t l.k (used_of t) (omega (arith, c.loop-k-test.true, c.used-used.ensures)) (sym (c.joins.ensures l.invariant.2.agree) ∙ not-true _ c.if-not-joins.true))
+    ap (λ (b : Bool). b && (marks_right t && tall_right (used_of t) (list_of t))) (agree-not t l.k (used_of t) (omega (arith, c.loop-k-test.true, c.used-used.ensures)) (sym (c.joins.ensures l.invariant.2.agree) ∙ c.if-not-joins.true))
 
 pub mark_right-requires : goal.mark_right-requires
 mark_right-requires c = c.requires.1.apart
 
 -- the same, asked again
-again : (c : goal.After-epoch-epoch-in-loop-k) →     c.epoch-epoch-in-loop-k.result ≡ epoch_of c.args.t.now (c.loop-k.k + 1)
+again : (c : After-epoch-epoch-in-loop-k) →     c.epoch-epoch-in-loop-k.result ≡ epoch_of c.args.t.now (c.loop-k.k + 1)
 unfolding epoch_of
 again c = c.epoch-epoch-in-loop-k.ensures ∙ ap (get epoch) c.row_at-row.ensures.0
 

@@ -14,6 +14,7 @@ use Rattle.fields.specs.Layout.{used_of, link_of, name_of, row_bytes, get, link,
 use Rattle.table.specs.Asked.{Linked}
 use Rattle.table.proofs.WellFormedLaws.{few-rows, long}
 use Rattle.table.proofs.ChainLaws.{Walked, walk_start, walk_turn, walk-short, walk-falls, walk-all, walk-order, left-short, left-falls, left-all}
+use Rattle.chain.proofs.follow.Goals.{After-name-name, After-name-own, At-loop-count, Else-next-eq0, In-loop-count, In-loop-next}
 use Rattle.chain.proofs.follow.Goals as goal
 
 -- one row more is passed, by either loop
@@ -28,11 +29,11 @@ turned {count = count} {next = next} l w row place more name after q p h g d up 
 
 -- ---- the first loop
 -- the row at hand is a used one, and this is its name
-row-behind : (c : goal.In-loop-next) → let l = c.loop-next in
+row-behind : (c : In-loop-next) → let l = c.loop-next in
     Within (used_of c.args.t.now) (l.count + 1)
 row-behind c = let l = c.loop-next in omega (arith, l.invariant.on, c.loop-next-test.true)
 
-name-behind : (c : goal.After-name-own) →     c.name-own.result ≡ name_of c.args.t.now c.loop-next.next
+name-behind : (c : After-name-own) →     c.name-own.result ≡ name_of c.args.t.now c.loop-next.next
 unfolding name_of
 name-behind c =
         c.name-own.ensures ∙ ap (get name) (c.row_at-behind.ensures.0 ∙ ap (row_bytes _) (sym c.loop-next-test.true))
@@ -90,17 +91,17 @@ loop-next-preserved c =
     (sym c.loop-next-test.true) (sym c.loop-next-test.true) (omega (arith, row-behind (goal.at.loop-next-preserved c).In-loop-next)) c.add-seen.ensures (name-behind (goal.at.loop-next-preserved c).After-name-own) (omega (arith, c.if-own-low.false)) k
 
 -- ---- the second
-walked_here : (c : goal.At-loop-count) →     Walked c.args.t.now c.args.order.now c.loop-count.rows (has c.loop-count.seen.bits) c.loop-count.low c.loop-count.count c.loop-count.next
+walked_here : (c : At-loop-count) →     Walked c.args.t.now c.args.order.now c.loop-count.rows (has c.loop-count.seen.bits) c.loop-count.low c.loop-count.count c.loop-count.next
 walked_here c = c.loop-count.invariant _ c.loop-next.invariant
 
 -- not all used rows are passed yet
-some_left : (c : goal.In-loop-count) →     c.loop-count.count < used_of c.args.t.now
+some_left : (c : In-loop-count) →     c.loop-count.count < used_of c.args.t.now
 some_left c = omega (arith, c.loop-count-test.true, c.used-used.ensures)
 
-row_here : (c : goal.Else-next-eq0) →     Within (used_of c.args.t.now) c.loop-count.next
+row_here : (c : Else-next-eq0) →     Within (used_of c.args.t.now) c.loop-count.next
 row_here c = omega (arith, (walked_here c.before.before).on, c.if-next-eq0.false)
 
-name-here : (c : goal.After-name-name) →     c.name-name.result ≡ name_of c.args.t.now c.loop-count.next
+name-here : (c : After-name-name) →     c.name-name.result ≡ name_of c.args.t.now c.loop-count.next
 unfolding name_of
 name-here c = c.name-name.ensures ∙ ap (get name) c.row_at-row.ensures.0
 

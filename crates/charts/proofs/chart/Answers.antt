@@ -14,6 +14,7 @@ use Rattle.charting.specs.Charts.{chart, in_places, has_chart, places, Charted}
 use Rattle.charting.specs.Claims.{PlacesSuffice}
 use Rattle.charting.proofs.Computed.{chart-length, chart-mark, places-suffice}
 use Rattle.charting.proofs.ChartLaws.{charted-17, charted-5, charted-done}
+use Rattle.charts.proofs.chart.Goals.{After-of_mark-g, Else-not-has_chart}
 use Rattle.charts.proofs.chart.Goals as goal
 
 -- result and list, by what the call leaves
@@ -21,23 +22,23 @@ leaves : {o x : Charted} {r : ℕ} → o ≡ x → r ≡ result_number x.refusal
 leaves e q = (q ∙ sym (ap (λ (y : Charted). result_number y.refusal y.value) e), sym (ap (λ (y : Charted). y.list) e))
 
 -- question 17 is yes
-there-is : (c : goal.Else-not-has_chart) → let a = c.args in has_chart a.length a.mark ≡ true
-there-is c = sym c.has_chart.ensures ∙ not-false _ c.if-not-has_chart.false
+there-is : (c : Else-not-has_chart) → let a = c.args in has_chart a.length a.mark ≡ true
+there-is c = sym c.has_chart.ensures ∙ c.if-not-has_chart.false
 
 -- so the grid is that of the mark, and its chart has a place for each number
-the-grid : (c : goal.After-of_mark-g) → let a = c.args in c.of_mark-g.result ≡ grid_by a.mark a.length
+the-grid : (c : After-of_mark-g) → let a = c.args in c.of_mark-g.result ≡ grid_by a.mark a.length
 the-grid c =
         let a = c.args in
     c.of_mark-g.ensures ∙ rw (le-leb a.length 64 (omega (arith, chart-length a.length a.mark (there-is c.before.before))))
 
-few : (c : goal.After-of_mark-g) → let a = c.args in length (chart c.of_mark-g.result a.length) ≤ 64
+few : (c : After-of_mark-g) → let a = c.args in length (chart c.of_mark-g.result a.length) ≤ 64
 unfolding PlacesSuffice places
 few c = let a = c.args in rw (the-grid c) (places-suffice a.length a.mark (there-is c.before.before))
 
 pub returns-then-not-has_chart : goal.returns-then-not-has_chart
 returns-then-not-has_chart c =
     let a = c.args in
-    leaves (charted-17 a.length a.mark a.list.now (sym c.has_chart.ensures ∙ not-true _ c.if-not-has_chart.true)) c.result.ensures
+    leaves (charted-17 a.length a.mark a.list.now (sym c.has_chart.ensures ∙ c.if-not-has_chart.true)) c.result.ensures
 
 pub returns-then-list-lt128 : goal.returns-then-list-lt128
 returns-then-list-lt128 c =

@@ -10,10 +10,11 @@ use Rattle.octets.specs.Bytes.{put}
 use Rattle.charting.specs.Charts.{in_places}
 use Rattle.charts.specs.Drawn.{chart_to}
 use Rattle.charts.proofs.TurnLaws.{next-block, power-multiple, draw-start, draw-end}
+use Rattle.charts.proofs.draw.Goals.{In-loop-set}
 use Rattle.charts.proofs.draw.Goals as goal
 
 -- a row's sets more are still no more than all
-next : (c : goal.In-loop-set) → let a = c.args in c.loop-set.set + 2 ^ a.g.cols ≤ 2 ^ a.members
+next : (c : In-loop-set) → let a = c.args in c.loop-set.set + 2 ^ a.g.cols ≤ 2 ^ a.members
 next c =
     let l = c.loop-set in
         next-block _ l.set _ l.invariant.3 (power-multiple c.args.g.cols c.args.members c.requires.0.narrow) (omega (arith, l.invariant.0))
@@ -51,7 +52,7 @@ loop-set-preserved c =
       l.invariant.1,
       omega (arith, next (goal.at.loop-set-preserved c).In-loop-set, l.invariant.0, l.invariant.1),
       ap (λ (x : ℕ). x % 2 ^ a.g.cols) e ∙ add-mod_right l.set (2 ^ a.g.cols) ∙ l.invariant.3,
-      d.auto.0 ∙ l.invariant.4,
+      d.auto.list ∙ l.invariant.4,
       rw e d.ensures.0,
       rw e (d.ensures.1 a.list.now l.invariant.6),
     )

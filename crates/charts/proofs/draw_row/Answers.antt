@@ -10,13 +10,14 @@ use Rattle.octets.specs.Bytes.{put}
 use Rattle.charting.specs.Charts.{in_places}
 use Rattle.charts.specs.Drawn.{chart_to}
 use Rattle.charts.proofs.TurnLaws.{same_block, draw-room, at_turn, list-turn}
+use Rattle.charts.proofs.draw_row.Goals.{After-struct_known-1}
 use Rattle.charts.proofs.draw_row.Goals as goal
 
 -- the first row's sets are fewer than 2 ^ 64
-step : (c : goal.After-struct_known-1) → let a = c.args in (1 * 2 ^ a.g.cols) % 2 ^ 64 ≡ 2 ^ a.g.cols
+step : (c : After-struct_known-1) → let a = c.args in (1 * 2 ^ a.g.cols) % 2 ^ 64 ≡ 2 ^ a.g.cols
 step c = shl_one c.args.g.cols (omega (arith, c.requires.0.narrow))
 
-few : (c : goal.After-struct_known-1) → 2 ^ c.args.members ≤ 2 ^ 9
+few : (c : After-struct_known-1) → 2 ^ c.args.members ≤ 2 ^ 9
 few c = pow_mono c.requires.1
 
 pub overflow_shl-end : goal.overflow_shl-end
@@ -52,7 +53,7 @@ loop-set-preserved c =
       omega arith,
       omega arith,
       l.invariant.2,
-      e.auto.0 ∙ l.invariant.3,
+      e.auto.list ∙ l.invariant.3,
       e.ensures.0 ∙ at_turn a.g a.members l.set l.at l.invariant.4 _ w,
       λ xs q. e.ensures.1 ∙ list-turn a.g a.members l.set l.at l.invariant.4 _ w xs l.list (l.invariant.5 xs q),
     )

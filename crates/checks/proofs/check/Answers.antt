@@ -25,57 +25,58 @@ use Rattle.sheet.proofs.SheetLaws.{sheet-facts}
 use Rattle.protocol.specs.Calls.{Checking, lent_sheet, by_coordinator, answers}
 use Rattle.protocol.proofs.QuestionLaws.{ByCoordinator, passed_first}
 use Rattle.checks.proofs.CheckLaws.{check-one, check-early, check-same, held-is, check-six, check-seven, check-full, check_done}
+use Rattle.checks.proofs.check.Goals.{After-both, After-held_unless, Else-no-ne0, Else-not-below_limit, Else-not-both, Else-not-found, Else-not-held_unless, Else-v-r, Start}
 use Rattle.checks.proofs.check.Goals as goal
 
 -- the arguments of the call
-abbrev checking : goal.Start → Checking
+abbrev checking : Start → Checking
 checking s = record { c = s.args.c; r = s.args.r; sheet = s.args.sheet.now }
 
 -- question 1, as it was asked of sheet and table
-one : (c : goal.After-both) → (sheet_right c.args.sheet.now && well_formed c.args.t.now) ≡ c.both.result
+one : (c : After-both) → (sheet_right c.args.sheet.now && well_formed c.args.t.now) ≡ c.both.result
 one c = sym (c.both.ensures ∙ ap₂ ◌&&◌ c.is_right.ensures c.ordered.ensures.0)
 
 -- both are right
-right : (c : goal.Else-not-both) → sheet_right c.args.sheet.now ≡ true
-right c = and_l _ _ (one c.before ∙ not-false _ c.if-not-both.false)
+right : (c : Else-not-both) → sheet_right c.args.sheet.now ≡ true
+right c = and_l _ _ (one c.before ∙ c.if-not-both.false)
 
-framed : (c : goal.Else-not-both) → Framed c.args.t.now c.ordered.new.1.0 c.ordered.new.1.1.0
-framed c = c.ordered.ensures.1 (c.ordered.ensures.0 ∙ and_r (sheet_right _) _ (one c.before ∙ not-false _ c.if-not-both.false))
+framed : (c : Else-not-both) → Framed c.args.t.now c.ordered.new.1.0 c.ordered.new.1.1.0
+framed c = c.ordered.ensures.1 (c.ordered.ensures.0 ∙ and_r (sheet_right _) _ (one c.before ∙ c.if-not-both.false))
 
 -- questions 2 and 3 are passed
-passed : (c : goal.Else-no-ne0) → first_no (by_coordinator c.args.t.now c.args.c c.args.r []) ≡ 0
+passed : (c : Else-no-ne0) → first_no (by_coordinator c.args.t.now c.args.c c.args.r []) ≡ 0
 passed c = sym c.coordinator_asked-no.ensures ∙ (let none : c.coordinator_asked-no.result ≡ 0 = omega arith in none)
 
-first : (c : goal.Else-no-ne0) → ByCoordinator c.args.t.now c.args.c c.args.r
+first : (c : Else-no-ne0) → ByCoordinator c.args.t.now c.args.c c.args.r
 first c = (passed_first _ _ _ [] (passed c)).0
 
 -- R is not the list in force
-other : (c : goal.Else-v-r) → c.judged-v.result.list.members ≡ c.args.r → ⊥
+other : (c : Else-v-r) → c.judged-v.result.list.members ≡ c.args.r → ⊥
 other c e = omega (arith, e)
 
 -- question 6, as it was asked
-held : (c : goal.After-held_unless) →     c.held_unless.result ≡ quorum_held Write (frame_of c.args.t.now) (answers c.args.t.now 1 c.args.r) (has c.args.r)
+held : (c : After-held_unless) →     c.held_unless.result ≡ quorum_held Write (frame_of c.args.t.now) (answers c.args.t.now 1 c.args.r) (has c.args.r)
 held c =
                             let f = framed c.before.before.before.before.before.before.before.before.before.before.before.before in
     held-is c.args.t.now (checking c.before.before.before.before.before.before.before.before.before.before.before.before.before.before.before.before.before.before.before.before) (right c.before.before.before.before.before.before.before.before.before.before.before.before) (passed c.before.before.before.before.before.before.before.before.before.before) c.judged-v.result c.judged-v.ensures c.has_whole-whole.result _ _
     (rw c.used-count.ensures (frame-by _ _ _ f.ordered f.grouped)) c.has_whole-whole.ensures c.held_unless.ensures
 
 -- it is passed
-six : (c : goal.Else-not-held_unless) →     quorum_held Write (frame_of c.args.t.now) (answers c.args.t.now 1 c.args.r) (has c.args.r) ≡ true
-six c = sym (held c.before) ∙ not-false _ c.if-not-held_unless.false
+six : (c : Else-not-held_unless) →     quorum_held Write (frame_of c.args.t.now) (answers c.args.t.now 1 c.args.r) (has c.args.r) ≡ true
+six c = sym (held c.before) ∙ c.if-not-held_unless.false
 
 -- and 7, of every file
-seven : (c : goal.Else-not-found) →     every (files_of c.args.t.now) (λ q. current (answers c.args.t.now q c.args.r) (has c.args.r)) ≡ true
-seven c = sym c.look_through-found.ensures.current ∙ not-false _ c.if-not-found.false
+seven : (c : Else-not-found) →     every (files_of c.args.t.now) (λ q. current (answers c.args.t.now q c.args.r) (has c.args.r)) ≡ true
+seven c = sym c.look_through-found.ensures.current ∙ c.if-not-found.false
 
 -- and 8
-room : (c : goal.Else-not-below_limit) → ltb c.judged-v.result.epoch limit ≡ true
-room c = sym c.below_limit.ensures ∙ not-false _ c.if-not-below_limit.false
+room : (c : Else-not-below_limit) → ltb c.judged-v.result.epoch limit ≡ true
+room c = sym c.below_limit.ensures ∙ c.if-not-below_limit.false
 
 pub returns-then-not-both : goal.returns-then-not-both
 unfolding lent_sheet
 returns-then-not-both c =
-            let no = check-one c.args.t.now (checking (goal.at.returns-then-not-both c).Start) (one (goal.at.returns-then-not-both c).After-both ∙ not-true _ c.if-not-both.true) in
+            let no = check-one c.args.t.now (checking (goal.at.returns-then-not-both c).Start) (one (goal.at.returns-then-not-both c).After-both ∙ c.if-not-both.true) in
     (c.result.ensures ∙ no.result, no.table, no.sheet)
 
 pub coordinator_asked-no-requires : goal.coordinator_asked-no-requires
@@ -107,7 +108,7 @@ held_unless-requires c =
 pub returns-then-not-held_unless : goal.returns-then-not-held_unless
 unfolding lent_sheet
 returns-then-not-held_unless c =
-                        let no = check-six c.args.t.now (checking (goal.at.returns-then-not-held_unless c).Start) (right (goal.at.returns-then-not-held_unless c).Else-not-both) (passed (goal.at.returns-then-not-held_unless c).Else-no-ne0) c.judged-v.result c.judged-v.ensures (other (goal.at.returns-then-not-held_unless c).Else-v-r) (sym (held (goal.at.returns-then-not-held_unless c).After-held_unless) ∙ not-true _ c.if-not-held_unless.true) in
+                        let no = check-six c.args.t.now (checking (goal.at.returns-then-not-held_unless c).Start) (right (goal.at.returns-then-not-held_unless c).Else-not-both) (passed (goal.at.returns-then-not-held_unless c).Else-no-ne0) c.judged-v.result c.judged-v.ensures (other (goal.at.returns-then-not-held_unless c).Else-v-r) (sym (held (goal.at.returns-then-not-held_unless c).After-held_unless) ∙ c.if-not-held_unless.true) in
     (c.result-then-not-held_unless.ensures ∙ no.result, no.table, no.sheet)
 
 pub look_through-found-requires : goal.look_through-found-requires
@@ -119,13 +120,13 @@ look_through-found-requires c =
 pub returns-then-not-found : goal.returns-then-not-found
 unfolding lent_sheet
 returns-then-not-found c =
-                            let no = check-seven c.args.t.now (checking (goal.at.returns-then-not-found c).Start) (right (goal.at.returns-then-not-found c).Else-not-both) (passed (goal.at.returns-then-not-found c).Else-no-ne0) c.judged-v.result c.judged-v.ensures (other (goal.at.returns-then-not-found c).Else-v-r) (six (goal.at.returns-then-not-found c).Else-not-held_unless) (sym c.look_through-found.ensures.current ∙ not-true _ c.if-not-found.true) in
+                            let no = check-seven c.args.t.now (checking (goal.at.returns-then-not-found c).Start) (right (goal.at.returns-then-not-found c).Else-not-both) (passed (goal.at.returns-then-not-found c).Else-no-ne0) c.judged-v.result c.judged-v.ensures (other (goal.at.returns-then-not-found c).Else-v-r) (six (goal.at.returns-then-not-found c).Else-not-held_unless) (sym c.look_through-found.ensures.current ∙ c.if-not-found.true) in
     (c.result-then-not-found.ensures ∙ no.result, no.table, no.sheet)
 
 pub returns-then-not-below_limit : goal.returns-then-not-below_limit
 unfolding lent_sheet
 returns-then-not-below_limit c =
-                            let no = check-full c.args.t.now (checking (goal.at.returns-then-not-below_limit c).Start) (right (goal.at.returns-then-not-below_limit c).Else-not-both) (passed (goal.at.returns-then-not-below_limit c).Else-no-ne0) c.judged-v.result c.judged-v.ensures (other (goal.at.returns-then-not-below_limit c).Else-v-r) (six (goal.at.returns-then-not-below_limit c).Else-not-held_unless) (seven (goal.at.returns-then-not-below_limit c).Else-not-found) (sym c.below_limit.ensures ∙ not-true _ c.if-not-below_limit.true) in
+                            let no = check-full c.args.t.now (checking (goal.at.returns-then-not-below_limit c).Start) (right (goal.at.returns-then-not-below_limit c).Else-not-both) (passed (goal.at.returns-then-not-below_limit c).Else-no-ne0) c.judged-v.result c.judged-v.ensures (other (goal.at.returns-then-not-below_limit c).Else-v-r) (six (goal.at.returns-then-not-below_limit c).Else-not-held_unless) (seven (goal.at.returns-then-not-below_limit c).Else-not-found) (sym c.below_limit.ensures ∙ c.if-not-below_limit.true) in
     (c.result-then-not-below_limit.ensures ∙ no.result, no.table, no.sheet)
 
 pub overflow_add-epoch : goal.overflow_add-epoch

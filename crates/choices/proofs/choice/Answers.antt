@@ -21,26 +21,27 @@ use Rattle.grouping.proofs.GroupLaws.{frame-by}
 use Rattle.protocol.specs.Calls.{is_used}
 use Rattle.choosing.specs.Choosing.{kind_of, first_called, Chosen}
 use Rattle.choices.proofs.ChoiceLaws.{no_one, no-two, no-four, no-five, all_yes}
+use Rattle.choices.proofs.choice.Goals.{After-between, After-choice-rows, After-used-used, Else-not-between, Else-not-ordered}
 use Rattle.choices.proofs.choice.Goals as goal
 
 -- ---- the questions that are passed
-formed-here : (c : goal.Else-not-ordered) → well_formed c.args.t.now ≡ true
-formed-here c = sym c.ordered.ensures.0 ∙ not-false _ c.if-not-ordered.false
+formed-here : (c : Else-not-ordered) → well_formed c.args.t.now ≡ true
+formed-here c = sym c.ordered.ensures.0 ∙ c.if-not-ordered.false
 
-used-here : (c : goal.After-between) → is_used c.args.t.now c.args.c ≡ c.between.result
+used-here : (c : After-between) → is_used c.args.t.now c.args.c ≡ c.between.result
 unfolding is_used
 used-here c = ap (between 1 c.args.c) (sym c.used-used.ensures) ∙ sym c.between.ensures
 
-row-used : (c : goal.Else-not-between) → is_used c.args.t.now c.args.c ≡ true
-row-used c = used-here c.before ∙ not-false _ c.if-not-between.false
+row-used : (c : Else-not-between) → is_used c.args.t.now c.args.c ≡ true
+row-used c = used-here c.before ∙ c.if-not-between.false
 
-coordinator : (c : goal.Else-not-between) → Within (used_of c.args.t.now) c.args.c
+coordinator : (c : Else-not-between) → Within (used_of c.args.t.now) c.args.c
 unfolding is_used
 coordinator c = between_is 1 c.args.c (used_of c.args.t.now) (row-used c)
 
 -- the frame that question 1 wrote down
-framed-here : (c : goal.After-used-used) → Framed c.args.t.now c.ordered.new.1.0 c.ordered.new.1.1.0
-framed-here c = c.ordered.ensures.1 (not-false _ c.if-not-ordered.false)
+framed-here : (c : After-used-used) → Framed c.args.t.now c.ordered.new.1.0 c.ordered.new.1.1.0
+framed-here c = c.ordered.ensures.1 (c.if-not-ordered.false)
 
 -- a refusal, told
 told : (o p : Chosen) (x : ℕ) → o ≡ p → x ≡ result_number p.refusal p.value → x ≡ result_number o.refusal o.value
@@ -48,7 +49,7 @@ told o p x e h = h ∙ ap (λ (q : Chosen). result_number q.refusal q.value) (sy
 
 pub returns-then-not-ordered : goal.returns-then-not-ordered
 returns-then-not-ordered c =
-            let o = no_one c.args.t.now c.args.c c.args.kind c.args.set.now (sym c.ordered.ensures.0 ∙ not-true _ c.if-not-ordered.true) in
+            let o = no_one c.args.t.now c.args.c c.args.kind c.args.set.now (sym c.ordered.ensures.0 ∙ c.if-not-ordered.true) in
     (told _ _ _ o c.result.ensures, refl, ap (λ (q : Chosen). q.set) (sym o))
 
 pub used-used-requires : goal.used-used-requires
@@ -56,7 +57,7 @@ used-used-requires c = long (sized (formed-here c))
 
 pub returns-then-not-between : goal.returns-then-not-between
 returns-then-not-between c =
-                let o = no-two c.args.t.now c.args.c c.args.kind c.args.set.now (formed-here (goal.at.returns-then-not-between c).Else-not-ordered) (used-here (goal.at.returns-then-not-between c).After-between ∙ not-true _ c.if-not-between.true) in
+                let o = no-two c.args.t.now c.args.c c.args.kind c.args.set.now (formed-here (goal.at.returns-then-not-between c).Else-not-ordered) (used-here (goal.at.returns-then-not-between c).After-between ∙ c.if-not-between.true) in
     (told _ _ _ o c.result-then-not-between.ensures, refl, ap (λ (q : Chosen). q.set) (sym o))
 
 pub returns-then-kind-gt1 : goal.returns-then-kind-gt1
@@ -77,7 +78,7 @@ choice-rows-requires c =
         (rw c.used-used.ensures (framed-here (goal.at.choice-rows-requires c).After-used-used).ordered.listed, (framed-here (goal.at.choice-rows-requires c).After-used-used).grouped.apart)
 
 -- the rows found are those that the coordinator calls first
-rows_are : (c : goal.After-choice-rows) →     has c.choice-rows.result.bits ≡ first_called (kind_of c.args.kind) c.args.t.now c.args.c
+rows_are : (c : After-choice-rows) →     has c.choice-rows.result.bits ≡ first_called (kind_of c.args.kind) c.args.t.now c.args.c
 unfolding first_called name_of list_of
 rows_are c =
                         let row = c.row_of-row.ensures.0 in
@@ -85,7 +86,7 @@ rows_are c =
     ∙ ap₂ (λ (kind : Kind) (f : Frame). list_choice kind f c.list-list.result c.name.result) c.kind_of.ensures (rw c.used-used.ensures (frame-by _ _ _ (framed-here c.before.before.before.before.before.before.before.before.before.before.before).ordered (framed-here c.before.before.before.before.before.before.before.before.before.before.before).grouped))
     ∙ ap₂ (λ (x : Laid) (a : ℕ). list_choice (kind_of c.args.kind) (frame_of c.args.t.now) x a) (c.list-list.ensures ∙ ap list row) (c.name.ensures ∙ ap (get name) row)
 
-small : (c : goal.After-choice-rows) → c.choice-rows.result.bits < 2 ^ 64
+small : (c : After-choice-rows) → c.choice-rows.result.bits < 2 ^ 64
 small c = omega (arith, c.choice-rows.type-inv)
 
 pub overflow_cast-size : goal.overflow_cast-size

@@ -8,22 +8,23 @@ use Rattle.sets.specs.Upto.{every, some, lowest}
 use Rattle.sets.specs.Sets.{has, losing}
 use Rattle.charting.specs.Charts.{smallest}
 use Rattle.columns.proofs.ColumnLaws.{asked, by-columns}
+use Rattle.columns.proofs.is_smallest.Goals.{After-with_first-c, Else-is_empty, Else-is_empty-2, Else-not-fills}
 use Rattle.columns.proofs.is_smallest.Goals as goal
 
 -- what the columns of the set say
-said : (c : goal.After-with_first-c) → let a = c.args in let r = c.with_first-c.result in
+said : (c : After-with_first-c) → let a = c.args in let r = c.with_first-c.result in
     asked a.g.cols (has r.touched.bits) (has r.twice.bits) (has r.whole.bits) ≡ smallest a.g a.length (has a.set.bits)
 said c =
         by-columns c.args.g c.args.length (has c.args.set.bits) c.requires.0.some-column (omega (arith, c.requires.0.narrow)) _ _ _ c.with_first-c.ensures
 
 -- every column is touched; one is whole; one has two members
-all : (c : goal.Else-not-fills) → every c.args.g.cols (has c.with_first-c.result.touched.bits) ≡ true
-all c = sym c.fills.ensures ∙ not-false _ c.if-not-fills.false
+all : (c : Else-not-fills) → every c.args.g.cols (has c.with_first-c.result.touched.bits) ≡ true
+all c = sym c.fills.ensures ∙ c.if-not-fills.false
 
-one : (c : goal.Else-is_empty) → some 64 (has c.with_first-c.result.whole.bits) ≡ true
+one : (c : Else-is_empty) → some 64 (has c.with_first-c.result.whole.bits) ≡ true
 one c = not-false _ (sym c.is_empty.ensures ∙ c.if-is_empty.false)
 
-two : (c : goal.Else-is_empty-2) → some 64 (has c.with_first-c.result.twice.bits) ≡ true
+two : (c : Else-is_empty-2) → some 64 (has c.with_first-c.result.twice.bits) ≡ true
 two c = not-false _ (sym c.is_empty-2.ensures ∙ c.if-is_empty-2.false)
 
 pub with_first-c-requires : goal.with_first-c-requires
@@ -31,7 +32,7 @@ with_first-c-requires c = (omega (arith, c.requires.0.narrow), c.requires.1, c.r
 
 pub returns-then-not-fills : goal.returns-then-not-fills
 returns-then-not-fills c =
-    let e : every _ _ ≡ false = sym c.fills.ensures ∙ not-true _ c.if-not-fills.true in rw e at (said (goal.at.returns-then-not-fills c).After-with_first-c)
+    let e : every _ _ ≡ false = sym c.fills.ensures ∙ c.if-not-fills.true in rw e at (said (goal.at.returns-then-not-fills c).After-with_first-c)
 
 pub returns-then-is_empty : goal.returns-then-is_empty
 returns-then-is_empty c =

@@ -19,39 +19,40 @@ use Rattle.questions.specs.Stages.{to_range, a_write}
 use Rattle.questions.specs.declared.Answered.{Answered}
 use Rattle.questions.proofs.QuestionLaws.{range-passed, called-early, called-long, called-by}
 use Rattle.effects.proofs.WriteLaws.{write-early, write-long, write-no, write-share, write-full, works-used, works-right, patch-in, write_done}
+use Rattle.effects.proofs.answer.Goals.{Else-no-ne0, Else-not-below_limit, Else-not-fits, Else-s-ne0, Else-share-ne0, Start}
 use Rattle.effects.proofs.answer.Goals as goal
 
 -- the arguments of the call
-abbrev writing : goal.Start → List ℕ → List ℕ → ℕ → Writing
+abbrev writing : Start → List ℕ → List ℕ → ℕ → Writing
 writing s called sheet club = record { c = s.args.c; r = s.args.r; offset = s.args.offset; patch = s.args.patch.now; called = called; file = s.args.q; sheet = sheet; club = club }
 
 -- questions 2, 3, 16 and 4 are passed
-passed : (c : goal.Else-no-ne0) → first_no (to_range c.args.t.now c.args.q c.args.c c.args.r c.args.offset (length c.args.patch.now)) ≡ 0
+passed : (c : Else-no-ne0) → first_no (to_range c.args.t.now c.args.q c.args.c c.args.r c.args.offset (length c.args.patch.now)) ≡ 0
 passed c = sym c.range_asked-no.ensures ∙ (let none : c.range_asked-no.result ≡ 0 = omega arith in none)
 
 -- and 1 to 3 with them
-asked : (c : goal.Else-no-ne0) → ByCoordinator c.args.t.now c.args.c c.args.r
+asked : (c : Else-no-ne0) → ByCoordinator c.args.t.now c.args.c c.args.r
 asked c = (range-passed c.args.t.now c.args.c c.args.r c.args.q c.args.offset (length c.args.patch.now) (passed c)).0
 
 -- and 16
-grouped : (c : goal.Else-no-ne0) → Within (files_of c.args.t.now) c.args.q
+grouped : (c : Else-no-ne0) → Within (files_of c.args.t.now) c.args.q
 grouped c = (range-passed c.args.t.now c.args.c c.args.r c.args.q c.args.offset (length c.args.patch.now) (passed c)).1
 
 -- 5 is passed
-fitting : (c : goal.Else-not-fits) → c.args.fits ≡ true
-fitting c = not-false _ c.if-not-fits.false
+fitting : (c : Else-not-fits) → c.args.fits ≡ true
+fitting c = c.if-not-fits.false
 
 -- 6 and 7 are passed
-settled_here : (c : goal.Else-s-ne0) → c.settle-s.result.refusal ≡ 0
+settled_here : (c : Else-s-ne0) → c.settle-s.result.refusal ≡ 0
 settled_here c = omega arith
 
 -- 18 and 19 are passed
-shared : (c : goal.Else-share-ne0) → c.args.share ≡ 0
+shared : (c : Else-share-ne0) → c.args.share ≡ 0
 shared c = omega arith
 
 -- 8 is passed
-room : (c : goal.Else-not-below_limit) → ltb c.settle-s.result.version limit ≡ true
-room c = sym c.below_limit.ensures ∙ not-false _ c.if-not-below_limit.false
+room : (c : Else-not-below_limit) → ltb c.settle-s.result.version limit ≡ true
+room c = sym c.below_limit.ensures ∙ c.if-not-below_limit.false
 
 pub range_asked-no-requires : goal.range_asked-no-requires
 range_asked-no-requires c = c.requires.0.formed
@@ -66,7 +67,7 @@ returns-then-no-ne0 c called sheet club e right share =
 
 pub returns-then-not-fits : goal.returns-then-not-fits
 returns-then-not-fits c called sheet club e right share =
-            let five : eqb (length called) 1 ≡ false = sym e ∙ not-true _ c.if-not-fits.true in
+            let five : eqb (length called) 1 ≡ false = sym e ∙ c.if-not-fits.true in
     let no = write-long c.args.t.now (writing (goal.at.returns-then-not-fits c).Start called sheet club) right (passed (goal.at.returns-then-not-fits c).Else-no-ne0) five in (
       ap (λ (x : Answered). x.result) c.answer_of-then-not-fits.ensures ∙ no.result,
       no.table,
@@ -100,7 +101,7 @@ returns-then-share-ne0 c called sheet club e right share =
 pub returns-then-not-below_limit : goal.returns-then-not-below_limit
 returns-then-not-below_limit c called sheet club e right share =
                         let five : eqb (length called) 1 ≡ true = sym e ∙ fitting (goal.at.returns-then-not-below_limit c).Else-not-fits in
-    let no = write-full c.args.t.now (writing (goal.at.returns-then-not-below_limit c).Start called sheet club) right (passed (goal.at.returns-then-not-below_limit c).Else-no-ne0) five c.settle-s.result c.settle-s.ensures c.args.share share (settled_here (goal.at.returns-then-not-below_limit c).Else-s-ne0) (shared (goal.at.returns-then-not-below_limit c).Else-share-ne0) (sym c.below_limit.ensures ∙ not-true _ c.if-not-below_limit.true) in (
+    let no = write-full c.args.t.now (writing (goal.at.returns-then-not-below_limit c).Start called sheet club) right (passed (goal.at.returns-then-not-below_limit c).Else-no-ne0) five c.settle-s.result c.settle-s.ensures c.args.share share (settled_here (goal.at.returns-then-not-below_limit c).Else-s-ne0) (shared (goal.at.returns-then-not-below_limit c).Else-share-ne0) (sym c.below_limit.ensures ∙ c.if-not-below_limit.true) in (
       ap (λ (x : Answered). x.result) c.answer_of-then-not-below_limit.ensures ∙ no.result,
       no.table,
       ap (λ (x : Answered). noted called x.called) c.answer_of-then-not-below_limit.ensures ∙ called-by c.args.t.now (a_write {a = writing (goal.at.returns-then-not-below_limit c).Start called sheet club} right) (passed (goal.at.returns-then-not-below_limit c).Else-no-ne0) five c.settle-s.result.called c.settle-s.ensures.called,

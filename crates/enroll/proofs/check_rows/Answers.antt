@@ -17,6 +17,7 @@ use Rattle.enroll.specs.Files.{by_file}
 use Rattle.sets.proofs.MemberLaws.{only, Taken, none-taken, all-taken, in-set, not_yet, fewer-left, one-taken}
 use Rattle.sets.specs.Sets.{has, no_row, joining}
 use Rattle.sets.specs.Upto.{Within, some}
+use Rattle.enroll.proofs.check_rows.Goals.{After-lowest-i, In-loop-list}
 use Rattle.enroll.proofs.check_rows.Goals as goal
 
 -- a row that is checked by equal numbers
@@ -25,19 +26,19 @@ alike : (e : ℕ) (l : Laid) (p : ℕ → Bool) (f : ℕ → List ℕ → List �
 alike e l p f row new n w m files a b h = h ∙ ap₂ (λ (x y : ℕ). enrolled_row e l (with_blocks 32 x p f y row)) a b
 
 -- in a turn some row is left
-some_left : (c : goal.In-loop-list) → some 64 (has c.loop-list.left.bits) ≡ true
+some_left : (c : In-loop-list) → some 64 (has c.loop-list.left.bits) ≡ true
 some_left c = not-false _ (sym c.is_empty.ensures ∙ not-true _ c.loop-list-test.true)
 
-abbrev start : goal.After-lowest-i → tie.Start invariant-loop decreases-loop
+abbrev start : After-lowest-i → tie.Start invariant-loop decreases-loop
 start c = c
 
 -- the lowest of them is a used row, and not changed yet
-used : (c : goal.After-lowest-i) → Within (used_of (start c).args.t.now) c.lowest-i.result
+used : (c : After-lowest-i) → Within (used_of (start c).args.t.now) c.lowest-i.result
 used c =
     let s = start c in
     s.pre.2 _ (in-set c.loop-list.invariant.1 (some_left c.before) c.lowest-i.ensures)
 
-new : (c : goal.After-lowest-i) → c.loop-list.invariant.0 c.lowest-i.result ≡ false
+new : (c : After-lowest-i) → c.loop-list.invariant.0 c.lowest-i.result ≡ false
 new c = not_yet c.loop-list.invariant.1 (some_left c.before) c.lowest-i.ensures
 
 pub row_length-size-requires : goal.row_length-size-requires
@@ -71,10 +72,10 @@ pub slice_bounds-check_row-end : goal.slice_bounds-check_row-end
 slice_bounds-check_row-end c = omega (arith, turn-fits c.loop-list.invariant.2 (used c) (new c), done-long c.loop-list.invariant.2)
 
 -- what the header says of files and copies
-files-are : (c : goal.After-lowest-i) → c.files-files.result ≡ files_of (start c).args.t.now
+files-are : (c : After-lowest-i) → c.files-files.result ≡ files_of (start c).args.t.now
 files-are c = c.files-files.ensures
 
-copy_is : (c : goal.After-lowest-i) → c.copy_size-copy.result ≡ copy_length (file_length_of (start c).args.t.now)
+copy_is : (c : After-lowest-i) → c.copy_size-copy.result ≡ copy_length (file_length_of (start c).args.t.now)
 copy_is c = c.copy_size-copy.ensures ∙ ap copy_length c.file_length.ensures
 
 pub check_row-requires : goal.check_row-requires

@@ -3,10 +3,11 @@ use native.Mathlib.Omega.{arith}
 use lib.ListN.{length}
 use Rattle.table.proofs.CopyLaws.{copy-inside, copy-back}
 use borrow.Author.Rules.{rules}
+use Rattle.enroll.proofs.mark_other.Goals.{Start}
 use Rattle.enroll.proofs.mark_other.Goals as goal
 
 -- the copy ends within the row
-inside : (c : goal.Start) → 32 + (c.args.q - 1) * c.args.size + c.args.size ≤ length c.args.row.now
+inside : (c : Start) → 32 + (c.args.q - 1) * c.args.size + c.args.size ≤ length c.args.row.now
 inside c = copy-inside c.args.row.now c.args.size c.args.q c.requires.0 c.requires.1
 
 pub overflow_mul-at : goal.overflow_mul-at

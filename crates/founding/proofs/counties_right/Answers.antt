@@ -10,13 +10,14 @@ use Rattle.table.specs.WellFormed.{is_county}
 use Rattle.counties.specs.Counties.{county_at}
 use Rattle.octets.proofs.CodeLaws.{number-one}
 use Rattle.founding.proofs.FoundingLaws.{places-turn}
+use Rattle.founding.proofs.counties_right.Goals.{Else-counties-n, In-loop-i}
 use Rattle.founding.proofs.counties_right.Goals as goal
 
 -- there are as many as names
-as_many : (c : goal.Else-counties-n) → let a = c.args in length a.counties.now ≡ a.n
+as_many : (c : Else-counties-n) → let a = c.args in length a.counties.now ≡ a.n
 as_many c = omega (arith, c.if-counties-n.false)
 
-given : (c : goal.In-loop-i) → c.loop-i.i < length c.args.counties.now
+given : (c : In-loop-i) → c.loop-i.i < length c.args.counties.now
 given c = omega (arith, c.loop-i-test.true, as_many c.before.before)
 
 pub returns-then-counties-n : goal.returns-then-counties-n

@@ -10,17 +10,18 @@ use Rattle.fields.specs.Layout.{form_value, body_length, stride_in, stride}
 use Rattle.fields.proofs.FieldLaws.{widest, rows-small}
 use Rattle.table.specs.WellFormed.{between}
 use Rattle.table.proofs.FormLaws.{between_is}
+use Rattle.founding.proofs.sizes_right.Goals.{After-both, After-row_size, Else-not-both}
 use Rattle.founding.proofs.sizes_right.Goals as goal
 
-seated : (c : goal.After-both) → let a = c.args in (between 1 a.capacity 64 && leb a.n a.capacity && between 1 a.file 4_096 && between 1 a.files 8) ≡ c.both.result
+seated : (c : After-both) → let a = c.args in (between 1 a.capacity 64 && leb a.n a.capacity && between 1 a.file 4_096 && between 1 a.files 8) ≡ c.both.result
 seated c =
     let a = c.args in
     sym (c.both.ensures ∙ ap₂ ◌&&◌ (c.both-long.ensures ∙ ap₂ ◌&&◌ (c.both-seated.ensures ∙ ap₂ ◌&&◌ c.between.ensures (λ i. leb a.n a.capacity)) c.between-2.ensures) c.between-3.ensures)
 
-right : (c : goal.Else-not-both) → let a = c.args in (between 1 a.capacity 64 && leb a.n a.capacity && between 1 a.file 4_096 && between 1 a.files 8) ≡ true
-right c = seated c.before ∙ not-false _ c.if-not-both.false
+right : (c : Else-not-both) → let a = c.args in (between 1 a.capacity 64 && leb a.n a.capacity && between 1 a.file 4_096 && between 1 a.files 8) ≡ true
+right c = seated c.before ∙ c.if-not-both.false
 
-small : (c : goal.Else-not-both) → let a = c.args in (a.capacity ≤ 64) × (a.files ≤ 8) × (a.file ≤ 4_096)
+small : (c : Else-not-both) → let a = c.args in (a.capacity ≤ 64) × (a.files ≤ 8) × (a.file ≤ 4_096)
 small c =
     let a = c.args in
     let rows : (between 1 a.capacity 64 && leb a.n a.capacity && between 1 a.file 4_096) ≡ true = and_l _ _ (right c) in (
@@ -29,12 +30,12 @@ small c =
       (between_is 1 a.file 4_096 (and_r (between 1 a.capacity 64 && leb a.n a.capacity) _ rows)).1,
     )
 
-product : (c : goal.After-row_size) → c.args.capacity * c.row_size.result ≤ 64 * widest
+product : (c : After-row_size) → c.args.capacity * c.row_size.result ≤ 64 * widest
 unfolding stride stride_in body_length
 product c = rw c.row_size.ensures (rows-small form_value (small c.before).0 (small c.before).1 (small c.before).2)
 
 pub returns-then-not-both : goal.returns-then-not-both
-returns-then-not-both c = let e = seated (goal.at.returns-then-not-both c).After-both ∙ not-true _ c.if-not-both.true in rw e
+returns-then-not-both c = let e = seated (goal.at.returns-then-not-both c).After-both ∙ c.if-not-both.true in rw e
 
 pub row_size-requires : goal.row_size-requires
 row_size-requires c = ((small c).1, (small c).2)

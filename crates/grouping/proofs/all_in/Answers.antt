@@ -7,10 +7,11 @@ use Rattle.sets.specs.Upto.{Within}
 use Rattle.fields.specs.Layout.{get, county, used_of, row_bytes}
 use Rattle.table.proofs.WellFormedLaws.{few-rows}
 use Rattle.grouping.proofs.GroupLaws.{same_more}
+use Rattle.grouping.proofs.all_in.Goals.{In-loop-k}
 use Rattle.grouping.proofs.all_in.Goals as goal
 
 -- the row of this turn is a used one
-turn : (c : goal.In-loop-k) → Within (used_of c.args.t.now) (c.loop-k.k + 1) × (c.loop-k.k < 64)
+turn : (c : In-loop-k) → Within (used_of c.args.t.now) (c.loop-k.k + 1) × (c.loop-k.k < 64)
 turn c =
             let w : Within (used_of c.args.t.now) (c.loop-k.k + 1) = omega (arith, c.requires.2, c.loop-k-test.true) in
     (w, omega (arith, w, few-rows c.requires.0))

@@ -6,16 +6,17 @@ use Rattle.fields.specs.Layout.{get, county, used_of, row_bytes}
 use Rattle.table.proofs.WellFormedLaws.{header, long, few-rows, county-few}
 use Rattle.grouping.specs.Grouped.{Filled}
 use Rattle.grouping.proofs.GroupLaws.{none_filled, filled-same, table-grouped}
+use Rattle.grouping.proofs.group.Goals.{After-county-county, After-county-first, In-loop-k}
 use Rattle.grouping.proofs.group.Goals as goal
 
 -- the row of this turn is a used one
-turn : (c : goal.In-loop-k) → Within (used_of c.args.t.now) (c.loop-k.k + 1) × (c.loop-k.k < 64)
+turn : (c : In-loop-k) → Within (used_of c.args.t.now) (c.loop-k.k + 1) × (c.loop-k.k < 64)
 turn c =
             let w : Within (used_of c.args.t.now) (c.loop-k.k + 1) = omega (arith, c.loop-k.invariant.0, c.loop-k-test.true) in
     (w, omega (arith, w, few-rows c.requires.sized))
 
 -- and this is its county
-here : (c : goal.After-county-county) → c.county-county.result ≡ get county (row_bytes c.args.t.now (c.loop-k.k + 1))
+here : (c : After-county-county) → c.county-county.result ≡ get county (row_bytes c.args.t.now (c.loop-k.k + 1))
 here c = c.county-county.ensures ∙ ap (get county) c.row_at-in-loop-k.ensures.0
 
 pub row_length-size-requires : goal.row_length-size-requires
@@ -36,7 +37,7 @@ all_in-requires c =
             (c.requires.sized, c.row_length-size.ensures, c.used-used.ensures)
 
 -- the county of row 1
-first-is : (c : goal.After-county-first) → c.county-first.result ≡ get county (row_bytes c.args.t.now 1)
+first-is : (c : After-county-first) → c.county-first.result ≡ get county (row_bytes c.args.t.now 1)
 first-is c = c.county-first.ensures ∙ ap (get county) c.row_at.ensures.0
 
 pub whole-requires : goal.whole-requires

@@ -15,41 +15,42 @@ use Rattle.protocol.specs.Calls.{Joining, join, questions}
 use Rattle.protocol.proofs.QuestionLaws.{county-is}
 use Rattle.questions.proofs.QuestionLaws.{refused-is}
 use Rattle.joins.proofs.JoinLaws.{name_free, join-answers, join-done}
+use Rattle.joins.proofs.join.Goals.{After-any, Else-capacity-used, Else-not-is_county, Else-not-ordered, Start}
 use Rattle.joins.proofs.join.Goals as goal
 
 -- the arguments of the call
-abbrev joining : goal.Start → Joining
+abbrev joining : Start → Joining
 joining s = record { name = s.args.name; county = s.args.county }
 
 -- question 1 is yes
-formed : (c : goal.Else-not-ordered) → well_formed c.args.t.now ≡ true
-formed c = sym c.ordered.ensures.0 ∙ not-false _ c.if-not-ordered.false
+formed : (c : Else-not-ordered) → well_formed c.args.t.now ≡ true
+formed c = sym c.ordered.ensures.0 ∙ c.if-not-ordered.false
 
 -- question 13, as it was asked
-named : (c : goal.After-any) → let a = c.args in (between 1 a.name 65_535 && not (some (used_of a.t.now) (λ i. eqb (name_of a.t.now i) a.name))) ≡ not c.any.result
+named : (c : After-any) → let a = c.args in (between 1 a.name 65_535 && not (some (used_of a.t.now) (λ i. eqb (name_of a.t.now i) a.name))) ≡ not c.any.result
 named c =
     let a = c.args in
     ap (λ (b : Bool). between 1 a.name 65_535 && not b) (sym c.place_of-place.ensures.1) ∙ name_free a.name _ (omega arith) ∙ ap not (sym c.any.ensures)
 
 -- and 14
-room : (c : goal.Else-capacity-used) → let t = c.args.t.now in used_of t < capacity_of t
+room : (c : Else-capacity-used) → let t = c.args.t.now in used_of t < capacity_of t
 room c = omega (arith, c.capacity.ensures, c.used-used.ensures, c.if-capacity-used.false)
 
 -- and 20
-placed : (c : goal.Else-not-is_county) → is_county c.args.county ≡ true
-placed c = sym c.is_county.ensures ∙ not-false _ c.if-not-is_county.false
+placed : (c : Else-not-is_county) → is_county c.args.county ≡ true
+placed c = sym c.is_county.ensures ∙ c.if-not-is_county.false
 
-passed : (c : goal.Else-not-is_county) → first_no (questions c.args.t.now (join (joining c.before.before.before.before.before.before.before.before.before.before.before.before.before.before))) ≡ 0
+passed : (c : Else-not-is_county) → first_no (questions c.args.t.now (join (joining c.before.before.before.before.before.before.before.before.before.before.before.before.before.before))) ≡ 0
 passed c =
             join-answers _ _ true true true true (formed c.before.before.before.before.before.before.before.before.before) (named c.before.before.before.before.before.before ∙ ap not c.if-any.false) (lt-ltb _ _ (room c.before.before)) (placed c)
 
 pub returns-then-not-ordered : goal.returns-then-not-ordered
 returns-then-not-ordered c =
-        let no = refused-is c.args.t.now (join (joining (goal.at.returns-then-not-ordered c).Start)) 1 (join-answers _ _ false _ _ _ (sym c.ordered.ensures.0 ∙ not-true _ c.if-not-ordered.true) refl refl refl) (omega arith) in
+        let no = refused-is c.args.t.now (join (joining (goal.at.returns-then-not-ordered c).Start)) 1 (join-answers _ _ false _ _ _ (sym c.ordered.ensures.0 ∙ c.if-not-ordered.true) refl refl refl) (omega arith) in
     (c.result.ensures ∙ no.result, no.table)
 
 pub place_of-place-requires : goal.place_of-place-requires
-place_of-place-requires c = (formed (goal.at.place_of-place-requires c).Else-not-ordered, (c.ordered.ensures.1 (not-false _ c.if-not-ordered.false)).ordered)
+place_of-place-requires c = (formed (goal.at.place_of-place-requires c).Else-not-ordered, (c.ordered.ensures.1 (c.if-not-ordered.false)).ordered)
 
 pub returns-then-any : goal.returns-then-any
 returns-then-any c =
@@ -70,7 +71,7 @@ returns-then-capacity-used c =
 
 pub returns-then-not-is_county : goal.returns-then-not-is_county
 returns-then-not-is_county c =
-                    let no = refused-is c.args.t.now (join (joining (goal.at.returns-then-not-is_county c).Start)) 20 (join-answers _ _ true true true false (formed (goal.at.returns-then-not-is_county c).Else-not-ordered) (named (goal.at.returns-then-not-is_county c).After-any ∙ ap not c.if-any.false) (lt-ltb _ _ (room (goal.at.returns-then-not-is_county c).Else-capacity-used)) (sym c.is_county.ensures ∙ not-true _ c.if-not-is_county.true)) (omega arith) in
+                    let no = refused-is c.args.t.now (join (joining (goal.at.returns-then-not-is_county c).Start)) 20 (join-answers _ _ true true true false (formed (goal.at.returns-then-not-is_county c).Else-not-ordered) (named (goal.at.returns-then-not-is_county c).After-any ∙ ap not c.if-any.false) (lt-ltb _ _ (room (goal.at.returns-then-not-is_county c).Else-capacity-used)) (sym c.is_county.ensures ∙ c.if-not-is_county.true)) (omega arith) in
     (c.result-then-not-is_county.ensures ∙ no.result, no.table)
 
 pub overflow_cast-county : goal.overflow_cast-county

@@ -10,22 +10,23 @@ use Rattle.fields.specs.Layout.{get, name, used_of, name_of}
 use Rattle.table.specs.Chain.{order_of}
 use Rattle.table.proofs.WellFormedLaws.{sized, long, few-rows}
 use Rattle.joins.proofs.PlaceLaws.{Left, all_left, next-left, none_left, one-passed, before-is, taken_is, last-is, free-is}
+use Rattle.joins.proofs.place_of.Goals.{After-name-here, In-loop-k}
 use Rattle.joins.proofs.place_of.Goals as goal
 
 -- a used row is at hand
-some_left : (c : goal.In-loop-k) → c.loop-k.k < used_of c.args.t.now
+some_left : (c : In-loop-k) → c.loop-k.k < used_of c.args.t.now
 some_left c = omega (arith, c.loop-k-test.true, c.used-used.ensures)
 
-row_here : (c : goal.In-loop-k) → let a = c.args in Within (used_of a.t.now) (get_or a.order.now c.loop-k.k 0)
+row_here : (c : In-loop-k) → let a = c.args in Within (used_of a.t.now) (get_or a.order.now c.loop-k.k 0)
 row_here c = c.requires.1.listed.each c.loop-k.k (some_left c)
 
-name-here : (c : goal.After-name-here) → let a = c.args in
+name-here : (c : After-name-here) → let a = c.args in
     c.name-here.result ≡ name_of a.t.now (get_or a.order.now c.loop-k.k 0)
 unfolding name_of
 name-here c = c.name-here.ensures ∙ ap (get name) c.row_of.ensures.0
 
 -- and others are behind it
-left_here : (c : goal.In-loop-k) → let l = c.loop-k in let a = c.args in
+left_here : (c : In-loop-k) → let l = c.loop-k in let a = c.args in
     Left a.t.now a.name l.before (get_or a.order.now l.k 0 ∷ drop (l.k + 1) (order_of a.t.now))
 left_here c =
     let l = c.loop-k in

@@ -11,20 +11,21 @@ use Rattle.octets.proofs.ByteLaws.{length-zeros}
 use Rattle.counties.specs.Counties.{county_at}
 use Rattle.counties.specs.Marks.{laid_now}
 use Rattle.protocol.specs.Calls.{names_in, founded_list}
+use Rattle.laying.proofs.lay_table.Goals.{After-laid_now-list, After-row_size-size, In-loop-i}
 use Rattle.laying.proofs.lay_table.Goals as goal
 
 -- the rows fill the table behind its header
-rows_long : (c : goal.After-row_size-size) → let a = c.args in 16 + a.capacity * c.row_size-size.result ≡ length a.t.now
+rows_long : (c : After-row_size-size) → let a = c.args in 16 + a.capacity * c.row_size-size.result ≡ length a.t.now
 rows_long c = omega (arith, ap (λ (x : ℕ). c.args.capacity * x) c.row_size-size.ensures, c.requires.0)
 
 -- the list is that of all used rows, laid by their counties
-list-is : (c : goal.After-laid_now-list) → let a = c.args in c.laid_now-list.result ≡ founded_list a.choice a.counties.now (length a.names.now / 2)
+list-is : (c : After-laid_now-list) → let a = c.args in c.laid_now-list.result ≡ founded_list a.choice a.counties.now (length a.names.now / 2)
 unfolding founded_list
 list-is c =
         c.laid_now-list.ensures
     ∙ ap₂ (laid_now (eqb c.args.choice 1)) c.of_places-sets.ensures.1 (all-rows (length c.args.names.now / 2) c.first.result.bits (omega (arith, c.requires.3, c.requires.4, c.requires.5)) (omega arith) c.first.ensures)
 
-turn : (l : goal.In-loop-i) → let a = l.args in
+turn : (l : In-loop-i) → let a = l.args in
     Turn a.capacity (length a.names.now / 2) l.laid_now-list.result a.files a.file (body_length a.files a.file) (names_in a.names.now) (county_at a.counties.now) l.loop-i.i l.loop-i.at l.row_size-size.result l.loop-i.t
 unfolding stride
 turn l =
@@ -32,7 +33,7 @@ turn l =
     record { room = p.5.1; below = omega (arith, l.loop-i-test.true, p.4); wide = l.row_size-size.ensures; laid = l.loop-i.invariant.2 }
 
 -- a county is at hand for the row
-given : (l : goal.In-loop-i) → l.loop-i.i < length l.args.counties.now
+given : (l : In-loop-i) → l.loop-i.i < length l.args.counties.now
 given l = let p = l.requires in omega (arith, l.loop-i-test.true, p.4, p.6)
 
 pub of_places-sets-requires : goal.of_places-sets-requires

@@ -12,10 +12,11 @@ use Rattle.counties.specs.Levels.{seats, at_seat}
 use Rattle.sets.proofs.SetLaws.{has-empty}
 use Rattle.sets.specs.Upto.{keep}
 use Rattle.sets.specs.Sets.{has}
+use Rattle.lists.proofs.held.Goals.{In-loop-j}
 use Rattle.lists.proofs.held.Goals as goal
 
 -- there is room for one position more
-below : (c : goal.In-loop-j) → c.loop-j.positions.bits < 2 ^ 63
+below : (c : In-loop-j) → c.loop-j.positions.bits < 2 ^ 63
 below c =
     let l = c.loop-j in
         let few : c.args.count - l.j ≤ 63 = omega (arith, c.requires.few, c.loop-j-test.true) in

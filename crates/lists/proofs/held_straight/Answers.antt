@@ -13,18 +13,19 @@ use Rattle.counties.specs.Levels.{seats, at_seat}
 use Rattle.sets.proofs.SetLaws.{has-empty}
 use Rattle.sets.specs.Sets.{has, gaining, cut_to}
 use Rattle.sets.specs.Upto.{Within, some, upward, keep}
+use Rattle.lists.proofs.held_straight.Goals.{After-lowest, In-loop-set}
 use Rattle.lists.proofs.held_straight.Goals as goal
 
 -- in a turn some member is ahead
-some-ahead : (c : goal.In-loop-set) → some 64 (has c.loop-set.left.bits) ≡ true
+some-ahead : (c : In-loop-set) → some 64 (has c.loop-set.left.bits) ≡ true
 some-ahead c = not-false _ (sym c.is_empty.ensures ∙ not-true _ c.loop-set-test.true)
 
 -- the next one
-here : (c : goal.After-lowest) → Within 64 c.lowest.result × (has c.loop-set.left.bits c.lowest.result ≡ true)
+here : (c : After-lowest) → Within 64 c.lowest.result × (has c.loop-set.left.bits c.lowest.result ≡ true)
 here c = at-hand c.loop-set.invariant.1 (some-ahead c.before) c.lowest.ensures
 
 -- it has one of 64 positions
-few : (c : goal.After-lowest) → c.loop-set.k < 64
+few : (c : After-lowest) → c.loop-set.k < 64
 few c =
     let l = c.loop-set in
         omega (arith, seats-few l.invariant.0 (has c.cut-left.result.bits), above l.invariant.1 (some-ahead c.before) c.lowest.ensures, (here c).0, l.invariant.2)

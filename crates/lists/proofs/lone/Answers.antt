@@ -11,10 +11,11 @@ use Rattle.counties.specs.Levels.{seats}
 use Rattle.sets.proofs.SetLaws.{has-empty}
 use Rattle.sets.specs.Sets.{has, no_row}
 use Rattle.sets.specs.Upto.{keep}
+use Rattle.lists.proofs.lone.Goals.{After-at}
 use Rattle.lists.proofs.lone.Goals as goal
 
 -- what is known of the row at hand
-at_row : (c : goal.After-at) →     c.at.result ≡ has c.args.members.bits (get_or c.args.order.now c.loop-j.j 0)
+at_row : (c : After-at) →     c.at.result ≡ has c.args.members.bits (get_or c.args.order.now c.loop-j.j 0)
 at_row c =
     let l = c.loop-j in
         c.at.ensures ∙ ap (has c.args.members.bits) (row-place _ _ c.place_at.ensures (c.requires.each l.j c.loop-j-test.true))

@@ -11,10 +11,11 @@ use Rattle.counties.specs.Levels.{seats, at_seat}
 use Rattle.sets.proofs.SetLaws.{has-empty}
 use Rattle.sets.specs.Sets.{has, gaining}
 use Rattle.sets.specs.Upto.{some, keep}
+use Rattle.lists.proofs.seated.Goals.{After-place_at-place}
 use Rattle.lists.proofs.seated.Goals as goal
 
 -- the row at hand has a place
-row_here : (c : goal.After-place_at-place) → c.place_at-place.result % 64 + 1 ≡ get_or c.args.order.now c.loop-j.j 0
+row_here : (c : After-place_at-place) → c.place_at-place.result % 64 + 1 ≡ get_or c.args.order.now c.loop-j.j 0
 row_here c = row-place _ _ c.place_at-place.ensures (c.requires.each c.loop-j.j (omega arith))
 
 pub loop-j-init : goal.loop-j-init

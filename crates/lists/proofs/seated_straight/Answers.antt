@@ -14,17 +14,18 @@ use Rattle.counties.specs.Levels.{seats, at_seat}
 use Rattle.sets.proofs.SetLaws.{has-empty}
 use Rattle.sets.specs.Sets.{has, gaining, cut_to}
 use Rattle.sets.specs.Upto.{Within, some, upward, keep}
+use Rattle.lists.proofs.seated_straight.Goals.{After-cut-left, After-lowest, In-loop-ahead}
 use Rattle.lists.proofs.seated_straight.Goals as goal
 
-small : (c : goal.After-cut-left) → c.cut-left.result.bits < 2 ^ 64
+small : (c : After-cut-left) → c.cut-left.result.bits < 2 ^ 64
 small c = omega arith
 
 -- in a turn some member is ahead
-some-ahead : (c : goal.In-loop-ahead) → some 64 (has c.loop-ahead.left.bits) ≡ true
+some-ahead : (c : In-loop-ahead) → some 64 (has c.loop-ahead.left.bits) ≡ true
 some-ahead c = not-false _ (sym c.is_empty.ensures ∙ not-true _ c.loop-ahead-test.true)
 
 -- the next one
-here : (c : goal.After-lowest) → Within 64 c.lowest.result × (has c.loop-ahead.left.bits c.lowest.result ≡ true)
+here : (c : After-lowest) → Within 64 c.lowest.result × (has c.loop-ahead.left.bits c.lowest.result ≡ true)
 here c = at-hand c.loop-ahead.invariant.1 (some-ahead c.before) c.lowest.ensures
 
 pub loop-ahead-init : goal.loop-ahead-init

@@ -14,14 +14,15 @@ use Rattle.sets.proofs.SetLaws.{has-empty, first-within}
 use Rattle.sets.proofs.MemberLaws.{only, Taken, none-taken, all-taken, in-set, fewer-left, one-taken}
 use Rattle.sets.specs.Sets.{has, no_row, gaining, joining, cut_to}
 use Rattle.sets.specs.Upto.{Within, some}
+use Rattle.lists.proofs.standing.Goals.{After-lowest, In-loop-left}
 use Rattle.lists.proofs.standing.Goals as goal
 
 -- in a turn some position is left
-some_left : (c : goal.In-loop-left) → some 64 (has c.loop-left.left.bits) ≡ true
+some_left : (c : In-loop-left) → some 64 (has c.loop-left.left.bits) ≡ true
 some_left c = not-false _ (sym c.is_empty.ensures ∙ not-true _ c.loop-left-test.true)
 
 -- the lowest of them is one of the first
-position : (c : goal.After-lowest) → Within c.args.count c.lowest.result
+position : (c : After-lowest) → Within c.args.count c.lowest.result
 unfolding cut_to
 position c =
             let m = in-set c.loop-left.invariant.1 (some_left c.before) c.lowest.ensures in

@@ -10,10 +10,11 @@ use Rattle.fields.specs.Layout.{used_of, row_bytes}
 use Rattle.table.specs.WellFormed.{plain}
 use Rattle.table.proofs.WellFormedLaws.{long}
 use Rattle.carrying.specs.Moves.{all_plain}
+use Rattle.moves.proofs.all_plain.Goals.{After-plain}
 use Rattle.moves.proofs.all_plain.Goals as goal
 
 -- what was found of the row at hand
-found : (c : goal.After-plain) → let t = c.args.t.now in plain (row_bytes t (c.loop-k.k + 1)) ≡ c.plain.result
+found : (c : After-plain) → let t = c.args.t.now in plain (row_bytes t (c.loop-k.k + 1)) ≡ c.plain.result
 found c = sym (c.plain.ensures ∙ ap plain c.row_of.ensures.0)
 
 pub used-used-requires : goal.used-used-requires
@@ -32,12 +33,12 @@ plain-requires c = c.row_of.ensures.1
 pub returns-then-not-plain : goal.returns-then-not-plain
 unfolding all_plain
 returns-then-not-plain c =
-            every-not _ _ (c.loop-k.k + 1) (omega (arith, c.loop-k-test.true, c.used-used.ensures)) (found (goal.at.returns-then-not-plain c).After-plain ∙ not-true _ c.if-not-plain.true)
+            every-not _ _ (c.loop-k.k + 1) (omega (arith, c.loop-k-test.true, c.used-used.ensures)) (found (goal.at.returns-then-not-plain c).After-plain ∙ c.if-not-plain.true)
 
 pub loop-k-preserved : goal.loop-k-preserved
 loop-k-preserved c =
         let l = c.loop-k in
-    (omega (arith, c.loop-k-test.true), every_more _ l.k l.invariant.1 (found (goal.at.loop-k-preserved c).After-plain ∙ not-false _ c.if-not-plain.false))
+    (omega (arith, c.loop-k-test.true), every_more _ l.k l.invariant.1 (found (goal.at.loop-k-preserved c).After-plain ∙ c.if-not-plain.false))
 
 pub returns : goal.returns
 unfolding all_plain

@@ -13,31 +13,32 @@ use Rattle.table.proofs.WellFormedLaws.{own-sized, header, long, few-rows}
 use Rattle.carrying.specs.Moves.{goes_over, all_plain, carried_length}
 use Rattle.protocol.specs.Calls.{Carrying}
 use Rattle.moves.proofs.MoveLaws.{carry-answers, carry-no, carry-done, rough, forms-small, end-long, end-small}
+use Rattle.moves.proofs.carry.Goals.{After-both, After-goes_over, Else-both, Else-dest-end, Else-not-goes_over, Else-not-own_form, Start}
 use Rattle.moves.proofs.carry.Goals as goal
 
 -- the arguments of the call
-abbrev carrying : goal.Start → Carrying
+abbrev carrying : Start → Carrying
 carrying s = record { form = s.args.form; dest = s.args.dest.now }
 
 -- the questions, as they were asked
-own1 : (c : goal.Else-not-own_form) → own_form c.args.t.now ≡ true
-own1 c = sym c.own_form.ensures ∙ not-false _ c.if-not-own_form.false
+own1 : (c : Else-not-own_form) → own_form c.args.t.now ≡ true
+own1 c = sym c.own_form.ensures ∙ c.if-not-own_form.false
 
-plain2 : (c : goal.After-both) → (not (eqb c.args.form 1) || all_plain c.args.t.now) ≡ not c.both.result
+plain2 : (c : After-both) → (not (eqb c.args.form 1) || all_plain c.args.t.now) ≡ not c.both.result
 plain2 c = rough (eqb c.args.form 1) (all_plain c.args.t.now) _ _ c.all_plain-plain.ensures c.both.ensures
 
-over3 : (c : goal.After-goes_over) → goes_over (form_of c.args.t.now) c.args.form ≡ c.goes_over.result
+over3 : (c : After-goes_over) → goes_over (form_of c.args.t.now) c.args.form ≡ c.goes_over.result
 over3 c = sym (c.goes_over.ensures ∙ ap (λ (f : ℕ). goes_over f c.args.form) c.form.ensures)
 
-over : (e : goal.Else-not-goes_over) → goes_over (form_of e.args.t.now) e.args.form ≡ true
+over : (e : Else-not-goes_over) → goes_over (form_of e.args.t.now) e.args.form ≡ true
 over e = over3 e.before ∙ not-false _ e.if-not-goes_over.false
 
-plain : (e : goal.Else-both) → (not (eqb e.args.form 1) || all_plain e.args.t.now) ≡ true
+plain : (e : Else-both) → (not (eqb e.args.form 1) || all_plain e.args.t.now) ≡ true
 plain e = plain2 e.before ∙ ap not e.if-both.false
 
 pub returns-then-not-own_form : goal.returns-then-not-own_form
 returns-then-not-own_form c =
-            let no = carry-no c.args.t.now (carrying (goal.at.returns-then-not-own_form c).Start) 1 (carry-answers _ _ false _ _ (sym c.own_form.ensures ∙ not-true _ c.if-not-own_form.true) refl refl) (omega arith) in
+            let no = carry-no c.args.t.now (carrying (goal.at.returns-then-not-own_form c).Start) 1 (carry-answers _ _ false _ _ (sym c.own_form.ensures ∙ c.if-not-own_form.true) refl refl) (omega arith) in
     (c.result.ensures ∙ no.0, no.1, no.2)
 
 pub all_plain-plain-requires : goal.all_plain-plain-requires
@@ -53,7 +54,7 @@ form-requires c = long (own-sized (own1 (goal.at.form-requires c).Else-not-own_f
 
 pub returns-then-not-goes_over : goal.returns-then-not-goes_over
 returns-then-not-goes_over c =
-                let none : goes_over (form_of c.args.t.now) c.args.form ≡ false = over3 (goal.at.returns-then-not-goes_over c).After-goes_over ∙ not-true _ c.if-not-goes_over.true in
+                let none : goes_over (form_of c.args.t.now) c.args.form ≡ false = over3 (goal.at.returns-then-not-goes_over c).After-goes_over ∙ c.if-not-goes_over.true in
     let no = carry-no c.args.t.now (carrying (goal.at.returns-then-not-goes_over c).Start) 12 (carry-answers _ _ true true false (own1 (goal.at.returns-then-not-goes_over c).Else-not-own_form) (plain (goal.at.returns-then-not-goes_over c).Else-both) (rw none)) (omega arith) in
     (c.result-then-not-goes_over.ensures ∙ no.0, no.1, no.2)
 
@@ -81,7 +82,7 @@ returns-then-dest-end c =
     let no = carry-no c.args.t.now (carrying (goal.at.returns-then-dest-end c).Start) 12 (carry-answers _ _ true true false (own1 (goal.at.returns-then-dest-end c).Else-not-own_form) (plain (goal.at.returns-then-dest-end c).Else-both) (rw (over (goal.at.returns-then-dest-end c).Else-not-goes_over, other))) (omega arith) in
     (c.result-then-dest-end.ensures ∙ no.0, no.1, no.2)
 
-same_here : (c : goal.Else-dest-end) → length c.args.dest.now ≡ carried_length c.args.form c.args.t.now
+same_here : (c : Else-dest-end) → length c.args.dest.now ≡ carried_length c.args.form c.args.t.now
 same_here c = c.if-dest-end.false ∙ end-long c.args.t.now c.args.form _ _ _ c.capacity.ensures c.size_in-width.ensures c.file_length.ensures
 
 pub carry_table-requires : goal.carry_table-requires

@@ -11,10 +11,11 @@ use Rattle.carrying.specs.Moves.{carried_length}
 use Rattle.blocks.specs.Blocks.{in_turn}
 use Rattle.carrying.proofs.CarryLaws.{row_to}
 use Rattle.moves.proofs.MoveLaws.{Turn, from-fits, to-fits, end_fits, from-long, to-long, row-turn, turn-long, to_end, all-carried}
+use Rattle.moves.proofs.carry_table.Goals.{In-loop-k}
 use Rattle.moves.proofs.carry_table.Goals as goal
 
 -- what is known in the turn of row k + 1
-turn : (l : goal.In-loop-k)
+turn : (l : In-loop-k)
     →         Turn l.args.t.now l.args.form l.loop-k.k l.row_length-size.result l.size_in-width.result (32 + l.file_length-file.result) l.loop-k.from l.loop-k.to l.loop-k.dest
 turn l =
             let loop = l.loop-k in

@@ -8,6 +8,7 @@ use Rattle.asking.specs.Asking.{result_number}
 use Rattle.telling.specs.Notices.{in_papers, Noticed}
 use Rattle.telling.specs.Claims.{SentenceFits}
 use Rattle.telling.proofs.NoticeLaws.{noticed-4, noticed-5, noticed-told, sentence-fits}
+use Rattle.notices.proofs.notice.Goals.{Else-not-both}
 use Rattle.notices.proofs.notice.Goals as goal
 
 -- result and buffer, by what the call leaves
@@ -15,15 +16,15 @@ leaves : {o x : Noticed} {r : ℕ} → o ≡ x → r ≡ result_number x.refusal
 leaves e q = (q ∙ sym (ap (λ (y : Noticed). result_number y.refusal y.value) e), sym (ap (λ (y : Noticed). y.buffer) e))
 
 -- question 4 is yes
-is_call : (c : goal.Else-not-both) → in_papers c.args.call ≡ true
+is_call : (c : Else-not-both) → in_papers c.args.call ≡ true
 unfolding in_papers
-is_call c = sym c.both.ensures ∙ not-false _ c.if-not-both.false
+is_call c = sym c.both.ensures ∙ c.if-not-both.false
 
 pub returns-then-not-both : goal.returns-then-not-both
 unfolding in_papers
 returns-then-not-both c =
         let a = c.args in
-    leaves (noticed-4 a.call a.name a.number a.buffer.now (sym c.both.ensures ∙ not-true _ c.if-not-both.true)) c.result.ensures
+    leaves (noticed-4 a.call a.name a.number a.buffer.now (sym c.both.ensures ∙ c.if-not-both.true)) c.result.ensures
 
 pub returns-then-buffer-ne160 : goal.returns-then-buffer-ne160
 returns-then-buffer-ne160 c =

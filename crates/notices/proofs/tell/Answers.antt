@@ -8,17 +8,18 @@ use Rattle.telling.specs.Text.{in_bytes, spaces}
 use Rattle.telling.specs.Notices.{word, reason}
 use Rattle.telling.proofs.Computed.{reason-room, reason-stop, word_room, word-last}
 use Rattle.notices.proofs.SaidLaws.{whole, told-by}
+use Rattle.notices.proofs.tell.Goals.{After-say, After-say-behind}
 use Rattle.notices.proofs.tell.Goals as goal
 
 -- where the heading was said, before the word, and where all began
-abbrev headed : goal.After-say-behind → tie.After-say-heading
+abbrev headed : After-say-behind → tie.After-say-heading
 headed c = c
 
-abbrev begun : goal.After-say-behind → tie.Start
+abbrev begun : After-say-behind → tie.Start
 begun c = (headed c).before.before.before.before.before.before.before.before.before.before
 
 -- the word, behind the heading
-said-word : (c : goal.After-say-behind) →
+said-word : (c : After-say-behind) →
     let w = in_bytes (word (begun c).args.call) in
     (c.say-behind.result ≡ 45 + length w) × (c.say-behind.new.0 ≡ put 45 w (headed c).say-heading.new.0)
 said-word c =
@@ -27,7 +28,7 @@ said-word c =
     c.say-behind.ensures 8 (in_bytes (word call)) (whole 8 (in_bytes (word call)) w.result (word_room call) w.ensures) (word-last call)
 
 -- the reason, behind the word
-said-reason : (c : goal.After-say) →
+said-reason : (c : After-say) →
         let r = in_bytes (reason (begun c.before.before.before.before.before.before).args.number) in
     (c.say.result ≡ c.say-behind.result + length r) × (c.say.new.0 ≡ put c.say-behind.result r c.say-behind.new.0)
 said-reason c =

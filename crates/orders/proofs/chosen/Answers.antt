@@ -14,15 +14,16 @@ use Rattle.table.proofs.WellFormedLaws.{sized, long}
 use Rattle.settle.specs.Works.{Known}
 use Rattle.settle.proofs.SettleLaws.{choice-of, known-none}
 use Rattle.orders.proofs.OrderLaws.{kept_more}
+use Rattle.orders.proofs.chosen.Goals.{Else-not-both}
 use Rattle.orders.proofs.chosen.Goals as goal
 
 -- the coordinator's row is a used one, and has a place
-inside : (c : goal.Else-not-both) → let a = c.args in Within (used_of a.t.now) a.c × (a.c ≤ 16)
+inside : (c : Else-not-both) → let a = c.args in Within (used_of a.t.now) a.c × (a.c ≤ 16)
 unfolding between
 inside c =
             let a = c.args in
     let n = c.used-used.result in
-    let both : ((leb 1 a.c && leb a.c n) && leb a.c 16) ≡ true = ap (λ (x : Bool). x && leb a.c 16) (sym c.between.ensures) ∙ sym c.both.ensures ∙ not-false _ c.if-not-both.false in
+    let both : ((leb 1 a.c && leb a.c n) && leb a.c 16) ≡ true = ap (λ (x : Bool). x && leb a.c 16) (sym c.between.ensures) ∙ sym c.both.ensures ∙ c.if-not-both.false in
     let used : (leb 1 a.c && leb a.c n) ≡ true = and_l _ _ both in
     let low : 1 ≤ a.c = leb-true _ _ (and_l _ _ used) in
     let high : a.c ≤ n = leb-true _ _ (and_r (leb 1 a.c) _ used) in

@@ -9,22 +9,23 @@ use Rattle.effects.proofs.WriteLaws.{may-count}
 use Rattle.protocol.specs.Calls.{Writing, write, outcome, result_of}
 use Rattle.orders.specs.Turns.{Ready}
 use Rattle.orders.proofs.OrderLaws.{run, same-run, step-refused, step-65, one-done, one-refused, sum_fits, ready-after}
+use Rattle.orders.proofs.step.Goals.{After-answer-a, Start, Then-a-lt4294967296}
 use Rattle.orders.proofs.step.Goals as goal
 
 -- the write that is made
-abbrev writing : goal.Start → Writing
+abbrev writing : Start → Writing
 writing s = record { c = s.args.c; r = s.args.r; offset = s.args.offset; patch = s.args.patch.now; called = 0 ∷ []; file = s.args.file; sheet = s.args.sheet.now; club = s.args.club }
 
-abbrev start : goal.After-answer-a → tie.Start
+abbrev start : After-answer-a → tie.Start
 start k = k
 
-low : (k : goal.After-answer-a) → (start k).args.sum < 64
+low : (k : After-answer-a) → (start k).args.sum < 64
 low k = omega (arith, k.if-sum-eq64.false, k.if-sum-gt64.false)
 
-ready : (k : goal.After-answer-a) → let s = start k in Ready s.args.t.now s.args.sheet.now s.args.order.now s.args.sets.now s.args.left s.args.choices.now
+ready : (k : After-answer-a) → let s = start k in Ready s.args.t.now s.args.sheet.now s.args.order.now s.args.sets.now s.args.left s.args.choices.now
 ready k = (start k).requires (omega (arith, low k))
 
-answered : (k : goal.After-answer-a) → let o = outcome (start k).args.t.now (write (writing (start k))) in (k.answer-a.result.result ≡ result_of o) × (k.answer-a.new.0 ≡ o.table)
+answered : (k : After-answer-a) → let o = outcome (start k).args.t.now (write (writing (start k))) in (k.answer-a.result.result ≡ result_of o) × (k.answer-a.new.0 ≡ o.table)
 answered k =
     let s = start k in
     let e = k.answer-a.ensures (0 ∷ []) s.args.sheet.now s.args.club refl (ready k).right k.share_asked-share.ensures in (e.0, e.1)
@@ -47,7 +48,7 @@ pub answer-a-requires : goal.answer-a-requires
 answer-a-requires c =
             ((c.requires (omega (arith, c.if-sum-gt64.false))).framed, c.chosen-known.ensures.0)
 
-may : (f : goal.Then-a-lt4294967296) → let s = start f.before.before.before.before in (length s.args.sheet.now ≡ 196) × ((1 ≤ s.args.club) × (s.args.club ≤ 16))
+may : (f : Then-a-lt4294967296) → let s = start f.before.before.before.before in (length s.args.sheet.now ≡ 196) × ((1 ≤ s.args.club) × (s.args.club ≤ 16))
 may f = may-count (start f.before.before.before.before).args.t.now (writing (start f.before.before.before.before)) _ (answered f.before.before.before.before).0 f.if-a-lt4294967296.true
 
 pub left_after-less-requires : goal.left_after-less-requires

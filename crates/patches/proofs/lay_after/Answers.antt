@@ -11,10 +11,11 @@ use Rattle.window.specs.Windows.{width, patch_in, record_of, next, record_right,
 use Rattle.windows.specs.Visits.{window}
 use Rattle.patches.proofs.RecordLaws.{cut_record}
 use Rattle.patches.proofs.LayLaws.{Laying, laying-none, to-within, to-right, count_less, laying-more, laying-all}
+use Rattle.patches.proofs.lay_after.Goals.{In-loop-next}
 use Rattle.patches.proofs.lay_after.Goals as goal
 
 -- the record at hand is one of the 16
-within : (c : goal.In-loop-next) → Within 16 c.loop-next.next
+within : (c : In-loop-next) → Within 16 c.loop-next.next
 unfolding window
 within c = to-within c.requires.0 c.requires.1 c.loop-next.invariant (omega (arith, c.loop-next-test.true))
 
@@ -60,7 +61,7 @@ loop-next-preserved c =
                     let v = within (goal.at.loop-next-preserved c).In-loop-next in
     laying-more c.requires.0 c.requires.1 c.loop-next.invariant c.next_of-next.result _ v.0 c.next_of-next.ensures
     (c.lay_where.ensures ∙ ap (λ (r : List ℕ). cond (leb c.args.skip c.loop-next.count) (laid (patch_in r ∷ []) c.loop-next.contents) c.loop-next.contents) (cut_record c.args.records.now c.loop-next.next v.0))
-    c.lay_where.auto.0
+    c.lay_where.auto.contents
 
 pub shape_of-contents : goal.shape_of-contents
 unfolding window

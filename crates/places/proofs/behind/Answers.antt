@@ -11,14 +11,15 @@ use Rattle.places.specs.Places.{placed}
 use Rattle.sets.proofs.MemberLaws.{only, Taken, none-taken, at-hand, fewer-left, one-taken}
 use Rattle.sets.specs.Sets.{has, no_row, joining}
 use Rattle.sets.specs.Upto.{Within, some}
+use Rattle.places.proofs.behind.Goals.{After-lowest, In-loop-left}
 use Rattle.places.proofs.behind.Goals as goal
 
 -- in a turn some row is left
-some_left : (c : goal.In-loop-left) → some 64 (has c.loop-left.left.bits) ≡ true
-some_left c = not-false _ (sym c.is_empty.ensures ∙ not-true _ c.loop-left-test.true)
+some_left : (c : In-loop-left) → some 64 (has c.loop-left.left.bits) ≡ true
+some_left c = not-false _ (sym c.is_empty.ensures ∙ c.loop-left-test.true)
 
 -- and the lowest of them is at hand
-hand : (c : goal.After-lowest) → Within 64 c.lowest.result
+hand : (c : After-lowest) → Within 64 c.lowest.result
 hand c = (at-hand c.loop-left.invariant.1 (some_left c.before) c.lowest.ensures).0
 
 pub loop-left-init : goal.loop-left-init

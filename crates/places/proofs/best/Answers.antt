@@ -13,20 +13,21 @@ use Rattle.sets.proofs.SetLaws.{has_within}
 use Rattle.sets.proofs.MemberLaws.{only, Taken, none-taken, all-taken, at-hand, taken_out, fewer-left, one-taken}
 use Rattle.sets.specs.Sets.{has, no_row, losing, left_of, joining}
 use Rattle.sets.specs.Upto.{Within, some}
+use Rattle.places.proofs.best.Goals.{After-behind-left, After-lowest, After-lowest-in-loop-left, Else-is_empty, In-loop-left}
 use Rattle.places.proofs.best.Goals as goal
 
 -- some row is there, and the lowest is at hand
-some-there : (c : goal.Else-is_empty) → some 64 (has c.args.s.bits) ≡ true
+some-there : (c : Else-is_empty) → some 64 (has c.args.s.bits) ≡ true
 some-there c = not-false _ (sym c.is_empty.ensures ∙ c.if-is_empty.false)
 
-first-hand : (c : goal.After-lowest) → Within 64 c.lowest.result × (has c.args.s.bits c.lowest.result ≡ true)
+first-hand : (c : After-lowest) → Within 64 c.lowest.result × (has c.args.s.bits c.lowest.result ≡ true)
 first-hand c = at-hand (none-taken _) (some-there c.before) c.lowest.ensures
 
-small : (c : goal.After-lowest) → c.args.s.bits < 2 ^ 64
+small : (c : After-lowest) → c.args.s.bits < 2 ^ 64
 small c = omega arith
 
 -- the rows passed over have what it has
-passed : (c : goal.After-behind-left) → let a = c.args in
+passed : (c : After-behind-left) → let a = c.args in
     Behind (placed a.values.now) (get_or a.values.now (c.lowest.result - 1) 0) a.s.bits c.behind-left.result.bits × (has c.behind-left.result.bits c.lowest.result ≡ false)
 passed c =
             let a = c.args in
@@ -36,11 +37,11 @@ passed c =
     (first-behind _ _ a.s.bits _ _ i lost c.rest.ensures.1 here c.behind-left.ensures, first-passed _ _ a.s.bits _ _ i lost c.rest.ensures.1 here c.behind-left.ensures)
 
 -- in a turn some row is left
-some_left : (c : goal.In-loop-left) → some 64 (has c.loop-left.left.bits) ≡ true
-some_left c = not-false _ (sym c.is_empty-in-loop-left.ensures ∙ not-true _ c.loop-left-test.true)
+some_left : (c : In-loop-left) → some 64 (has c.loop-left.left.bits) ≡ true
+some_left c = not-false _ (sym c.is_empty-in-loop-left.ensures ∙ c.loop-left-test.true)
 
 -- and the lowest of them is at hand
-hand : (c : goal.After-lowest-in-loop-left) → Within 64 c.lowest-in-loop-left.result
+hand : (c : After-lowest-in-loop-left) → Within 64 c.lowest-in-loop-left.result
 hand c = (at-hand c.loop-left.invariant.1 (some_left c.before.before) c.lowest-in-loop-left.ensures).0
 
 pub returns-then-is_empty : goal.returns-then-is_empty
@@ -94,7 +95,7 @@ returns c =
                 let s = c.args.s.bits in
     let f = placed c.args.values.now in
     let left = c.behind-left.result.bits in
-    let all = all-taken l.invariant.1 (omega arith) (sym c.is_empty-in-loop-left.ensures ∙ not-false _ c.loop-left-test.false) in
+    let all = all-taken l.invariant.1 (omega arith) (sym c.is_empty-in-loop-left.ensures ∙ c.loop-left-test.false) in
     let first = tops-behind f _ s left (passed (goal.at.returns c).After-behind-left).0 _ (first-hand (goal.at.returns c).After-lowest).0 (first-hand (goal.at.returns c).After-lowest).1 (passed (goal.at.returns c).After-behind-left).1 _ refl c.outside.ensures in
     subst (λ (g : ℕ → Bool). Tops g f l.b) (sym ((behind-taken f _ s left (passed (goal.at.returns c).After-behind-left).0).all ∙ ap (joining (left_of (has s) (has left))) all))
     (l.invariant.3 _ (λ j e. has_within 64 s j (small (goal.at.returns c).After-lowest) (and_l _ _ e)) first)

@@ -17,22 +17,23 @@ use Rattle.sets.proofs.SetLaws.{has-empty, has_within}
 use Rattle.sets.proofs.MemberLaws.{only, Taken, none-taken, all-taken, at-hand, in-set, fewer-left, one-taken}
 use Rattle.sets.specs.Sets.{has, no_row, joining}
 use Rattle.sets.specs.Upto.{Within, some}
+use Rattle.polls.proofs.gather.Goals.{After-copy_of-copy, After-lowest-i, In-loop-left}
 use Rattle.polls.proofs.gather.Goals as goal
 
 -- in a turn some row is left
-some_left : (c : goal.In-loop-left) → some 64 (has c.loop-left.left.bits) ≡ true
+some_left : (c : In-loop-left) → some 64 (has c.loop-left.left.bits) ≡ true
 some_left c = not-false _ (sym c.is_empty.ensures ∙ not-true _ c.loop-left-test.true)
 
 -- and the lowest of them is at hand: a used row
-hand : (c : goal.After-lowest-i) → Within 64 c.lowest-i.result
+hand : (c : After-lowest-i) → Within 64 c.lowest-i.result
 hand c = (at-hand c.loop-left.invariant.1 (some_left c.before) c.lowest-i.ensures).0
 
-used : (c : goal.After-lowest-i) → Within (used_of c.args.t.now) c.lowest-i.result
+used : (c : After-lowest-i) → Within (used_of c.args.t.now) c.lowest-i.result
 used c =
         has_within (used_of c.args.t.now) c.args.answering.bits _ c.requires.3 (in-set c.loop-left.invariant.1 (some_left c.before) c.lowest-i.ensures)
 
 -- and its copy has room for the numbers
-copy-room : (c : goal.After-copy_of-copy) → 12 ≤ length c.copy_of-copy.result.now
+copy-room : (c : After-copy_of-copy) → 12 ≤ length c.copy_of-copy.result.now
 copy-room c = omega (arith, c.copy_of-copy.ensures.1, copy_is (file_length_of c.args.t.now))
 
 pub loop-left-init : goal.loop-left-init

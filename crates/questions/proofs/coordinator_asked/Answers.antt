@@ -8,10 +8,11 @@ use Rattle.table.proofs.WellFormedLaws.{sized, long, few-rows}
 use Rattle.protocol.specs.Calls.{is_used}
 use Rattle.table.specs.WellFormed.{between, only_rows}
 use Rattle.fields.specs.Layout.{used_of}
+use Rattle.questions.proofs.coordinator_asked.Goals.{After-both}
 use Rattle.questions.proofs.coordinator_asked.Goals as goal
 
 -- question 2, as it was asked
-named : (c : goal.After-both) → let a = c.args in (is_used a.t.now a.c && only_rows (used_of a.t.now) a.answering.bits) ≡ c.both.result
+named : (c : After-both) → let a = c.args in (is_used a.t.now a.c && only_rows (used_of a.t.now) a.answering.bits) ≡ c.both.result
 unfolding is_used
 named c =
     let a = c.args in

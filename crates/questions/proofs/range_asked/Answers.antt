@@ -10,18 +10,19 @@ use Rattle.questions.proofs.QuestionLaws.{range-no, range-yes}
 use Rattle.table.proofs.WellFormedLaws.{sized, long}
 use Rattle.protocol.specs.Calls.{by_coordinator, in_group, in_file}
 use Rattle.asking.specs.Asking.{first_no}
+use Rattle.questions.proofs.range_asked.Goals.{After-in_range, Else-no-ne0, Else-not-in_group}
 use Rattle.questions.proofs.range_asked.Goals as goal
 
 -- questions 2 and 3 are passed
-passed : (c : goal.Else-no-ne0) → let a = c.args in first_no (by_coordinator a.t.now a.c a.answering.bits []) ≡ 0
+passed : (c : Else-no-ne0) → let a = c.args in first_no (by_coordinator a.t.now a.c a.answering.bits []) ≡ 0
 passed c = sym c.coordinator_asked-no.ensures ∙ (let none : c.coordinator_asked-no.result ≡ 0 = omega arith in none)
 
 -- question 16 is yes
-grouped : (c : goal.Else-not-in_group) → let a = c.args in true ≡ in_group a.t.now a.q
-grouped c = sym (not-false _ c.if-not-in_group.false) ∙ c.in_group.ensures
+grouped : (c : Else-not-in_group) → let a = c.args in true ≡ in_group a.t.now a.q
+grouped c = sym (c.if-not-in_group.false) ∙ c.in_group.ensures
 
 -- question 4, as it was asked
-fits : (c : goal.After-in_range) → let a = c.args in c.in_range.result ≡ in_file a.t.now a.offset a.count
+fits : (c : After-in_range) → let a = c.args in c.in_range.result ≡ in_file a.t.now a.offset a.count
 unfolding in_file
 fits c =
     let a = c.args in
@@ -41,7 +42,7 @@ in_group-requires c = long (sized c.requires)
 pub returns-then-not-in_group : goal.returns-then-not-in_group
 returns-then-not-in_group c =
         let a = c.args in
-    range-yes _ _ _ a.q a.offset a.count false _ (passed (goal.at.returns-then-not-in_group c).Else-no-ne0) (sym (not-true _ c.if-not-in_group.true) ∙ c.in_group.ensures) refl
+    range-yes _ _ _ a.q a.offset a.count false _ (passed (goal.at.returns-then-not-in_group c).Else-no-ne0) (sym (c.if-not-in_group.true) ∙ c.in_group.ensures) refl
 
 pub file_length-requires : goal.file_length-requires
 file_length-requires c = long (sized c.requires)

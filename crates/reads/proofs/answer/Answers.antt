@@ -20,38 +20,39 @@ use Rattle.questions.specs.declared.Answered.{Answered}
 use Rattle.questions.proofs.QuestionLaws.{range-passed, called-early, called-long, called-by}
 use Rattle.settle.proofs.SettleLaws.{known-none}
 use Rattle.reads.proofs.ReadLaws.{read-early, read-long, read_no, source-used, range-in, read_done}
+use Rattle.reads.proofs.answer.Goals.{After-both, Else-no-ne0, Else-not-both, Else-s-ne0, Start}
 use Rattle.reads.proofs.answer.Goals as goal
 
 -- the arguments of the call
-abbrev reading : goal.Start → List ℕ → Reading
+abbrev reading : Start → List ℕ → Reading
 reading s called = record { c = s.args.c; r = s.args.r; offset = s.args.offset; count = s.args.count; buffer = s.args.buffer.now; called = called; file = s.args.q }
 
 -- questions 2, 3, 16 and 4 are passed
-passed : (c : goal.Else-no-ne0) → first_no (to_range c.args.t.now c.args.q c.args.c c.args.r c.args.offset c.args.count) ≡ 0
+passed : (c : Else-no-ne0) → first_no (to_range c.args.t.now c.args.q c.args.c c.args.r c.args.offset c.args.count) ≡ 0
 passed c = sym c.range_asked-no.ensures ∙ (let none : c.range_asked-no.result ≡ 0 = omega arith in none)
 
 -- and 1 to 3 with them
-asked : (c : goal.Else-no-ne0) → ByCoordinator c.args.t.now c.args.c c.args.r
+asked : (c : Else-no-ne0) → ByCoordinator c.args.t.now c.args.c c.args.r
 asked c = (range-passed c.args.t.now c.args.c c.args.r c.args.q c.args.offset c.args.count (passed c)).0
 
 -- and 16
-grouped : (c : goal.Else-no-ne0) → Within (files_of c.args.t.now) c.args.q
+grouped : (c : Else-no-ne0) → Within (files_of c.args.t.now) c.args.q
 grouped c = (range-passed c.args.t.now c.args.c c.args.r c.args.q c.args.offset c.args.count (passed c)).1
 
 -- 5, of both lent lists
-five-is : (c : goal.After-both) (called : List ℕ) →     c.args.fits ≡ eqb (length called) 1 → (eqb (length c.args.buffer.now) c.args.count && eqb (length called) 1) ≡ c.both.result
+five-is : (c : After-both) (called : List ℕ) →     c.args.fits ≡ eqb (length called) 1 → (eqb (length c.args.buffer.now) c.args.count && eqb (length called) 1) ≡ c.both.result
 five-is c called e =     ap (◌&&◌ (eqb (length c.args.buffer.now) c.args.count)) (sym e) ∙ sym c.both.ensures
 
 -- is passed
-fitting : (c : goal.Else-not-both) (called : List ℕ) →     c.args.fits ≡ eqb (length called) 1 → (eqb (length c.args.buffer.now) c.args.count && eqb (length called) 1) ≡ true
-fitting c called e = five-is c.before called e ∙ not-false _ c.if-not-both.false
+fitting : (c : Else-not-both) (called : List ℕ) →     c.args.fits ≡ eqb (length called) 1 → (eqb (length c.args.buffer.now) c.args.count && eqb (length called) 1) ≡ true
+fitting c called e = five-is c.before called e ∙ c.if-not-both.false
 
 -- where it is, as with one byte lent
-with-one : (c : goal.Else-not-both) → c.args.fits ≡ true
-with-one c =     and_r (eqb (length c.args.buffer.now) c.args.count) _ (sym c.both.ensures ∙ not-false _ c.if-not-both.false)
+with-one : (c : Else-not-both) → c.args.fits ≡ true
+with-one c =     and_r (eqb (length c.args.buffer.now) c.args.count) _ (sym c.both.ensures ∙ c.if-not-both.false)
 
 -- 6 and 7 are passed
-settled_here : (c : goal.Else-s-ne0) → c.settle-s.result.refusal ≡ 0
+settled_here : (c : Else-s-ne0) → c.settle-s.result.refusal ≡ 0
 settled_here c = omega arith
 
 pub range_asked-no-requires : goal.range_asked-no-requires
@@ -70,7 +71,7 @@ returns-then-no-ne0 c called e =
 pub returns-then-not-both : goal.returns-then-not-both
 unfolding lent
 returns-then-not-both c called e =
-            let five = five-is (goal.at.returns-then-not-both c).After-both called e ∙ not-true _ c.if-not-both.true in
+            let five = five-is (goal.at.returns-then-not-both c).After-both called e ∙ c.if-not-both.true in
     let no = read-long c.args.t.now (reading (goal.at.returns-then-not-both c).Start called) (passed (goal.at.returns-then-not-both c).Else-no-ne0) five in (
       ap (λ (x : Answered). x.result) c.answer_of-then-not-both.ensures ∙ no.result,
       no.table,

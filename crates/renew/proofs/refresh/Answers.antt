@@ -5,6 +5,7 @@ use Rattle.fields.specs.Layout.{copy_length, file_length_of}
 use Rattle.fields.proofs.FieldLaws.{copy_is}
 use Rattle.table.proofs.WellFormedLaws.{header, long}
 use borrow.Author.Rules.{rules}
+use Rattle.renew.proofs.refresh.Goals.{After-copy_size}
 use Rattle.renew.proofs.refresh.Goals as goal
 
 pub file_length-requires : goal.file_length-requires
@@ -14,7 +15,7 @@ pub copy_size-requires : goal.copy_size-requires
 copy_size-requires c = let z = c.requires.0 in omega (arith, c.file_length.ensures, (header z.header).file)
 
 -- a copy is as long as the file says
-size_is : (c : goal.After-copy_size) → c.copy_size.result ≡ copy_length (file_length_of c.args.t.now)
+size_is : (c : After-copy_size) → c.copy_size.result ≡ copy_length (file_length_of c.args.t.now)
 size_is c = c.copy_size.ensures ∙ ap copy_length c.file_length.ensures
 
 pub refresh_by-requires : goal.refresh_by-requires

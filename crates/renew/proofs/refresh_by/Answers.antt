@@ -16,6 +16,7 @@ use Rattle.protocol.specs.Rows.{refreshed_copy}
 use Rattle.copying.proofs.CopyLaws.{front-is}
 use Rattle.renew.proofs.PageLaws.{row_fits, cut-length, row_back}
 use borrow.Author.Rules.{rules}
+use Rattle.renew.proofs.refresh_by.Goals.{After-copy, After-copy_size-copy, After-rows_end-at}
 use Rattle.renew.proofs.refresh_by.Goals as goal
 
 -- a copy that is refreshed by equal numbers and bytes
@@ -23,11 +24,11 @@ alike : (q w v : ℕ) (source from row new : List ℕ) → w ≡ v → source �
 alike q w v source from row new a b h = h ∙ ap₂ (λ (x : ℕ) (xs : List ℕ). with_block 32 x q (refreshed_copy xs) row) a b
 
 -- what the header says
-copy_is : (c : goal.After-copy_size-copy) → c.copy_size-copy.result ≡ copy_length (file_length_of c.args.t.now)
+copy_is : (c : After-copy_size-copy) → c.copy_size-copy.result ≡ copy_length (file_length_of c.args.t.now)
 copy_is c = c.copy_size-copy.ensures ∙ ap copy_length c.file_length.ensures
 
 -- the target's row is in the table
-fits : (c : goal.After-rows_end-at) →     c.rows_end-at.result + c.row_length-size.result ≤ length c.args.t.now
+fits : (c : After-rows_end-at) →     c.rows_end-at.result + c.row_length-size.result ≤ length c.args.t.now
 fits c =
             row_fits c.requires.0 c.args.to c.requires.4 _ _ c.row_length-size.ensures c.rows_end-at.ensures
 
@@ -63,7 +64,7 @@ slice_bounds-refresh_row-end-2 c =
     search rules
 
 -- the sender's copy on the page
-page-is : (c : goal.After-copy) →     (xs : List ℕ) → take (c.copy_size-copy.result - 0) (c.copy.new.0 ++ xs) ≡ copy_bytes c.args.t.now c.args.q c.args.from
+page-is : (c : After-copy) →     (xs : List ℕ) → take (c.copy_size-copy.result - 0) (c.copy.new.0 ++ xs) ≡ copy_bytes c.args.t.now c.args.q c.args.from
 page-is c xs =
         let n : length c.copy_of.result.now ≡ c.copy_size-copy.result = c.copy_of.ensures.1 ∙ sym (copy_is c.before.before.before.before) in
     front-is _ _ _ _ c.copy.ensures n ∙ c.copy_of.ensures.0

@@ -6,10 +6,11 @@ use Rattle.window.specs.Windows.{window_of}
 use Rattle.windows.specs.Visits.{RightFor}
 use Rattle.table.proofs.CopyLaws.{copy-inside, copy-long, copy-back}
 use borrow.Author.Rules.{rules}
+use Rattle.renew.proofs.refresh_row.Goals.{Start}
 use Rattle.renew.proofs.refresh_row.Goals as goal
 
 -- the copy ends within the row
-inside : (c : goal.Start) → 32 + (c.args.q - 1) * c.args.size + c.args.size ≤ length c.args.row.now
+inside : (c : Start) → 32 + (c.args.q - 1) * c.args.size + c.args.size ≤ length c.args.row.now
 inside c = copy-inside c.args.row.now c.args.size c.args.q c.requires.0 c.requires.1
 
 pub overflow_mul-at : goal.overflow_mul-at

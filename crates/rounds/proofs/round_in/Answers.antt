@@ -6,9 +6,10 @@ use lib.ListN.{length}
 use Rattle.asking.specs.Asking.{result_number}
 use Rattle.orders.specs.Turns.{Ready}
 use Rattle.rounds.proofs.ByteRounds.{broken-stays, broken-no, broken-yes, Left, all_left, one_left, all_done}
+use Rattle.rounds.proofs.round_in.Goals.{Start}
 use Rattle.rounds.proofs.round_in.Goals as goal
 
-short : (c : goal.Start) → length c.args.list.now < 2 ^ 64
+short : (c : Start) → length c.args.list.now < 2 ^ 64
 short c = search rules
 
 pub returns-then-no-ne0 : goal.returns-then-no-ne0

@@ -3,10 +3,11 @@ use mathlib.Core.Path.{◌≡◌, sym, ◌∙◌, ap₂}
 use mathlib.Core.Bool.{◌&&◌}
 use lib.Dec.{eqb, leb}
 use Rattle.fields.specs.Layout.{get, mark, version, desired}
+use Rattle.sends.proofs.copies_asked.Goals.{After-both}
 use Rattle.sends.proofs.copies_asked.Goals as goal
 
 -- question 10 by its answer
-ten : (c : goal.After-both) → let a = c.args in (eqb (get mark a.target.now) 1 && leb (get desired a.target.now) (get version a.source.now)) ≡ c.both.result
+ten : (c : After-both) → let a = c.args in (eqb (get mark a.target.now) 1 && leb (get desired a.target.now) (get version a.source.now)) ≡ c.both.result
 ten c = sym (c.both.ensures ∙ ap₂ ◌&&◌ c.is_stale-2.ensures (ap₂ leb c.desired.ensures c.version.ensures))
 
 pub returns-then-is_stale : goal.returns-then-is_stale

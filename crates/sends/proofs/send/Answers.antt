@@ -9,16 +9,17 @@ use Rattle.protocol.specs.Calls.{Sending, send, questions}
 use Rattle.protocol.proofs.QuestionLaws.{SendYes, send-yes}
 use Rattle.questions.proofs.QuestionLaws.{refused-is}
 use Rattle.sends.proofs.SendLaws.{sender-right, send-done}
+use Rattle.sends.proofs.send.Goals.{Else-no-ne0, Start}
 use Rattle.sends.proofs.send.Goals as goal
 
 -- the arguments of the call
-abbrev sending : goal.Start → Sending
+abbrev sending : Start → Sending
 sending s = record { f = s.args.from; t = s.args.to; r = s.args.r; file = s.args.file }
 
-passed : (c : goal.Else-no-ne0) → first_no (questions c.args.t.now (send (sending c.before.before.before))) ≡ 0
+passed : (c : Else-no-ne0) → first_no (questions c.args.t.now (send (sending c.before.before.before))) ≡ 0
 passed c = sym c.send_asked-no.ensures ∙ (let none : c.send_asked-no.result ≡ 0 = omega arith in none)
 
-yes : (c : goal.Else-no-ne0) → SendYes c.args.t.now (sending c.before.before.before)
+yes : (c : Else-no-ne0) → SendYes c.args.t.now (sending c.before.before.before)
 yes c = send-yes _ _ (passed c)
 
 pub returns-then-no-ne0 : goal.returns-then-no-ne0

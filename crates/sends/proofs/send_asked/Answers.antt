@@ -15,35 +15,36 @@ use Rattle.table.proofs.WellFormedLaws.{newest, sized, long, few-rows}
 use Rattle.protocol.specs.Calls.{Sending}
 use Rattle.protocol.proofs.QuestionLaws.{group-is}
 use Rattle.sends.proofs.SendLaws.{named, send-answers}
+use Rattle.sends.proofs.send_asked.Goals.{After-both, After-rows_named, Start, Then-in_group, Then-rows_named, Then-well_formed}
 use Rattle.sends.proofs.send_asked.Goals as goal
 
 -- the arguments of the call
-abbrev sending : goal.Start → Sending
+abbrev sending : Start → Sending
 sending s = record { f = s.args.from; t = s.args.to; r = s.args.answering.bits; file = s.args.q }
 
-formed : (c : goal.Then-well_formed) → well_formed c.args.t.now ≡ true
+formed : (c : Then-well_formed) → well_formed c.args.t.now ≡ true
 formed c = sym c.UNKNOWN-well-formed-2.ensures ∙ c.if-well_formed.true
 
-question-2 : (c : goal.After-rows_named) → let a = c.args in let n = used_of a.t.now in
+question-2 : (c : After-rows_named) → let a = c.args in let n = used_of a.t.now in
     (between 1 a.from n && between 1 a.to n && only_rows n a.answering.bits && not (eqb a.from a.to)) ≡ c.rows_named.result
 question-2 c =
     let a = c.args in
     sym (c.rows_named.ensures ∙ ap (λ (n : ℕ). between 1 a.from n && between 1 a.to n && only_rows n a.answering.bits && not (eqb a.from a.to)) c.used.ensures)
 
-question-3 : (c : goal.After-both) → let a = c.args in (has a.answering.bits a.from && has a.answering.bits a.to) ≡ c.both.result
+question-3 : (c : After-both) → let a = c.args in (has a.answering.bits a.from && has a.answering.bits a.to) ≡ c.both.result
 question-3 c = sym (c.both.ensures ∙ ap₂ ◌&&◌ c.has.ensures c.has-then-rows_named.ensures)
 
-two : (c : goal.Then-rows_named) → let a = c.args in Within (used_of a.t.now) a.from × Within (used_of a.t.now) a.to
+two : (c : Then-rows_named) → let a = c.args in Within (used_of a.t.now) a.from × Within (used_of a.t.now) a.to
 two c = let a = c.args in named (used_of a.t.now) a.from a.to a.answering.bits (question-2 c.before ∙ c.if-rows_named.true)
 
 -- where 16 is yes
-abbrev then-two : goal.Then-in_group → tie.Then2
+abbrev then-two : Then-in_group → tie.Then2
 then-two c = c
 
-tabled : (c : goal.Then-in_group) → let t = c.args.t.now in Sized t × (form_of t ≡ form_value)
+tabled : (c : Then-in_group) → let t = c.args.t.now in Sized t × (form_of t ≡ form_value)
 tabled c = let e = formed c.before.before.before.before.before.before.before.before.before in (sized e, newest _ e)
 
-grouped : (c : goal.Then-in_group) → let a = c.args in Within (files_of a.t.now) a.q
+grouped : (c : Then-in_group) → let a = c.args in Within (files_of a.t.now) a.q
 grouped c = group-is _ _ (sym c.in_group.ensures ∙ c.if-in_group.true)
 
 pub used-requires : goal.used-requires

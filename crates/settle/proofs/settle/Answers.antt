@@ -26,37 +26,38 @@ use Rattle.bools.proofs.BoolLaws.{and_l, and_r, and_i}
 use Rattle.sets.proofs.SetLaws.{has_within, within-lt}
 use Rattle.sets.specs.Sets.{has, cut_to}
 use Rattle.sets.specs.Upto.{Within, count}
+use Rattle.settle.proofs.settle.Goals.{After-chosen_unless-chosen, After-cut-tried, After-judged-part, After-list-own, After-name, After-used-count, Joined-part, Then-both, Then-quorum_held}
 use Rattle.settle.proofs.settle.Goals as goal
 
 -- the coordinator's row is a used one
-own-used : (c : goal.After-used-count) → Within (used_of c.args.t.now) c.args.c
+own-used : (c : After-used-count) → Within (used_of c.args.t.now) c.args.c
 own-used c = has_within (used_of c.args.t.now) c.args.answering.bits c.args.c c.requires.2 c.requires.3
 
 -- the chain order
-listed : (c : goal.After-used-count) → Listed c.used-count.result c.args.order.now c.used-count.result
+listed : (c : After-used-count) → Listed c.used-count.result c.args.order.now c.used-count.result
 listed c = rw c.used-count.ensures c.requires.0.ordered.listed
 
 -- with the counties, all that is known of every row
-frame_is : (c : goal.After-used-count) → frame_by (take c.used-count.result c.args.order.now) c.args.sets.now ≡ frame_of c.args.t.now
+frame_is : (c : After-used-count) → frame_by (take c.used-count.result c.args.order.now) c.args.sets.now ≡ frame_of c.args.t.now
 frame_is c = let f = c.requires.0 in rw c.used-count.ensures (frame-by _ _ _ f.ordered f.grouped)
 
 -- the coordinator's own list, and its choice
-own_is : (c : goal.After-list-own) → c.list-own.result ≡ list_of c.args.t.now c.args.c
+own_is : (c : After-list-own) → c.list-own.result ≡ list_of c.args.t.now c.args.c
 unfolding list_of
 own_is c = c.list-own.ensures ∙ ap list c.row_of-row.ensures.0
 
-choice-is : (c : goal.After-name) → let a = c.args in
+choice-is : (c : After-name) → let a = c.args in
     list_choice a.kind (frame_by (take c.used-count.result a.order.now) a.sets.now) c.list-own.result c.name.result
     ≡ list_choice a.kind (frame_of a.t.now) (list_of a.t.now a.c) (name_of a.t.now a.c)
 choice-is c =
             choice-of c.args.kind _ c.args.c _ _ c.requires.0 c.used-count.ensures c.row_of-row.ensures.0 c.list-own.ensures c.name.ensures
 
-chosen_is : (c : goal.After-chosen_unless-chosen) → let a = c.args in
+chosen_is : (c : After-chosen_unless-chosen) → let a = c.args in
     has c.chosen_unless-chosen.result.bits ≡ list_choice a.kind (frame_of a.t.now) (list_of a.t.now a.c) (name_of a.t.now a.c)
 chosen_is c = c.chosen_unless-chosen.ensures ∙ choice-is c.before
 
 -- over the list that it says it has
-chosen-said : (c : goal.After-chosen_unless-chosen) → let a = c.args in
+chosen-said : (c : After-chosen_unless-chosen) → let a = c.args in
     has c.chosen_unless-chosen.result.bits ≡ list_choice a.kind (frame_of a.t.now) ((answers a.t.now a.q a.answering.bits).list a.c) (name_of a.t.now a.c)
 unfolding answers polled
 chosen-said c =
@@ -64,7 +65,7 @@ chosen-said c =
     ∙ ap (λ (b : Bool). list_choice c.args.kind (frame_of c.args.t.now) (cond b (list_of c.args.t.now c.args.c) no_list) (name_of c.args.t.now c.args.c)) (sym c.requires.3)
 
 -- P is tried first
-tried : (c : goal.After-cut-tried) → let a = c.args in
+tried : (c : After-cut-tried) → let a = c.args in
     has c.cut-tried.result.bits ≡ own_try a.kind (frame_of a.t.now) (answers a.t.now a.q a.answering.bits) a.c (name_of a.t.now a.c) (has a.answering.bits)
 unfolding own_try
 tried c =
@@ -72,7 +73,7 @@ tried c =
     c.cut-tried.ensures ∙ ap (λ (f : ℕ → Bool). cut_to f (has a.answering.bits)) (chosen-said c.before)
 
 -- its rows are used ones
-tried-used : (c : goal.After-cut-tried) → c.cut-tried.result.bits < 2 ^ used_of c.args.t.now
+tried-used : (c : After-cut-tried) → c.cut-tried.result.bits < 2 ^ used_of c.args.t.now
 tried-used c =
         within-lt (used_of c.args.t.now) c.cut-tried.result.bits (few-rows (sized c.requires.0.formed)) (omega arith)
     (λ i m. has_within _ c.args.answering.bits i c.requires.2 (try-in c.args.kind c.args.t.now c.args.q c.args.c c.args.answering.bits c.cut-tried.result.bits (tried c) i m))
@@ -82,24 +83,24 @@ lent-all : (xs : List ℕ) → take (length xs - 0) xs ≡ xs
 lent-all xs = take_all (length xs - 0) xs (omega arith)
 
 -- what a poll of P says of it
-alone-part : (c : goal.After-judged-part) → Judged (answers c.args.t.now c.args.q c.cut-tried.result.bits) (has c.cut-tried.result.bits) c.judged-part.result
+alone-part : (c : After-judged-part) → Judged (answers c.args.t.now c.args.q c.cut-tried.result.bits) (has c.cut-tried.result.bits) c.judged-part.result
 alone-part c = rw (lent-all c.args.t.now) at c.judged-part.ensures
 
 -- and a poll of the rows that answered
-part : (c : goal.After-judged-part) → Judged (answers c.args.t.now c.args.q c.args.answering.bits) (has c.cut-tried.result.bits) c.judged-part.result
+part : (c : After-judged-part) → Judged (answers c.args.t.now c.args.q c.args.answering.bits) (has c.cut-tried.result.bits) c.judged-part.result
 part c =
     let a = c.args in
         alone a.kind a.t.now a.q a.c a.answering.bits c.cut-tried.result.bits (tried c.before.before) _ (alone-part c)
 
 -- question 6 of P, and both: is it current too?
-abbrev six : goal.After-judged-part → Bool
+abbrev six : After-judged-part → Bool
 six c = let a = c.args in not (is_empty c.judged-part.result.list) && list_quorum a.kind (frame_by (take c.used-count.result a.order.now) a.sets.now) c.judged-part.result.list (has c.cut-tried.result.bits)
 
-abbrev yes : goal.After-judged-part → Bool
+abbrev yes : After-judged-part → Bool
 yes c = c.judged-part.result.current && six c
 
 -- where the list in force is the coordinator's own, P, which is the whole choice, holds a quorum of it
-sure : (c : goal.Then-both) → yes c.before.before.before.before.before.before.before ≡ true
+sure : (c : Then-both) → yes c.before.before.before.before.before.before.before ≡ true
 unfolding list_of list
 sure c =
                         let t = c.args.t.now in
@@ -111,11 +112,11 @@ sure c =
     (rw (frame_is c.before.before.before.before.before.before.before.before.before.before.before.before.before.before, force) (sure-held c.args.kind t c.args.q c.cut-tried.result.bits _ (list_of t c.args.c) c.requires.0.formed ((formed t c.requires.0.formed).heads _ (own-used c.before.before.before.before.before.before.before.before.before.before.before.before.before.before)).only (whole ∙ chosen_is c.before.before.before.before.before.before.before.before.before.before) (sym (alone-part c.before.before.before.before.before.before.before).current ∙ k)))
 
 -- or it was counted
-counted : (c : goal.Then-quorum_held) → yes c.before.before.before.before.before.before.before.before.before.before ≡ true
+counted : (c : Then-quorum_held) → yes c.before.before.before.before.before.before.before.before.before.before ≡ true
 counted c = and_i _ _ c.if-part.true (sym c.quorum_held.ensures ∙ c.if-quorum_held.true)
 
 -- otherwise one of them is no
-failed : (c : goal.Joined-part) → yes c.before ≡ false
+failed : (c : Joined-part) → yes c.before ≡ false
 failed c = ⊎_elim (λ w. no_second c.judged-part.result.current (six c.before) (sym w.6.ensures ∙ w.7.left)) (λ w. no-first c.judged-part.result.current (six c.before) w.left) c.if-part.branch
   where
     no-first : (a b : Bool) → a ≡ false → (a && b) ≡ false

@@ -11,6 +11,7 @@ use Rattle.window.specs.Windows.{Window, window_of, store_window, added}
 use Rattle.window.proofs.CopyLaws.{window-store, window-contents}
 use Rattle.windows.specs.Visits.{RightFor}
 use Rattle.protocol.specs.Rows.{patched_copy}
+use Rattle.store.proofs.patch_copy.Goals.{After-patch}
 use Rattle.store.proofs.patch_copy.Goals as goal
 
 -- neither the version nor the patch alters the window, or the length
@@ -27,7 +28,7 @@ module _ (copy new : List ℕ) (v offset : ℕ) (p : List ℕ) (room : 588 + off
   new-window = ap window_of e ∙ window-contents offset p (store version v copy) (omega (arith, stored-long)) ∙ window-store version v copy (omega arith) (inr (omega arith)) (omega arith)
 
 -- the copy as add finds it
-found : (c : goal.After-patch) →     c.patch.new.0 ≡ store_contents c.args.offset c.args.patch.now (store version c.args.version c.args.copy.now)
+found : (c : After-patch) →     c.patch.new.0 ≡ store_contents c.args.offset c.args.patch.now (store version c.args.version c.args.copy.now)
 found c = c.patch.ensures ∙ ap (store_contents _ _) c.set_version.ensures
 
 pub add-requires : goal.add-requires

@@ -7,10 +7,11 @@ use lib.ListN.{length}
 use Rattle.window.specs.Windows.{window_of}
 use Rattle.windows.specs.Visits.{RightFor}
 use Rattle.table.proofs.CopyLaws.{copy-inside, copy-lent, copy-long, copy-back}
+use Rattle.store.proofs.write_row.Goals.{Start}
 use Rattle.store.proofs.write_row.Goals as goal
 
 -- the copy ends within the row
-inside : (c : goal.Start) → 32 + (c.args.q - 1) * c.args.size + c.args.size ≤ length c.args.row.now
+inside : (c : Start) → 32 + (c.args.q - 1) * c.args.size + c.args.size ≤ length c.args.row.now
 inside c = copy-inside c.args.row.now c.args.size c.args.q c.requires.0 c.requires.1
 
 pub overflow_mul-at : goal.overflow_mul-at

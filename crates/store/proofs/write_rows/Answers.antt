@@ -14,22 +14,23 @@ use Rattle.fields.proofs.FieldLaws as Fields
 use Rattle.sets.proofs.MemberLaws.{only, Taken, none-taken, all-taken, in-set, not_yet, fewer-left, one-taken}
 use Rattle.sets.specs.Sets.{has, no_row, joining}
 use Rattle.sets.specs.Upto.{Within, some}
+use Rattle.store.proofs.write_rows.Goals.{After-lowest-i, In-loop-good}
 use Rattle.store.proofs.write_rows.Goals as goal
 
 -- in a turn some row is left
-some_left : (c : goal.In-loop-good) → some 64 (has c.loop-good.left.bits) ≡ true
+some_left : (c : In-loop-good) → some 64 (has c.loop-good.left.bits) ≡ true
 some_left c = not-false _ (sym c.is_empty.ensures ∙ not-true _ c.loop-good-test.true)
 
-abbrev start : goal.After-lowest-i → tie.Start invariant-loop decreases-loop
+abbrev start : After-lowest-i → tie.Start invariant-loop decreases-loop
 start c = c
 
 -- the lowest of them is a used row, and not changed yet
-used : (c : goal.After-lowest-i) → Within (used_of (start c).args.t.now) c.lowest-i.result
+used : (c : After-lowest-i) → Within (used_of (start c).args.t.now) c.lowest-i.result
 used c =
     let s = start c in
     s.pre.3 _ (in-set c.loop-good.invariant.1 (some_left c.before) c.lowest-i.ensures)
 
-new : (c : goal.After-lowest-i) → c.loop-good.invariant.0 c.lowest-i.result ≡ false
+new : (c : After-lowest-i) → c.loop-good.invariant.0 c.lowest-i.result ≡ false
 new c = not_yet c.loop-good.invariant.1 (some_left c.before) c.lowest-i.ensures
 
 pub row_length-size-requires : goal.row_length-size-requires
@@ -60,7 +61,7 @@ pub slice_bounds-write_row-end : goal.slice_bounds-write_row-end
 slice_bounds-write_row-end c = omega (arith, turn-fits c.loop-good.invariant.2 (used c) (new c), done-long c.loop-good.invariant.2)
 
 -- a copy is as long as the file says
-copy_is : (c : goal.After-lowest-i) → c.copy_size-copy.result ≡ copy_length (file_length_of (start c).args.t.now)
+copy_is : (c : After-lowest-i) → c.copy_size-copy.result ≡ copy_length (file_length_of (start c).args.t.now)
 copy_is c = c.copy_size-copy.ensures ∙ ap copy_length c.file_length.ensures
 
 pub write_row-requires : goal.write_row-requires

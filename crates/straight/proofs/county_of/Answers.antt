@@ -30,11 +30,11 @@ returns-then-is_county c =
                         let y = sym c.is_county.ensures ∙ c.if-is_county.true in
     λ e. (
       record {
-        link = c.leads_on.ensures (not-false _ c.if-not-leads_on.false);
+        link = c.leads_on.ensures (c.if-not-leads_on.false);
         gap = sym c.u16_at.ensures ∙ c.if-u16_at-ne0.false;
         own =
             ap (λ (i : ℕ). has (get members c.args.row.now) i) (sym (place c.args.i (omega arith)))
-            ∙ ap (λ (b : ℕ). has b ((c.args.i - 1) % 64 + 1)) (sym c.members.ensures) ∙ sym c.at.ensures ∙ not-false _ c.if-not-at.false;
+            ∙ ap (λ (b : ℕ). has b ((c.args.i - 1) % 64 + 1)) (sym c.members.ensures) ∙ sym c.at.ensures ∙ c.if-not-at.false;
         rest = county-rest c.args.row.now _ c.requires.2 c.u32_at-wide.ensures z y;
         placed = county-few c.args.row.now _ c.requires.2 c.u32_at-wide.ensures z y;
       },

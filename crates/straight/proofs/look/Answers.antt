@@ -9,21 +9,22 @@ use Rattle.grouping.specs.Grouped.{county_by}
 use Rattle.table.proofs.WellFormedLaws.{header, few-rows, long}
 use Rattle.straight.specs.Straight.{Placed, Settled}
 use Rattle.straight.proofs.PassLaws.{Passed, none_passed, one-passed, grouped, straight}
+use Rattle.straight.proofs.look.Goals.{After-loop-k, After-row_size-size, Else-county-eq0, In-loop-k}
 use Rattle.straight.proofs.look.Goals as goal
 
 -- rows are as long as was found
-size_is : (c : goal.After-row_size-size) → c.row_size-size.result ≡ row_length c.args.t.now
+size_is : (c : After-row_size-size) → c.row_size-size.result ≡ row_length c.args.t.now
 unfolding row_length
 size_is c = c.row_size-size.ensures ∙ ap₂ stride c.files.ensures c.file_length.ensures ∙ sym (stride-late _ _ _ c.requires.1)
 
 -- the row of this turn is a used one
-turn : (c : goal.In-loop-k) → Within (used_of c.args.t.now) (c.loop-k.k + 1) × (c.loop-k.k < 64)
+turn : (c : In-loop-k) → Within (used_of c.args.t.now) (c.loop-k.k + 1) × (c.loop-k.k < 64)
 turn c =
         let w : Within (used_of c.args.t.now) (c.loop-k.k + 1) = omega (arith, c.loop-k-test.true, c.used-used.ensures) in
     (w, omega (arith, w, few-rows c.requires.0))
 
 -- and this is known of it
-placed : (c : goal.Else-county-eq0) →         let t = c.args.t.now in
+placed : (c : Else-county-eq0) →         let t = c.args.t.now in
     Placed (used_of t) (c.loop-k.k + 1) (row_bytes t (c.loop-k.k + 1)) × (c.county_of-county.result ≡ get county (row_bytes t (c.loop-k.k + 1)))
 placed c =
         rw (c.used-used.ensures, c.row_at-row.ensures.0) at (c.county_of-county.ensures (omega (arith, c.if-county-eq0.false)))
@@ -110,7 +111,7 @@ loop-k-preserved c =
     (placed (goal.at.loop-k-preserved c).Else-county-eq0).0 (c.other_with-other.ensures (omega (arith, c.if-other-eq0.false))) (c.put.ensures _ (sym (placed (goal.at.loop-k-preserved c).Else-county-eq0).1) l.invariant.filled)
 
 -- all were passed
-all-passed : (c : goal.After-loop-k) →     let t = c.args.t.now in
+all-passed : (c : After-loop-k) →     let t = c.args.t.now in
     Passed t c.loop-k.sets (used_of t) c.loop-k.other c.loop-k.low
 all-passed c =
         let t = c.args.t.now in

@@ -4,10 +4,11 @@ use borrow.Author.Rules.{rules}
 use native.Mathlib.Omega.{arith}
 use Prim.Native.Nat.{◌-◌, ◌≤◌, ◌<◌}
 use mathlib.Core.Path.{refl}
+use Rattle.surveys.proofs.look_through.Goals.{In-loop-k}
 use Rattle.surveys.proofs.look_through.Goals as goal
 
 -- there are eight files at most
-eight : (c : goal.In-loop-k) → c.loop-k.k < 8
+eight : (c : In-loop-k) → c.loop-k.k < 8
 eight c =
         omega (arith, c.loop-k-test.true, c.files-files.ensures, (header c.requires.0.header).files)
 

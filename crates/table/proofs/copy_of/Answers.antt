@@ -7,10 +7,11 @@ use lib.ListN.{length}
 use Rattle.fields.specs.Layout.{copy_length, copy_in, copy_bytes, file_length_of, files_of, row_bytes}
 use Rattle.fields.proofs.FieldLaws.{stride-is, row-newest}
 use Rattle.table.proofs.WellFormedLaws.{header, long, length-row}
+use Rattle.table.proofs.copy_of.Goals.{After-copy_size}
 use Rattle.table.proofs.copy_of.Goals as goal
 
 -- the copies are as long as the file asks for
-size_is : (c : goal.After-copy_size) → c.copy_size.result ≡ copy_length (file_length_of c.args.t.now)
+size_is : (c : After-copy_size) → c.copy_size.result ≡ copy_length (file_length_of c.args.t.now)
 size_is c = c.copy_size.ensures ∙ ap copy_length c.file_length.ensures
 
 pub file_length-requires : goal.file_length-requires

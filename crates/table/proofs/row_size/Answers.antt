@@ -4,10 +4,11 @@ use native.Mathlib.Nat.{mul-le-mul}
 use native.Mathlib.Omega.{arith}
 use borrow.Author.Rules.{rules}
 use Rattle.fields.proofs.FieldLaws.{copy_is, stride-is}
+use Rattle.table.proofs.row_size.Goals.{After-copy_size}
 use Rattle.table.proofs.row_size.Goals as goal
 
 -- the product is small
-small : (c : goal.After-copy_size) → c.args.files * c.copy_size.result ≤ 8 * 4_684
+small : (c : After-copy_size) → c.args.files * c.copy_size.result ≤ 8 * 4_684
 small c =
     let l : c.copy_size.result ≤ 4_684 = omega (arith, c.copy_size.ensures, copy_is c.args.file, c.requires.1) in
     mul-le-mul c.requires.0 l

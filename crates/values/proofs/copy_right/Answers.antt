@@ -13,20 +13,21 @@ use lib.Dec.{eqb}
 use lib.ListN.{length}
 use mathlib.Core.Path.{◌≡◌, refl, sym, ◌∙◌}
 use borrow.Author.Rules.{rules}
+use Rattle.values.proofs.copy_right.Goals.{After-both, After-desired, Else-version-gt-LIMIT, Then-version-gt-LIMIT}
 use Rattle.values.proofs.copy_right.Goals as goal
 
 -- the version is within the limit
-within : (c : goal.Else-version-gt-LIMIT) → get version c.args.copy.now ≤ limit
+within : (c : Else-version-gt-LIMIT) → get version c.args.copy.now ≤ limit
 unfolding limit
 within c = omega (arith, c.version-version.ensures, c.if-version-gt-LIMIT.false)
 
 -- the first four bytes are 0: desired version and window are left to be asked
-bare : (c : goal.After-desired) (b : Bool) → eqb c.desired.result 0 ≡ b →     (b && kept_right form_value c.args.file c.args.copy.now) ≡ copy_right form_value c.args.file c.args.copy.now
+bare : (c : After-desired) (b : Bool) → eqb c.desired.result 0 ≡ b →     (b && kept_right form_value c.args.file c.args.copy.now) ≡ copy_right form_value c.args.file c.args.copy.now
 bare c b e =
             rw (← e, c.desired.ensures) (bare-asked c.args.copy.now (sym c.u32_at.ensures ∙ c.if-u32_at-eq0.true) c.args.file (within c.before.before.before))
 
 -- all but the window was tested together
-asked : (c : goal.After-both) (b : Bool) → c.both.result ≡ b → let a = c.args in
+asked : (c : After-both) (b : Bool) → c.both.result ≡ b → let a = c.args in
     copy_right form_value a.file a.copy.now ≡ (b && kept_right form_value a.file a.copy.now)
 unfolding form_value mark_in spare_in spare
 asked c b e =
@@ -35,7 +36,7 @@ asked c b e =
     ∙ rw (sym e ∙ c.both.ensures, c.u16_at.ensures, c.copy_numbers-numbers.ensures, c.desired-2.ensures, c.mark.ensures, c.version-version.ensures, zero_number (part 2 2 a.copy.now))
 
 -- it is beyond
-over : (c : goal.Then-version-gt-LIMIT) → limit < get version c.args.copy.now
+over : (c : Then-version-gt-LIMIT) → limit < get version c.args.copy.now
 unfolding limit
 over c = omega (arith, c.version-version.ensures, c.if-version-gt-LIMIT.true)
 
@@ -54,11 +55,11 @@ returns-then-u32_at-eq0 c =
     ∙ bare (goal.at.returns-then-u32_at-eq0 c).After-desired true (eq-eqb c.desired.result 0 c.if-desired-ne0.false)
 
 pub returns-then-not-both : goal.returns-then-not-both
-returns-then-not-both c = sym (asked (goal.at.returns-then-not-both c).After-both false (not-true _ c.if-not-both.true))
+returns-then-not-both c = sym (asked (goal.at.returns-then-not-both c).After-both false (c.if-not-both.true))
 
 pub returns : goal.returns
 unfolding form_value oldest_in
 returns c =
                     c.window_right.ensures
     ∙ cut-kept c.args.copy.now (length c.args.copy.now - 576) (omega (arith, c.requires)) form_value c.args.file _ _ (omega arith) c.version-version.ensures c.oldest-oldest.ensures
-    ∙ sym (asked (goal.at.returns c).After-both true (not-false _ c.if-not-both.false))
+    ∙ sym (asked (goal.at.returns c).After-both true (c.if-not-both.false))

@@ -9,6 +9,7 @@ use borrow.Author.Rules.{rules}
 use borrow.Author.Tests.{eqb-true, lt-ltb}
 use Rattle.fields.specs.Layout.{list, is_empty}
 use Rattle.table.specs.WellFormed.{only_rows, list_right}
+use Rattle.values.proofs.list_right.Goals.{Start}
 use Rattle.values.proofs.list_right.Goals as goal
 
 -- a list that its own row is not on must be empty, and then names no row at all
@@ -25,7 +26,7 @@ exempt n m false = go (eqb m 0) refl
     go false e = sym (and-false (only_rows n m))
 
 -- row i stands at place i - 1
-place : (c : goal.Start) → (c.args.i - 1) % 64 + 1 ≡ c.args.i
+place : (c : Start) → (c.args.i - 1) % 64 + 1 ≡ c.args.i
 place c = let e : (c.args.i - 1) % 64 ≡ c.args.i - 1 = mod-eq_of_lt (omega arith) in omega arith
 
 pub returns : goal.returns

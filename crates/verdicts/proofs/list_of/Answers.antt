@@ -7,10 +7,11 @@ use Rattle.fields.proofs.FieldLaws.{no-row-no-list}
 use Rattle.sets.proofs.UptoLaws.{lowest-in}
 use Rattle.sets.specs.Sets.{has}
 use Rattle.sets.specs.Upto.{lowest}
+use Rattle.verdicts.proofs.list_of.Goals.{Else-leader-eq0}
 use Rattle.verdicts.proofs.list_of.Goals as goal
 
 -- some row is found
-found : (c : goal.Else-leader-eq0) → 1 ≤ lowest 64 (has c.args.leaders.bits)
+found : (c : Else-leader-eq0) → 1 ≤ lowest 64 (has c.args.leaders.bits)
 found c = let one : 1 ≤ c.lowest-leader.result = omega arith in rw c.lowest-leader.ensures at one
 
 pub returns-then-leader-eq0 : goal.returns-then-leader-eq0

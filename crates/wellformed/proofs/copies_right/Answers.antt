@@ -11,10 +11,11 @@ use native.Mathlib.Nat.{mul-le-mul_right}
 use Prim.Native.Nat.{ℕ, ◌+◌, ◌-◌, ◌*◌, ◌≤◌}
 use mathlib.Core.Path.{◌≡◌, refl, sym, ◌∙◌, ap}
 use mathlib.Core.Bool.{true}
+use Rattle.wellformed.proofs.copies_right.Goals.{After-copy_right}
 use Rattle.wellformed.proofs.copies_right.Goals as goal
 
 -- what was found of the copy at hand
-found : (c : goal.After-copy_right) → let a = c.args in
+found : (c : After-copy_right) → let a = c.args in
     copy_right form_value a.file (copy_in a.file (c.loop-q.q + 1) a.row.now) ≡ c.copy_right.result
 unfolding copy_in
 found c =
@@ -38,12 +39,12 @@ pub copy_right-requires : goal.copy_right-requires
 copy_right-requires c = c.copy_in.ensures.1 ∙ c.copy_size-size.ensures ∙ copy_is c.args.file
 
 pub returns-then-not-copy_right : goal.returns-then-not-copy_right
-returns-then-not-copy_right c = every-not _ _ (c.loop-q.q + 1) (omega (arith, c.loop-q-test.true)) (found (goal.at.returns-then-not-copy_right c).After-copy_right ∙ not-true _ c.if-not-copy_right.true)
+returns-then-not-copy_right c = every-not _ _ (c.loop-q.q + 1) (omega (arith, c.loop-q-test.true)) (found (goal.at.returns-then-not-copy_right c).After-copy_right ∙ c.if-not-copy_right.true)
 
 pub loop-q-preserved : goal.loop-q-preserved
 loop-q-preserved c =
         let l = c.loop-q in
-    (omega (arith, c.loop-q-test.true), every_more _ l.q l.invariant.1 (found (goal.at.loop-q-preserved c).After-copy_right ∙ not-false _ c.if-not-copy_right.false))
+    (omega (arith, c.loop-q-test.true), every_more _ l.q l.invariant.1 (found (goal.at.loop-q-preserved c).After-copy_right ∙ c.if-not-copy_right.false))
 
 pub returns : goal.returns
 returns c =

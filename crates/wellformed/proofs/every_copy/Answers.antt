@@ -10,19 +10,20 @@ use native.Mathlib.Omega.{arith}
 use Prim.Native.Nat.{ℕ, ◌+◌, ◌-◌, ◌≤◌}
 use mathlib.Core.Path.{◌≡◌, refl, sym, ◌∙◌, ap, ap₂}
 use mathlib.Core.Bool.{true}
+use Rattle.wellformed.proofs.every_copy.Goals.{After-copies_right, After-row_size-size, In-loop-k}
 use Rattle.wellformed.proofs.every_copy.Goals as goal
 
 -- the row at hand is used
-within : (c : goal.In-loop-k) → Within (used_of c.args.t.now) (c.loop-k.k + 1)
+within : (c : In-loop-k) → Within (used_of c.args.t.now) (c.loop-k.k + 1)
 within c = omega (arith, c.loop-k-test.true, c.used-used.ensures)
 
 -- rows are as long as was found
-size_is : (c : goal.After-row_size-size) → c.row_size-size.result ≡ row_length c.args.t.now
+size_is : (c : After-row_size-size) → c.row_size-size.result ≡ row_length c.args.t.now
 unfolding row_length
 size_is c = c.row_size-size.ensures ∙ ap₂ stride c.files-files.ensures c.file_length-file.ensures ∙ sym (stride-late _ _ _ c.requires.1)
 
 -- what was found of it
-found : (c : goal.After-copies_right) → copies c.args.t.now (c.loop-k.k + 1) ≡ c.copies_right.result
+found : (c : After-copies_right) → copies c.args.t.now (c.loop-k.k + 1) ≡ c.copies_right.result
 found c =
             sym (c.copies_right.ensures ∙ copies-by _ _ _ _ _ c.files-files.ensures c.file_length-file.ensures c.row_at-row.ensures.0)
 
@@ -60,7 +61,7 @@ copies_right-requires c =
 
 pub returns-then-not-copies_right : goal.returns-then-not-copies_right
 unfolding copies
-returns-then-not-copies_right c = every-not _ _ (c.loop-k.k + 1) (within (goal.at.returns-then-not-copies_right c).In-loop-k) (found (goal.at.returns-then-not-copies_right c).After-copies_right ∙ not-true _ c.if-not-copies_right.true)
+returns-then-not-copies_right c = every-not _ _ (c.loop-k.k + 1) (within (goal.at.returns-then-not-copies_right c).In-loop-k) (found (goal.at.returns-then-not-copies_right c).After-copies_right ∙ c.if-not-copies_right.true)
 
 pub loop-k-smaller : goal.loop-k-smaller
 loop-k-smaller c = omega (arith, c.loop-k-test.true)
@@ -68,7 +69,7 @@ loop-k-smaller c = omega (arith, c.loop-k-test.true)
 pub loop-k-preserved : goal.loop-k-preserved
 loop-k-preserved c =
         let l = c.loop-k in
-    (omega (arith, c.loop-k-test.true), every_more _ l.k l.invariant.1 (found (goal.at.loop-k-preserved c).After-copies_right ∙ not-false _ c.if-not-copies_right.false))
+    (omega (arith, c.loop-k-test.true), every_more _ l.k l.invariant.1 (found (goal.at.loop-k-preserved c).After-copies_right ∙ c.if-not-copies_right.false))
 
 pub returns : goal.returns
 unfolding copies

@@ -8,14 +8,15 @@ use native.Mathlib.Omega.{arith}
 use Prim.Native.Nat.{ℕ, ◌+◌, ◌-◌, ◌≤◌}
 use mathlib.Core.Path.{◌≡◌, refl, sym, ◌∙◌, ap}
 use mathlib.Core.Bool.{true}
+use Rattle.wellformed.proofs.every_former_head.Goals.{After-former_head_right, In-loop-k}
 use Rattle.wellformed.proofs.every_former_head.Goals as goal
 
 -- the row at hand is used
-within : (c : goal.In-loop-k) → Within (used_of c.args.t.now) (c.loop-k.k + 1)
+within : (c : In-loop-k) → Within (used_of c.args.t.now) (c.loop-k.k + 1)
 within c = omega (arith, c.loop-k-test.true, c.used-used.ensures)
 
 -- what was found of it
-found : (c : goal.After-former_head_right) → head c.args.t.now (c.loop-k.k + 1) ≡ c.former_head_right.result
+found : (c : After-former_head_right) → head c.args.t.now (c.loop-k.k + 1) ≡ c.former_head_right.result
 unfolding head
 found c =
             sym (c.former_head_right.ensures ∙ rw (c.form-form.ensures, c.used-used.ensures, c.row_at.ensures.0))
@@ -46,7 +47,7 @@ former_head_right-requires c =
 
 pub returns-then-not-former_head_right : goal.returns-then-not-former_head_right
 unfolding head
-returns-then-not-former_head_right c = every-not _ _ (c.loop-k.k + 1) (within (goal.at.returns-then-not-former_head_right c).In-loop-k) (found (goal.at.returns-then-not-former_head_right c).After-former_head_right ∙ not-true _ c.if-not-former_head_right.true)
+returns-then-not-former_head_right c = every-not _ _ (c.loop-k.k + 1) (within (goal.at.returns-then-not-former_head_right c).In-loop-k) (found (goal.at.returns-then-not-former_head_right c).After-former_head_right ∙ c.if-not-former_head_right.true)
 
 pub loop-k-smaller : goal.loop-k-smaller
 loop-k-smaller c = omega (arith, c.loop-k-test.true)
@@ -54,7 +55,7 @@ loop-k-smaller c = omega (arith, c.loop-k-test.true)
 pub loop-k-preserved : goal.loop-k-preserved
 loop-k-preserved c =
         let l = c.loop-k in
-    (omega (arith, c.loop-k-test.true), every_more _ l.k l.invariant.1 (found (goal.at.loop-k-preserved c).After-former_head_right ∙ not-false _ c.if-not-former_head_right.false))
+    (omega (arith, c.loop-k-test.true), every_more _ l.k l.invariant.1 (found (goal.at.loop-k-preserved c).After-former_head_right ∙ c.if-not-former_head_right.false))
 
 pub returns : goal.returns
 unfolding head

@@ -9,19 +9,20 @@ use native.Mathlib.Omega.{arith}
 use Prim.Native.Nat.{ℕ, ◌+◌, ◌-◌, ◌≤◌}
 use mathlib.Core.Path.{◌≡◌, refl, sym, ◌∙◌, ap, ap₂}
 use mathlib.Core.Bool.{true}
+use Rattle.wellformed.proofs.every_head.Goals.{After-head_right, After-row_size-size, In-loop-k}
 use Rattle.wellformed.proofs.every_head.Goals as goal
 
 -- the row at hand is used
-within : (c : goal.In-loop-k) → Within (used_of c.args.t.now) (c.loop-k.k + 1)
+within : (c : In-loop-k) → Within (used_of c.args.t.now) (c.loop-k.k + 1)
 within c = omega (arith, c.loop-k-test.true, c.used-used.ensures)
 
 -- rows are as long as was found
-size_is : (c : goal.After-row_size-size) → c.row_size-size.result ≡ row_length c.args.t.now
+size_is : (c : After-row_size-size) → c.row_size-size.result ≡ row_length c.args.t.now
 unfolding row_length form_value
 size_is c = c.row_size-size.ensures ∙ ap₂ stride c.files.ensures c.file_length.ensures ∙ sym (stride-late _ _ _ (omega (arith, c.requires.1)))
 
 -- what was found of it
-found : (c : goal.After-head_right) → head c.args.t.now (c.loop-k.k + 1) ≡ c.head_right.result
+found : (c : After-head_right) → head c.args.t.now (c.loop-k.k + 1) ≡ c.head_right.result
 unfolding head
 found c =
                 sym (c.head_right.ensures ∙ rw (c.requires.1, c.used-used.ensures, c.row_at.ensures.0))
@@ -54,7 +55,7 @@ head_right-requires c =
 
 pub returns-then-not-head_right : goal.returns-then-not-head_right
 unfolding head
-returns-then-not-head_right c = every-not _ _ (c.loop-k.k + 1) (within (goal.at.returns-then-not-head_right c).In-loop-k) (found (goal.at.returns-then-not-head_right c).After-head_right ∙ not-true _ c.if-not-head_right.true)
+returns-then-not-head_right c = every-not _ _ (c.loop-k.k + 1) (within (goal.at.returns-then-not-head_right c).In-loop-k) (found (goal.at.returns-then-not-head_right c).After-head_right ∙ c.if-not-head_right.true)
 
 pub loop-k-smaller : goal.loop-k-smaller
 loop-k-smaller c = omega (arith, c.loop-k-test.true)
@@ -62,7 +63,7 @@ loop-k-smaller c = omega (arith, c.loop-k-test.true)
 pub loop-k-preserved : goal.loop-k-preserved
 loop-k-preserved c =
         let l = c.loop-k in
-    (omega (arith, c.loop-k-test.true), every_more _ l.k l.invariant.1 (found (goal.at.loop-k-preserved c).After-head_right ∙ not-false _ c.if-not-head_right.false))
+    (omega (arith, c.loop-k-test.true), every_more _ l.k l.invariant.1 (found (goal.at.loop-k-preserved c).After-head_right ∙ c.if-not-head_right.false))
 
 pub returns : goal.returns
 unfolding head

@@ -11,26 +11,27 @@ use native.Mathlib.Omega.{arith}
 use Prim.Native.Nat.{ℕ, ◌+◌, ◌-◌, ◌≤◌, ◌<◌}
 use mathlib.Core.Path.{◌≡◌, refl, sym, ◌∙◌, ap}
 use mathlib.Core.Bool.{true}
+use Rattle.wellformed.proofs.former_right.Goals.{After-former_copy_right, After-former_head_right, In-loop-k}
 use Rattle.wellformed.proofs.former_right.Goals as goal
 
 -- the row at hand is used
-within : (c : goal.In-loop-k) → Within (used_of c.args.t.now) (c.loop-k.k + 1)
+within : (c : In-loop-k) → Within (used_of c.args.t.now) (c.loop-k.k + 1)
 within c = omega (arith, c.loop-k-test.true, c.used-used.ensures)
 
-old : (c : goal.In-loop-k) → form_of c.args.t.now < 4
+old : (c : In-loop-k) → form_of c.args.t.now < 4
 old c = c.requires.1
 
-given : (c : goal.In-loop-k) → Within 3 c.form-form.result
+given : (c : In-loop-k) → Within 3 c.form-form.result
 given c =
         omega (arith, c.form-form.ensures, old c, (header c.requires.0.header).form)
 
 -- what was found of it
-head-found : (c : goal.After-former_head_right) → let t = c.args.t.now in
+head-found : (c : After-former_head_right) → let t = c.args.t.now in
     head_right (form_of t) (used_of t) (c.loop-k.k + 1) (row_bytes t (c.loop-k.k + 1)) ≡ c.former_head_right.result
 head-found c =
             sym (c.former_head_right.ensures ∙ rw (c.form-form.ensures, c.used-used.ensures, c.row_of-row.ensures.0))
 
-copy-found : (c : goal.After-former_copy_right) → let t = c.args.t.now in
+copy-found : (c : After-former_copy_right) → let t = c.args.t.now in
     copy_right (form_of t) (file_length_of t) (row_bytes t (c.loop-k.k + 1)) ≡ c.former_copy_right.result
 copy-found c =
             sym (c.former_copy_right.ensures ∙ rw (c.form-form.ensures, c.file_length-file.ensures, c.row_of-row.ensures.0))
@@ -57,7 +58,7 @@ former_head_right-requires c =
 
 pub returns-then-not-former_head_right : goal.returns-then-not-former_head_right
 returns-then-not-former_head_right c =
-        every-not _ _ (c.loop-k.k + 1) (within (goal.at.returns-then-not-former_head_right c).In-loop-k) (head-no _ _ (former-is _ _ (old (goal.at.returns-then-not-former_head_right c).In-loop-k)) (head-found (goal.at.returns-then-not-former_head_right c).After-former_head_right ∙ not-true _ c.if-not-former_head_right.true))
+        every-not _ _ (c.loop-k.k + 1) (within (goal.at.returns-then-not-former_head_right c).In-loop-k) (head-no _ _ (former-is _ _ (old (goal.at.returns-then-not-former_head_right c).In-loop-k)) (head-found (goal.at.returns-then-not-former_head_right c).After-former_head_right ∙ c.if-not-former_head_right.true))
 
 pub former_copy_right-requires : goal.former_copy_right-requires
 former_copy_right-requires c =
@@ -70,14 +71,14 @@ former_copy_right-requires c =
 pub returns-then-not-former_copy_right : goal.returns-then-not-former_copy_right
 returns-then-not-former_copy_right c =
             every-not _ _ (c.loop-k.k + 1) (within (goal.at.returns-then-not-former_copy_right c).In-loop-k)
-    (head-yes _ _ (former-is _ _ (old (goal.at.returns-then-not-former_copy_right c).In-loop-k)) (head-found (goal.at.returns-then-not-former_copy_right c).After-former_head_right ∙ not-false _ c.if-not-former_head_right.false) ∙ copy-found (goal.at.returns-then-not-former_copy_right c).After-former_copy_right ∙ not-true _ c.if-not-former_copy_right.true)
+    (head-yes _ _ (former-is _ _ (old (goal.at.returns-then-not-former_copy_right c).In-loop-k)) (head-found (goal.at.returns-then-not-former_copy_right c).After-former_head_right ∙ c.if-not-former_head_right.false) ∙ copy-found (goal.at.returns-then-not-former_copy_right c).After-former_copy_right ∙ c.if-not-former_copy_right.true)
 
 pub loop-k-preserved : goal.loop-k-preserved
 loop-k-preserved c =
             let l = c.loop-k in (
       omega (arith, c.loop-k-test.true),
       every_more _ l.k l.invariant.1
-          (head-yes _ _ (former-is _ _ (old (goal.at.loop-k-preserved c).In-loop-k)) (head-found (goal.at.loop-k-preserved c).After-former_head_right ∙ not-false _ c.if-not-former_head_right.false) ∙ copy-found (goal.at.loop-k-preserved c).After-former_copy_right ∙ not-false _ c.if-not-former_copy_right.false),
+          (head-yes _ _ (former-is _ _ (old (goal.at.loop-k-preserved c).In-loop-k)) (head-found (goal.at.loop-k-preserved c).After-former_head_right ∙ c.if-not-former_head_right.false) ∙ copy-found (goal.at.loop-k-preserved c).After-former_copy_right ∙ c.if-not-former_copy_right.false),
     )
 
 pub returns : goal.returns

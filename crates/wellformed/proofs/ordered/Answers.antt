@@ -20,6 +20,7 @@ use Rattle.table.proofs.ChainLaws.{left-unsized, left-former, left-wrong, left-l
 use Rattle.straight.specs.Straight.{Straight, numbered}
 use Rattle.straight.proofs.WalkLaws.{chain-right, numbered-order, numbered-left}
 use Rattle.wellformed.proofs.RowLaws.{head, copies, late, straight-heads, rows-by, sized-by}
+use Rattle.wellformed.proofs.ordered.Goals.{After-every_copy, After-every_copy-2, Else-form-ne-FORM, Else-not-every_copy, Else-not-every_copy-2, Else-not-sized, Then-look}
 use Rattle.wellformed.proofs.ordered.Goals as goal
 
 -- the whole table is lent on
@@ -38,39 +39,39 @@ by-former : (t : List ℕ) → (form_of t ≡ form_value → ⊥) → false ≡ 
 unfolding well_formed
 by-former t d = sym (rw (ne_eqb (form_of t) form_value d))
 
-sized-here : (c : goal.Else-not-sized) → Sized c.args.t.now
-sized-here c = sized-by _ (sym c.sized.ensures ∙ not-false _ c.if-not-sized.false)
+sized-here : (c : Else-not-sized) → Sized c.args.t.now
+sized-here c = sized-by _ (sym c.sized.ensures ∙ c.if-not-sized.false)
 
-newest-here : (c : goal.Else-form-ne-FORM) → form_of c.args.t.now ≡ form_value
+newest-here : (c : Else-form-ne-FORM) → form_of c.args.t.now ≡ form_value
 unfolding form_value
 newest-here c = sym c.form.ensures ∙ c.if-form-ne-FORM.false
 
 -- ---- as most calls meet it
-straight-here : (c : goal.Then-look) → Straight c.args.t.now
+straight-here : (c : Then-look) → Straight c.args.t.now
 straight-here c = rw (lent-all _) at (c.look.ensures c.if-look.true).0
 
-rows-here : (c : goal.After-every_copy) → every (used_of c.args.t.now) (row_right c.args.t.now) ≡ c.every_copy.result
+rows-here : (c : After-every_copy) → every (used_of c.args.t.now) (row_right c.args.t.now) ≡ c.every_copy.result
 unfolding head copies
 rows-here c =
         let t = c.args.t.now in
     rows-by t (newest-here c.before.before.before.before.before) true _ (straight-heads t (newest-here c.before.before.before.before.before) (straight-here c.before)) (sym (rw (lent-all t) at c.every_copy.ensures))
 
-linked-here : (c : goal.Else-not-every_copy) → Linked c.args.t.now
-linked-here c = record { sized = sized-here c.before.before.before.before.before.before.before.before; rows = rows-here c.before ∙ not-false _ c.if-not-every_copy.false }
+linked-here : (c : Else-not-every_copy) → Linked c.args.t.now
+linked-here c = record { sized = sized-here c.before.before.before.before.before.before.before.before; rows = rows-here c.before ∙ c.if-not-every_copy.false }
 
 -- ---- otherwise
-rows-asked : (c : goal.After-every_copy-2) → every (used_of c.args.t.now) (row_right c.args.t.now) ≡ c.every_copy-2.result
+rows-asked : (c : After-every_copy-2) → every (used_of c.args.t.now) (row_right c.args.t.now) ≡ c.every_copy-2.result
 unfolding head copies
 rows-asked c =
             let t = c.args.t.now in
-    rows-by t (newest-here c.before.before.before.before.before.before.before) true _ (sym (rw (lent-all t) at c.every_head.ensures) ∙ not-false _ c.if-not-every_head.false) (sym (rw (lent-all t) at c.every_copy-2.ensures))
+    rows-by t (newest-here c.before.before.before.before.before.before.before) true _ (sym (rw (lent-all t) at c.every_head.ensures) ∙ c.if-not-every_head.false) (sym (rw (lent-all t) at c.every_copy-2.ensures))
 
-linked-then : (c : goal.Else-not-every_copy-2) → Linked c.args.t.now
-linked-then c = record { sized = sized-here c.before.before.before.before.before.before.before.before.before.before; rows = rows-asked c.before ∙ not-false _ c.if-not-every_copy-2.false }
+linked-then : (c : Else-not-every_copy-2) → Linked c.args.t.now
+linked-then c = record { sized = sized-here c.before.before.before.before.before.before.before.before.before.before; rows = rows-asked c.before ∙ c.if-not-every_copy-2.false }
 
 pub returns-then-not-sized : goal.returns-then-not-sized
 returns-then-not-sized c =
-    let e = sym c.sized.ensures ∙ not-true _ c.if-not-sized.true in
+    let e = sym c.sized.ensures ∙ c.if-not-sized.true in
     (by-own _ (by_size _ e), λ z. absurd (clash z), left-unsized _ _ e, inr refl)
 
 pub form-requires : goal.form-requires
@@ -90,7 +91,7 @@ every_copy-requires c = rw (lent-all _) (sized-here (goal.at.every_copy-requires
 
 pub returns-then-not-every_copy : goal.returns-then-not-every_copy
 returns-then-not-every_copy c =
-        let w = rows-here (goal.at.returns-then-not-every_copy c).After-every_copy ∙ not-true _ c.if-not-every_copy.true in
+        let w = rows-here (goal.at.returns-then-not-every_copy c).After-every_copy ∙ c.if-not-every_copy.true in
     (by-own _ (by_rows _ (sized-here (goal.at.returns-then-not-every_copy c).Else-not-sized) w), λ z. absurd (clash z), left-wrong _ _ w, inr refl)
 
 pub used-requires : goal.used-requires
@@ -119,7 +120,7 @@ every_head-requires c = rw (lent-all _) (sized-here (goal.at.every_head-requires
 pub returns-then-not-every_head : goal.returns-then-not-every_head
 unfolding head
 returns-then-not-every_head c =
-        let w = rows-by _ (newest-here (goal.at.returns-then-not-every_head c).Else-form-ne-FORM) false _ (sym (rw (lent-all _) at c.every_head.ensures) ∙ not-true _ c.if-not-every_head.true) refl in
+        let w = rows-by _ (newest-here (goal.at.returns-then-not-every_head c).Else-form-ne-FORM) false _ (sym (rw (lent-all _) at c.every_head.ensures) ∙ c.if-not-every_head.true) refl in
     (by-own _ (by_rows _ (sized-here (goal.at.returns-then-not-every_head c).Else-not-sized) w), λ z. absurd (clash z), left-wrong _ _ w, inr refl)
 
 pub every_copy-requires-2 : goal.every_copy-requires-2
@@ -127,7 +128,7 @@ every_copy-requires-2 c = rw (lent-all _) (sized-here (goal.at.every_copy-requir
 
 pub returns-then-not-every_copy-2 : goal.returns-then-not-every_copy-2
 returns-then-not-every_copy-2 c =
-        let w = rows-asked (goal.at.returns-then-not-every_copy-2 c).After-every_copy-2 ∙ not-true _ c.if-not-every_copy-2.true in
+        let w = rows-asked (goal.at.returns-then-not-every_copy-2 c).After-every_copy-2 ∙ c.if-not-every_copy-2.true in
     (by-own _ (by_rows _ (sized-here (goal.at.returns-then-not-every_copy-2 c).Else-not-sized) w), λ z. absurd (clash z), left-wrong _ _ w, inr refl)
 
 pub framed-requires : goal.framed-requires

@@ -4,23 +4,24 @@ use borrow.Author.Rules.{rules}
 use Rattle.table.proofs.WellFormedLaws.{by_size, by_rows}
 use Rattle.table.specs.Asked.{Sized}
 use Rattle.wellformed.proofs.RowLaws.{sized-by}
+use Rattle.wellformed.proofs.own_form.Goals.{Else-not-sized}
 use Rattle.wellformed.proofs.own_form.Goals as goal
 
-sized-here : (c : goal.Else-not-sized) → Sized c.args.t.now
-sized-here c = sized-by _ (sym c.sized.ensures ∙ not-false _ c.if-not-sized.false)
+sized-here : (c : Else-not-sized) → Sized c.args.t.now
+sized-here c = sized-by _ (sym c.sized.ensures ∙ c.if-not-sized.false)
 
 pub returns-then-not-sized : goal.returns-then-not-sized
-returns-then-not-sized c = by_size _ (sym c.sized.ensures ∙ not-true _ c.if-not-sized.true)
+returns-then-not-sized c = by_size _ (sym c.sized.ensures ∙ c.if-not-sized.true)
 
 pub rows_right-requires : goal.rows_right-requires
 rows_right-requires c = sized-here c
 
 pub returns-then-not-rows_right : goal.returns-then-not-rows_right
-returns-then-not-rows_right c = by_rows _ (sized-here (goal.at.returns-then-not-rows_right c).Else-not-sized) (sym c.rows_right.ensures ∙ not-true _ c.if-not-rows_right.true)
+returns-then-not-rows_right c = by_rows _ (sized-here (goal.at.returns-then-not-rows_right c).Else-not-sized) (sym c.rows_right.ensures ∙ c.if-not-rows_right.true)
 
 pub framed-requires : goal.framed-requires
 framed-requires c =
-        record { sized = sized-here (goal.at.framed-requires c).Else-not-sized; rows = sym c.rows_right.ensures ∙ not-false _ c.if-not-rows_right.false }
+        record { sized = sized-here (goal.at.framed-requires c).Else-not-sized; rows = sym c.rows_right.ensures ∙ c.if-not-rows_right.false }
 
 pub returns : goal.returns
 returns c = c.framed.ensures.0

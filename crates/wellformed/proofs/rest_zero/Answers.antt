@@ -4,9 +4,10 @@ use Rattle.octets.specs.Bytes.{part, all_zero}
 use borrow.Author.Tests.{le-leb, lt-leb}
 use mathlib.Core.Path.{◌≡◌}
 use borrow.Author.Rules.{rules}
+use Rattle.wellformed.proofs.rest_zero.Goals.{After-both-rest}
 use Rattle.wellformed.proofs.rest_zero.Goals as goal
 
-tested : (c : goal.After-both-rest) → c.both-rest.result ≡ all_zero (part 7 9 c.args.t.now)
+tested : (c : After-both-rest) → c.both-rest.result ≡ all_zero (part 7 9 c.args.t.now)
 tested c = rw (c.both-rest.ensures, c.u64_at.ensures, c.u8_at.ensures) (zero-numbers 7 1 8 c.args.t.now)
 
 pub returns-then-form-lt-WITH_FILES : goal.returns-then-form-lt-WITH_FILES

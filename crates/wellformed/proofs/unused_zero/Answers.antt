@@ -8,13 +8,14 @@ use Rattle.table.proofs.WellFormedLaws.{header, long, rows_in}
 use Rattle.table.specs.WellFormed.{unused_zero}
 use Rattle.octets.proofs.CodeLaws.{tail-is}
 use Rattle.octets.specs.Bytes.{all_zero}
+use Rattle.wellformed.proofs.unused_zero.Goals.{After-rows_end-end}
 use Rattle.wellformed.proofs.unused_zero.Goals as goal
 
 -- where the used rows end, within the table
-end_is : (c : goal.After-rows_end-end) → let t = c.args.t.now in c.rows_end-end.result ≡ rows_end t (used_of t)
+end_is : (c : After-rows_end-end) → let t = c.args.t.now in c.rows_end-end.result ≡ rows_end t (used_of t)
 end_is c = c.rows_end-end.ensures ∙ ap (rows_end c.args.t.now) c.used.ensures
 
-inside : (c : goal.After-rows_end-end) → c.rows_end-end.result ≤ length c.args.t.now
+inside : (c : After-rows_end-end) → c.rows_end-end.result ≤ length c.args.t.now
 inside c = rw (end_is c) (rows_in c.requires (used_of c.args.t.now) (header c.requires.header).used.1)
 
 pub used-requires : goal.used-requires

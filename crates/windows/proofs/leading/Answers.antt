@@ -23,7 +23,7 @@ returns-then-not-head_right c =
       record {
         few = l.invariant.0;
         each = l.invariant.1;
-        ends = λ h. rw (← add-one l.k) (sym c.head_right.ensures ∙ not-true _ c.if-not-head_right.true);
+        ends = λ h. rw (← add-one l.k) (sym c.head_right.ensures ∙ c.if-not-head_right.true);
       },
       l.invariant.2,
     )
@@ -36,7 +36,7 @@ one_more-breaks-requires c =
 pub loop-k-preserved : goal.loop-k-preserved
 loop-k-preserved c =
             let l = c.loop-k in
-    (omega (arith, c.loop-k-test.true), every_more _ l.k l.invariant.1 (sym c.head_right.ensures ∙ not-false _ c.if-not-head_right.false), breaks-more _ l.k l.breaks _ _ l.invariant.2 c.next_of.ensures c.one_more-breaks.ensures)
+    (omega (arith, c.loop-k-test.true), every_more _ l.k l.invariant.1 (sym c.head_right.ensures ∙ c.if-not-head_right.false), breaks-more _ l.k l.breaks _ _ l.invariant.2 c.next_of.ensures c.one_more-breaks.ensures)
 
 pub returns : goal.returns
 returns c =

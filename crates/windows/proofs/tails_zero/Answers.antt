@@ -11,13 +11,14 @@ use Rattle.octets.proofs.CodeLaws.{part-is, part_length}
 use Rattle.blocks.specs.Blocks.{block}
 use Rattle.windows.specs.Visits.{tail_zero, Short}
 use Rattle.windows.proofs.ZeroLaws.{short-part, tails-turn, tails-more, tails-wrong}
+use Rattle.windows.proofs.tails_zero.Goals.{After-four_zero, In-loop-i}
 use Rattle.windows.proofs.tails_zero.Goals as goal
 
 -- four records more are there
-room : (c : goal.In-loop-i) → c.loop-i.i * 36 + 144 ≤ length c.args.records.now
+room : (c : In-loop-i) → c.loop-i.i * 36 + 144 ≤ length c.args.records.now
 room c = omega (arith, c.loop-i.invariant.0, c.loop-i-test.true, c.requires.1, c.requires.2)
 
-turn : (c : goal.After-four_zero) →     every (c.loop-i.i + 4) (λ x. tail_zero (block 0 36 x c.args.records.now)) ≡ c.four_zero.result
+turn : (c : After-four_zero) →     every (c.loop-i.i + 4) (λ x. tail_zero (block 0 36 x c.args.records.now)) ≡ c.four_zero.result
 turn c =
         let l = c.loop-i in
     let records = c.args.records.now in
@@ -45,7 +46,7 @@ four_zero-requires c =
 
 pub returns-then-not-four_zero : goal.returns-then-not-four_zero
 returns-then-not-four_zero c =
-            tails-wrong c.args.records.now c.args.k (c.loop-i.i + 4) c.requires.3 c.requires.2 (omega (arith, c.loop-i.invariant.0, c.loop-i-test.true, c.requires.1, c.requires.2)) (turn (goal.at.returns-then-not-four_zero c).After-four_zero ∙ not-true _ c.if-not-four_zero.true)
+            tails-wrong c.args.records.now c.args.k (c.loop-i.i + 4) c.requires.3 c.requires.2 (omega (arith, c.loop-i.invariant.0, c.loop-i-test.true, c.requires.1, c.requires.2)) (turn (goal.at.returns-then-not-four_zero c).After-four_zero ∙ c.if-not-four_zero.true)
 
 pub loop-i-smaller : goal.loop-i-smaller
 loop-i-smaller c = omega (arith, c.loop-i-test.true, room (goal.at.loop-i-smaller c).In-loop-i)
@@ -53,7 +54,7 @@ loop-i-smaller c = omega (arith, c.loop-i-test.true, room (goal.at.loop-i-smalle
 pub loop-i-preserved : goal.loop-i-preserved
 loop-i-preserved c =
         let l = c.loop-i in
-    (omega (arith, l.invariant.0), omega (arith, l.invariant.0, c.loop-i-test.true, c.requires.1, c.requires.2), turn (goal.at.loop-i-preserved c).After-four_zero ∙ not-false _ c.if-not-four_zero.false)
+    (omega (arith, l.invariant.0), omega (arith, l.invariant.0, c.loop-i-test.true, c.requires.1, c.requires.2), turn (goal.at.loop-i-preserved c).After-four_zero ∙ c.if-not-four_zero.false)
 
 pub returns : goal.returns
 returns c =

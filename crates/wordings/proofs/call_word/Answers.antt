@@ -6,43 +6,43 @@ use Rattle.wordings.proofs.call_word.Goals as goal
 
 pub returns-in-1 : goal.returns-in-1
 unfolding padded spaces in_bytes word words
-returns-in-1 c = word-by c.in-1.keys1
+returns-in-1 c = word-by c.in-1.is
 
 pub returns-in-2 : goal.returns-in-2
 unfolding padded spaces in_bytes word words
-returns-in-2 c = word-by c.in-1.keys2
+returns-in-2 c = word-by c.in-2.is
 
 pub returns-in-3 : goal.returns-in-3
 unfolding padded spaces in_bytes word words
-returns-in-3 c = word-by c.in-1.keys3
+returns-in-3 c = word-by c.in-3.is
 
 pub returns-in-4 : goal.returns-in-4
 unfolding padded spaces in_bytes word words
-returns-in-4 c = word-by c.in-1.keys4
+returns-in-4 c = word-by c.in-4.is
 
 pub returns-in-5 : goal.returns-in-5
 unfolding padded spaces in_bytes word words
-returns-in-5 c = word-by c.in-1.keys5
+returns-in-5 c = word-by c.in-5.is
 
 pub returns-in-6 : goal.returns-in-6
 unfolding padded spaces in_bytes word words
-returns-in-6 c = word-by c.in-1.keys6
+returns-in-6 c = word-by c.in-6.is
 
 pub returns-in-7 : goal.returns-in-7
 unfolding padded spaces in_bytes word words
-returns-in-7 c = word-by c.in-1.keys7
+returns-in-7 c = word-by c.in-7.is
 
 pub returns-in-8 : goal.returns-in-8
 unfolding padded spaces in_bytes word words
-returns-in-8 c = word-by c.in-1.keys8
+returns-in-8 c = word-by c.in-8.is
 
 pub returns-in-9 : goal.returns-in-9
 unfolding padded spaces in_bytes word words
-returns-in-9 c = word-by c.in-1.keys9
+returns-in-9 c = word-by c.in-9.is
 
 pub returns-in-10 : goal.returns-in-10
 unfolding padded spaces in_bytes word words
-returns-in-10 c = word-by c.in-1.keys10
+returns-in-10 c = word-by c.in-10.is
 
 pub returns-in-0 : goal.returns-in-0
 unfolding padded spaces in_bytes word words

@@ -8,28 +8,29 @@ use Rattle.sheet.specs.Sheet.{sheet_right}
 use Rattle.protocol.specs.Calls.{Writing, write, outcome, result_of, noted, lent_sheet}
 use Rattle.settle.proofs.SettleLaws.{known-none}
 use Rattle.effects.proofs.WriteLaws.{one-no, may-count, counted-or-not}
+use Rattle.writes.proofs.write.Goals.{After-answer-a, After-both, Else-not-both, Start}
 use Rattle.writes.proofs.write.Goals as goal
 
 -- the arguments of the call
-abbrev writing : goal.Start → Writing
+abbrev writing : Start → Writing
 writing s = record { c = s.args.c; r = s.args.r; offset = s.args.offset; patch = s.args.patch.now; called = s.args.called.now; file = s.args.file; sheet = s.args.sheet.now; club = s.args.club }
 
 -- question 1, as it was asked of sheet and table
-one : (c : goal.After-both) → (sheet_right c.args.sheet.now && well_formed c.args.t.now) ≡ c.both.result
+one : (c : After-both) → (sheet_right c.args.sheet.now && well_formed c.args.t.now) ≡ c.both.result
 one c = sym (c.both.ensures ∙ ap₂ ◌&&◌ c.look-told.ensures.0 c.ordered.ensures.0)
 
 pub returns-then-not-both : goal.returns-then-not-both
 unfolding lent_sheet
 returns-then-not-both c =
-                    let no = one-no c.args.t.now (writing (goal.at.returns-then-not-both c).Start) (one (goal.at.returns-then-not-both c).After-both ∙ not-true _ c.if-not-both.true) in
+                    let no = one-no c.args.t.now (writing (goal.at.returns-then-not-both c).Start) (one (goal.at.returns-then-not-both c).After-both ∙ c.if-not-both.true) in
     (c.result.ensures ∙ no.0.result, no.0.table, refl, c.note.ensures ∙ no.1, no.0.sheet)
 
 -- both are right
-right : (c : goal.Else-not-both) → (sheet_right c.args.sheet.now ≡ true) × (well_formed c.args.t.now ≡ true)
-right c = let e = one c.before ∙ not-false _ c.if-not-both.false in (and_l _ _ e, and_r (sheet_right _) _ e)
+right : (c : Else-not-both) → (sheet_right c.args.sheet.now ≡ true) × (well_formed c.args.t.now ≡ true)
+right c = let e = one c.before ∙ c.if-not-both.false in (and_l _ _ e, and_r (sheet_right _) _ e)
 
 -- so the call answers as it does with this byte and this sheet
-answered : (c : goal.After-answer-a) →     let o = outcome c.args.t.now (write (writing c.before.before.before.before.before.before.before.before.before.before.before.before.before.before)) in
+answered : (c : After-answer-a) →     let o = outcome c.args.t.now (write (writing c.before.before.before.before.before.before.before.before.before.before.before.before.before.before)) in
     (c.answer-a.result.result ≡ result_of o) × (c.answer-a.new.0 ≡ o.table) × (noted c.args.called.now c.answer-a.result.called ≡ o.called)
 answered c =
                 let y = (right c.before.before.before.before).0 in

@@ -6,10 +6,11 @@ use native.Mathlib.Omega.{arith}
 use borrow.Author.Rules.{rules}
 use Rattle.coterie.proofs.TurnLaws.{parts, low-place, high-place, one-run, two_runs}
 use Rattle.sets.specs.Sets.{joining}
+use Rattle.coterie.proofs.choices.read_choice.Goals.{After-height-low}
 use Rattle.coterie.proofs.choices.read_choice.Goals as goal
 
 -- where the rows and the runs lie
-laid : (c : goal.After-height-low) → let a = c.args in let h = c.height-low.result in let n = a.g.cols in
+laid : (c : After-height-low) → let a = c.args in let h = c.height-low.result in let n = a.g.cols in
     (1 ≤ h) × (h * n ≤ a.length) × (a.length - h * n < n) × (a.name % h * n + n ≤ h * n) × (a.name % (h + 1) * n ≤ h * n)
 laid c =
         let a = c.args in

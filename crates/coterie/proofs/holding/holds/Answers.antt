@@ -10,10 +10,11 @@ use Rattle.quorums.specs.Quorums.{touches, is_write}
 use Rattle.sets.proofs.UptoLaws.{every-ext}
 use Rattle.sets.specs.Sets.{has, left_of}
 use Rattle.sets.specs.Upto.{every}
+use Rattle.coterie.proofs.holding.holds.Goals.{After-fills}
 use Rattle.coterie.proofs.holding.holds.Goals as goal
 
 -- what the first question to the columns says
-touched-is : (c : goal.After-fills) → let a = c.args in
+touched-is : (c : After-fills) → let a = c.args in
     c.fills.result ≡ every a.g.cols (touches a.g.cols a.length (has a.held.bits))
 touched-is c = c.fills.ensures ∙ every-ext _ _ _ c.columns_of-touched.ensures
 
@@ -28,7 +29,7 @@ returns-then-length-gt64 c =
 pub returns-then-not-fills : goal.returns-then-not-fills
 returns-then-not-fills c =
     let a = c.args in
-    holds-no a.g a.length (has a.held.bits) a.kind (inr (inr (sym (touched-is (goal.at.returns-then-not-fills c).After-fills) ∙ not-true _ c.if-not-fills.true)))
+    holds-no a.g a.length (has a.held.bits) a.kind (inr (inr (sym (touched-is (goal.at.returns-then-not-fills c).After-fills) ∙ c.if-not-fills.true)))
 
 pub returns-then-is_write : goal.returns-then-is_write
 returns-then-is_write c =
@@ -38,10 +39,10 @@ returns-then-is_write c =
     let outside = c.outside.ensures ∙ ap (λ (s : ℕ → Bool). left_of s held) c.first.ensures in
     ap not c.fills-then-is_write.ensures
     ∙ none-missed a.g a.length held _ (λ j u. c.columns_of-missed.ensures j u ∙ ap (λ (s : ℕ → Bool). touches a.g.cols a.length s j) outside ∙ missed-is a.g.cols a.length held j (omega arith))
-    ∙ (rw kind at (holds-yes a.g a.length held a.kind (omega arith) (omega arith) (sym (touched-is (goal.at.returns-then-is_write c).After-fills) ∙ not-false _ c.if-not-fills.false)))
+    ∙ (rw kind at (holds-yes a.g a.length held a.kind (omega arith) (omega arith) (sym (touched-is (goal.at.returns-then-is_write c).After-fills) ∙ c.if-not-fills.false)))
 
 pub returns : goal.returns
 returns c =
             let a = c.args in
     let kind : is_write a.kind ≡ false = sym c.is_write.ensures ∙ c.if-is_write.false in
-    rw kind at (holds-yes a.g a.length (has a.held.bits) a.kind (omega arith) (omega arith) (sym (touched-is (goal.at.returns c).After-fills) ∙ not-false _ c.if-not-fills.false))
+    rw kind at (holds-yes a.g a.length (has a.held.bits) a.kind (omega arith) (omega arith) (sym (touched-is (goal.at.returns c).After-fills) ∙ c.if-not-fills.false))
