@@ -119,6 +119,9 @@ only-done t (check a) r Claims.by_check h = go (eqb a.r (in_force (answers t 1 a
     go : (b : Bool) → eqb a.r (in_force (answers t 1 a.r) (has a.r)).members ≡ b → Claims.OnlyRowsOf a.r t (done t (check a)).table
     go true q = rw q (only_none a.r t)
     go false q = rw q (only-leaves a.r (λ i m. m) (check-leaves t a y (ltb-true _ _ (rw q at y.room))))
+only-done t (founding _) r x3 h = elim x3 [ ]
+only-done t (join _) r x4 h = elim x4 [ ]
+only-done t (carry _) r x5 h = elim x5 [ ]
 
 pub alters-only-answered : Claims.AltersOnlyAnswered
 unfolding Claims.AltersOnlyAnswered
@@ -134,6 +137,7 @@ formed-done t (read a) Claims.a_read w h = w
 formed-done t (write a) Claims.a_write w h = well-formed-of _ (write-formed t a (write-yes t a h))
 formed-done t (send a) Claims.a_send w h = well-formed-of _ (send-formed t a (send-yes t a h))
 formed-done t (carry a) Claims.a_carry w h = w
+formed-done t (check _) x4 w h = elim x4 [ ]
 
 pub stays-well-formed : Claims.StaysWellFormed
 unfolding Claims.StaysWellFormed

@@ -10,7 +10,7 @@ use Rattle.sets.specs.Sets.{has}
 use Rattle.table.specs.WellFormed.{limit}
 use Rattle.asking.specs.Asking.{first_no}
 use Rattle.protocol.specs.Polls.{highest_epoch, in_force}
-use Rattle.protocol.specs.Calls.{Call, read, write, send, check, Outcome, answers, questions, done, outcome}
+use Rattle.protocol.specs.Calls.{Call, read, write, send, check, Outcome, answers, questions, done, outcome, carry, founding, join}
 use Rattle.protocol.specs.Claims.{Answering, by_read, by_write, by_send, by_check}
 use Rattle.protocol.proofs.FrameLaws.{SameFrame}
 use Rattle.protocol.proofs.QuestionLaws.{CheckYes, refusal_is, when-done, when-refused, write-yes, send-yes, check-yes}
@@ -34,6 +34,9 @@ done-frame t (check a) _ by_check h = go (eqb a.r (in_force (answers t 1 a.r) (h
     go false q =
         let room : ltb (highest_epoch (answers t 1 a.r) (has a.r)) limit ≡ true = rw q at y.room in
         rw q (check-leaves t a y (ltb-true _ _ room)).frame
+done-frame t (founding _) r x3 h = elim x3 [ ]
+done-frame t (join _) r x4 h = elim x4 [ ]
+done-frame t (carry _) r x5 h = elim x5 [ ]
 
 pub call-frame : (t : List ℕ) (k : Call) (r : ℕ) → Answering k r → SameFrame t (outcome t k).table
 call-frame t k r a = go (outcome t k).refusal refl

@@ -23,7 +23,7 @@ use Rattle.fields.proofs.FieldLaws.{head-get, head-list}
 use Rattle.asking.specs.Asking.{first_no}
 use Rattle.protocol.specs.Polls.{polled}
 use Rattle.protocol.specs.Rows.{refreshed_copy}
-use Rattle.protocol.specs.Calls.{Call, read, write, send, by_coordinator, is_used, in_file, in_group, questions, called_by, called_after, done, outcome, answers, work_set}
+use Rattle.protocol.specs.Calls.{Call, read, write, send, by_coordinator, is_used, in_file, in_group, questions, called_by, called_after, done, outcome, answers, work_set, carry, check, founding, join}
 use Rattle.protocol.specs.Claims.{OfFile, reads_file, writes_file, sends_file, OtherFiles, OtherFilesStay, EqualIn, EqualInFile, SameInFile, OtherFilesHaveNoPart}
 use Rattle.protocol.proofs.QuestionLaws.{refusal_is, called_is, when-done, when-refused, write-yes, send-yes}
 use Rattle.protocol.proofs.CopyLaws.{SameHead, OnlyCopies, out-copy}
@@ -43,6 +43,10 @@ unfolding done write_table writing send_table
 stay-done t (read a) q reads_file h = none a.file t
 stay-done t (write a) q writes_file h = of-only (write-only t a (write-yes t a h))
 stay-done t (send a) q sends_file h = of-only (send-only t a (send-yes t a h))
+stay-done t (founding _) q x3 h = elim x3 [ ]
+stay-done t (join _) q x4 h = elim x4 [ ]
+stay-done t (check _) q x5 h = elim x5 [ ]
+stay-done t (carry _) q x6 h = elim x6 [ ]
 
 pub other-files-stay : OtherFilesStay
 unfolding OtherFilesStay
@@ -166,12 +170,20 @@ asks-same t u (write a) q writes_file E =
     rw (E.formed, E.formed-too, used-same (frame E), files-same (frame E), file-same (frame E), work-same E Write a.c a.r, poll-same E a.r, framed-same (frame E))
 asks-same t u (send a) q sends_file E =
     rw (E.formed, E.formed-too, used-same (frame E), files-same (frame E), (says E).0, (says E).1, (says E).2)
+asks-same t u (founding _) q x3 E = elim x3 [ ]
+asks-same t u (join _) q x4 E = elim x4 [ ]
+asks-same t u (check _) q x5 E = elim x5 [ ]
+asks-same t u (carry _) q x6 E = elim x6 [ ]
 
 called_same : (t u : List ℕ) (k : Call) (q : ℕ) → OfFile k q → EqualInFile q t u → called_after t k ≡ called_after u k
 unfolding called_after
 called_same t u (read a) q reads_file E = rw (asks-same t u (read a) q reads_file E, called-by-same E Read a.c a.r)
 called_same t u (write a) q writes_file E = rw (asks-same t u (write a) q writes_file E, called-by-same E Write a.c a.r)
 called_same t u (send a) q sends_file E = refl
+called_same t u (founding _) q x3 E = elim x3 [ ]
+called_same t u (join _) q x4 E = elim x4 [ ]
+called_same t u (check _) q x5 E = elim x5 [ ]
+called_same t u (carry _) q x6 E = elim x6 [ ]
 
 -- copies of q that were changed alike
 changed-same : {t u t' u' : List ℕ} {q : ℕ} {s : ℕ → Bool} {g : ℕ → List ℕ → List ℕ} → EqualInFile q t u → OnlyCopies t t' q s g → OnlyCopies u u' q s g
@@ -217,6 +229,10 @@ done-same t u (send a) q sends_file E ht hu = record {
   where
     alike : OnlyCopies u (done u (send a)).table a.file (eqb a.t) (sending t a (send-yes t a ht))
     alike = subst (λ (x : List ℕ). OnlyCopies u (done u (send a)).table a.file (eqb a.t) (λ i. refreshed_copy x)) (same_copy E a.f) (send-only u a (send-yes u a hu))
+done-same t u (founding _) q x5 E ht hu = elim x5 [ ]
+done-same t u (join _) q x6 E ht hu = elim x6 [ ]
+done-same t u (check _) q x7 E ht hu = elim x7 [ ]
+done-same t u (carry _) q x8 E ht hu = elim x8 [ ]
 
 pub other-files-have-no-part : OtherFilesHaveNoPart
 unfolding OtherFilesHaveNoPart

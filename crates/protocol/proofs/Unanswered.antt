@@ -29,7 +29,7 @@ use Rattle.protocol.specs.Polls.{Poll, polled, highest_epoch, in_force, good_ver
 use Rattle.protocol.specs.Rows.{checked_row, refreshed_copy}
 use Rattle.asking.specs.Asking.{Question, first_no, before}
 use Rattle.sheet.specs.Sheet.{sheet_right}
-use Rattle.protocol.specs.Calls.{Sending, Call, read, write, send, check, by_coordinator, is_used, in_file, in_group, questions, called_by, noted, from_six, called_after, done, outcome, answers, work_set}
+use Rattle.protocol.specs.Calls.{Sending, Call, read, write, send, check, by_coordinator, is_used, in_file, in_group, questions, called_by, noted, from_six, called_after, done, outcome, answers, work_set, carry, founding, join}
 use Rattle.protocol.specs.Claims.{Answering, by_read, by_write, by_send, by_check, EqualIn, SameFor, UnansweredHaveNoPart}
 use Rattle.table.proofs.TableLaws.{Changed}
 use Rattle.protocol.proofs.PollLaws.{lowest-good, worked-in}
@@ -257,6 +257,9 @@ asks-same t u (write a) r by_write E =
     (first-same-by E a.c _ _ (λ m. rw (work-same E Write a.file a.c m, poll-same E a.file, framed-same E, file-same E, files-same E)))
 asks-same t u (send a) r by_send E = send-same t u a E
 asks-same t u (check a) r by_check E = ap (λ (n : ℕ). cond (sheet_right a.sheet) n 1) (first-same-by E a.c _ _ (λ m. rw (all-current-same E, poll-same E 1, framed-same E)))
+asks-same t u (founding _) r x3 E = elim x3 [ ]
+asks-same t u (join _) r x4 E = elim x4 [ ]
+asks-same t u (carry _) r x5 E = elim x5 [ ]
 
 -- with a question before them that both answer alike
 first-too : (b : Bool) (qs rs : List Question) (x y : ℕ) → from_six qs x ≡ from_six rs y → from_six (record { ask = 1; yes = b } ∷ qs) x ≡ from_six (record { ask = 1; yes = b } ∷ rs) y
@@ -271,6 +274,9 @@ called_same t u (write a) r by_write E =
     sym (ap (noted a.called) (first-too (sheet_right a.sheet) _ _ _ _ (from-six-same E a.c _ _ _ _ (λ m. rw (file-same E, files-same E)) (called-by-same E Write a.file a.c))))
 called_same t u (send a) r by_send E = refl
 called_same t u (check a) r by_check E = refl
+called_same t u (founding _) r x3 E = elim x3 [ ]
+called_same t u (join _) r x4 E = elim x4 [ ]
+called_same t u (carry _) r x5 E = elim x5 [ ]
 
 -- ---- done
 done-same : (t u : List ℕ) (k : Call) (r : ℕ) → Answering k r → EqualIn r t u → first_no (questions t k) ≡ 0 → first_no (questions u k) ≡ 0 → SameFor r (done t k) (done u k)
@@ -352,6 +358,9 @@ done-same t u (check a) r by_check E ht hu = go (eqb a.r (in_force (answers t 1 
           rows = λ i m. changed-same E (check-rows t a y (ltb-true _ _ room)) (changed-as E refl by-same (check-rows u a z (ltb-true _ _ room-u)))
               i (answered-used t a.c a.r [] y.first i m) m;
         })
+done-same t u (founding _) r x5 E ht hu = elim x5 [ ]
+done-same t u (join _) r x6 E ht hu = elim x6 [ ]
+done-same t u (carry _) r x7 E ht hu = elim x7 [ ]
 
 pub unanswered-have-no-part : UnansweredHaveNoPart
 unfolding UnansweredHaveNoPart
