@@ -52,7 +52,7 @@ pub extern "C" fn grid_read(
     called: &mut [u8],
     file: u64,
 ) -> u64
-    ensures { (let o = outcome table.now (read (record { c = coordinator; result = answering; offset = offset; count = length; buffer = buffer.old; called = called.old; file = file })) in (result ≡ result_of o) × (table.now ≡ o.table) × (buffer.new ≡ o.buffer) × (called.new ≡ o.called)) }
+    ensures { (let o = outcome table.now (read (record { c = coordinator; r = answering; offset = offset; count = length; buffer = buffer.old; called = called.old; file = file })) in (result ≡ result_of o) × (table.now ≡ o.table) × (buffer.new ≡ o.buffer) × (called.new ≡ o.called)) }
 {
     let reader = coordinator as usize;
     let from = offset as usize;
@@ -72,7 +72,7 @@ pub extern "C" fn grid_write(
     sheet: &mut [u8],
     club: u64,
 ) -> u64
-    ensures { (let o = outcome table.old (write (record { c = coordinator; result = answering; offset = offset; patch = patch.now; called = called.old; file = file; sheet = sheet.old; club = club })) in (result ≡ result_of o) × (table.new ≡ o.table) × (patch.now ≡ patch.now) × (called.new ≡ o.called) × (sheet.new ≡ o.sheet)) }
+    ensures { (let o = outcome table.old (write (record { c = coordinator; r = answering; offset = offset; patch = patch.now; called = called.old; file = file; sheet = sheet.old; club = club })) in (result ≡ result_of o) × (table.new ≡ o.table) × (patch.now ≡ patch.now) × (called.new ≡ o.called) × (sheet.new ≡ o.sheet)) }
 {
     let writer = coordinator as usize;
     let to = offset as usize;
@@ -96,7 +96,7 @@ pub extern "C" fn grid_round(
 
 #[unsafe(no_mangle)]
 pub extern "C" fn grid_send(table: &mut [u8], from: u64, to: u64, answering: u64, file: u64) -> u64
-    ensures { (let o = outcome table.old (send (record { f = from; t = to; result = answering; file = file })) in (result ≡ result_of o) × (table.new ≡ o.table)) }
+    ensures { (let o = outcome table.old (send (record { f = from; t = to; r = answering; file = file })) in (result ≡ result_of o) × (table.new ≡ o.table)) }
 {
     sends::send(table, from as usize, to as usize, answering, file)
 }
@@ -108,7 +108,7 @@ pub extern "C" fn grid_check(
     answering: u64,
     sheet: &mut [u8],
 ) -> u64
-    ensures { (let o = outcome table.old (check (record { c = coordinator; result = answering; sheet = sheet.old })) in (result ≡ result_of o) × (table.new ≡ o.table) × (sheet.new ≡ o.sheet)) }
+    ensures { (let o = outcome table.old (check (record { c = coordinator; r = answering; sheet = sheet.old })) in (result ≡ result_of o) × (table.new ≡ o.table) × (sheet.new ≡ o.sheet)) }
 {
     checks::check(table, coordinator as usize, answering, sheet)
 }

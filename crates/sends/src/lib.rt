@@ -42,7 +42,7 @@ fn copies_asked(source: &[u8], target: &[u8]) -> u32
 
 // All that a send of file q is asked: the first no, 0 where there is none.
 fn send_asked(t: &[u8], from: usize, to: usize, answering: RowSet, q: usize) -> u32
-    ensures { result ≡ first_no (questions t.now (send (record { f = from; t = to; result = answering.bits; file = q }))) }
+    ensures { result ≡ first_no (questions t.now (send (record { f = from; t = to; r = answering.bits; file = q }))) }
 {
     if wellformed::well_formed(t) {
         if rows_named(header::used(t), from, to, answering) {
