@@ -1,7 +1,8 @@
 // Bytes copied over others.
 #![tactic(auto)]
 
-ghost use Rattle.std.specs.Prelude.{◌≡◌, length};
+ghost use Rattle.std.specs.Prelude.{◌≡◌, ◌+◌, ◌≤◌, length};
+ghost use Rattle.octets.specs.Bytes.{part, put};
 
 // Bytes copied over as many others, one by one.
 fn copy_each(to: &mut [u8], from: &[u8])
@@ -45,4 +46,14 @@ pub fn copy(to: &mut [u8], from: &[u8])
     let mut page = new_page();
     copy_each(&mut page[0..n], from);
     copy_each(to, &page[0..n]);
+}
+
+// Bytes copied within a slice, by way of a page.
+pub fn copy_within(s: &mut [u8], from: usize, to: usize, n: usize)
+    requires { (from + n ≤ length s.old) × (to + n ≤ length s.old) × (n ≤ 4096) }
+    ensures { s.new ≡ put to (part from n s.old) s.old }
+{
+    let mut page = new_page();
+    copy_each(&mut page[0..n], &s[from..from + n]);
+    copy_each(&mut s[to..to + n], &page[0..n]);
 }
