@@ -100,6 +100,11 @@ sheet-stays-right t (check a) to_check r = go (ℕ_discrete (outcome t (check a)
     go : Dec ((outcome t (check a)).refusal ≡ 0) → sheet_right (outcome t (check a)).sheet ≡ true
     go (yes q) = rw (check_done t a q) (either (eqb a.r (in_force (answers t 1 a.r) (has a.r)).members))
     go (no d) = rw (check-kept t a d) r
+sheet-stays-right t (founding _) x3 r = elim x3 [ ]
+sheet-stays-right t (join _) x4 r = elim x4 [ ]
+sheet-stays-right t (read _) x5 r = elim x5 [ ]
+sheet-stays-right t (send _) x6 r = elim x6 [ ]
+sheet-stays-right t (carry _) x7 r = elim x7 [ ]
 
 -- ---- the counts over a history: they sum to n so far
 abbrev all_counts : List ℕ → ℕ
