@@ -21,7 +21,7 @@ use Rattle.asking.proofs.AskingLaws.{yes-first, no-first}
 use Rattle.sheet.specs.Sheet.{sheet_right, by_club}
 use Rattle.counties.specs.Counties.{list_quorum, list_choice}
 use Rattle.protocol.specs.Polls.{polled, current, quorum_held, own_try, stays, worked_on}
-use Rattle.protocol.specs.Calls.{Call, read, write, by_coordinator, is_used, questions, answers, work_set}
+use Rattle.protocol.specs.Calls.{Call, read, write, by_coordinator, is_used, questions, answers, work_set, founding, join, send, check, carry}
 use Rattle.protocol.proofs.QuestionLaws.{ByCoordinator, passed_first}
 use Rattle.protocol.proofs.Unanswered.{used-same, framed-same}
 use Rattle.seats.specs.Seats.{EveryChoiceHolds}
@@ -131,6 +131,11 @@ enough t b e G (write a) kind q c r a_write h =
       alone = works a.file t (b a.file) e S Write a.c a.r x.0 h.own h.answers h.current;
       done = λ l. right t b e G a.file (write a) refl h.passes l ∙ ap (λ (n : ℕ). cond (eqb n 0) (share_no (write a)) n) (by-book a.file t (b a.file) e S Write a.c a.r x.0 h.own h.answers h.current);
     }
+enough t b e G (founding _) kind q c r o h = elim o [ ]
+enough t b e G (join _) kind q c r o h = elim o [ ]
+enough t b e G (send _) kind q c r o h = elim o [ ]
+enough t b e G (check _) kind q c r o h = elim o [ ]
+enough t b e G (carry _) kind q c r o h = elim o [ ]
 
 pub choice-enough : ChoiceEnough
 unfolding ChoiceEnough

@@ -1,10 +1,8 @@
 -- What an arm of a match on numbers says, over plain variables.
 use mathlib.Core.Path.{◌≡◌, sym, ap}
 use mathlib.Core.Logic.{◌⊎◌, inl, inr}
-use Prim.Native.Nat.{ℕ, zero, suc, ◌<◌}
+use Prim.Native.Nat.{ℕ, ◌<◌}
 use Prim.Native.String.{String}
-use native.Mathlib.Nat.{pos_of_ne-zero}
-use native.Mathlib.Numerals.{lt_of_le_of_ne}
 use Rattle.telling.specs.Text.{in_bytes, padded}
 use Rattle.telling.specs.Notices.{words, word, no_reason, reason}
 use Rattle.telling.specs.Claims.{OthersHaveNone}
@@ -16,15 +14,6 @@ word-by e = ap (λ (x : ℕ). padded 8 (in_bytes (word x))) (sym e)
 
 pub reason-by : {n k : ℕ} → n ≡ k → padded 107 (in_bytes (reason k)) ≡ padded 107 (in_bytes (reason n))
 reason-by e = ap (λ (x : ℕ). padded 107 (in_bytes (reason x))) (sym e)
-
--- n is none of 1 to k, as a match with an arm for each tells its last arm
-abbrev pub Apart : ℕ → ℕ → Type 0
-Apart n zero = Unit
-Apart n (suc k) = Apart n k × (n ≡ suc k → ⊥)
-
-pub above : (n k : ℕ) → Apart n k → (n ≡ 0 → ⊥) → k < n
-above n zero a z = pos_of_ne-zero z
-above n (suc k) a z = lt_of_le_of_ne (above n k a.0 z) (λ e. a.1 (sym e))
 
 -- the last arm: 0, and what is above them all
 pub other_word : (n : ℕ) → (n ≡ 0) ⊎ (10 < n) → padded 8 (in_bytes "") ≡ padded 8 (in_bytes (word n))

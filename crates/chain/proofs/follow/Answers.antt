@@ -33,10 +33,10 @@ row-behind : (c : In-loop-next) → let l = c.loop-next in
     Within (used_of c.args.t.now) (l.count + 1)
 row-behind c = let l = c.loop-next in omega (arith, l.invariant.on, c.loop-next-test.true)
 
-name-behind : (c : After-name-own) →     c.name-own.result ≡ name_of c.args.t.now c.loop-next.next
+name-behind : (c : After-name-own) → c.name-own.result ≡ name_of c.args.t.now c.loop-next.next
 unfolding name_of
 name-behind c =
-        c.name-own.ensures ∙ ap (get name) (c.row_at-behind.ensures.0 ∙ ap (row_bytes _) (sym c.loop-next-test.true))
+    c.name-own.ensures ∙ ap (get name) (c.row_at-behind.ensures.0 ∙ ap (row_bytes _) (sym c.loop-next-test.true))
 
 pub row_length-size-requires : goal.row_length-size-requires
 row_length-size-requires c = let p = c.requires.sized in (long p, p.header)
@@ -52,7 +52,7 @@ loop-next-init c = walk_start c.requires _ _ c.rows-1.given.0.1 c.first-next.ens
 
 pub row_at-behind-requires : goal.row_at-behind-requires
 row_at-behind-requires c =
-        (c.requires.sized, c.row_length-size.ensures, row-behind c)
+    (c.requires.sized, c.row_length-size.ensures, row-behind c)
 
 pub name-own-requires : goal.name-own-requires
 name-own-requires c = c.row_at-behind.ensures.1
@@ -67,11 +67,11 @@ overflow_add-rows c = omega (arith, row-behind (goal.at.overflow_add-rows c).In-
 
 pub overflow_cast-rows : goal.overflow_cast-rows
 overflow_cast-rows c =
-        omega (arith, row-behind (goal.at.overflow_cast-rows c).In-loop-next, c.loop-next-test.true, few-rows c.requires.sized)
+    omega (arith, row-behind (goal.at.overflow_cast-rows c).In-loop-next, c.loop-next-test.true, few-rows c.requires.sized)
 
 pub bounds-rows-count : goal.bounds-rows-count
 bounds-rows-count c =
-        omega (arith, row-behind (goal.at.bounds-rows-count c).In-loop-next, few-rows c.requires.sized)
+    omega (arith, row-behind (goal.at.bounds-rows-count c).In-loop-next, few-rows c.requires.sized)
 
 pub link-next-requires : goal.link-next-requires
 link-next-requires c = c.row_at-behind.ensures.1
@@ -85,23 +85,24 @@ loop-next-smaller c = omega (arith, row-behind (goal.at.loop-next-smaller c).In-
 pub loop-next-preserved : goal.loop-next-preserved
 unfolding link_of
 loop-next-preserved c =
-                let l = c.loop-next in
-        let k : c.link-next.result ≡ link_of c.args.t.now l.next = c.link-next.ensures ∙ ap (get link) (c.row_at-behind.ensures.0 ∙ ap (row_bytes _) (sym c.loop-next-test.true)) in
+    let l = c.loop-next in
+    let k : c.link-next.result ≡ link_of c.args.t.now l.next = c.link-next.ensures ∙ ap (get link) (c.row_at-behind.ensures.0 ∙ ap (row_bytes _) (sym c.loop-next-test.true)) in
     turned c.requires l.invariant _ l.count (has c.add-seen.result.bits) c.name-own.result c.link-next.result
     (sym c.loop-next-test.true) (sym c.loop-next-test.true) (omega (arith, row-behind (goal.at.loop-next-preserved c).In-loop-next)) c.add-seen.ensures (name-behind (goal.at.loop-next-preserved c).After-name-own) (omega (arith, c.if-own-low.false)) k
 
 -- ---- the second
-walked_here : (c : At-loop-count) →     Walked c.args.t.now c.args.order.now c.loop-count.rows (has c.loop-count.seen.bits) c.loop-count.low c.loop-count.count c.loop-count.next
+walked_here : (c : At-loop-count) → Walked c.args.t.now c.args.order.now c.loop-count.rows (has c.loop-count.seen.bits) c.loop-count.low c.loop-count.count c.loop-count.next
 walked_here c = c.loop-count.invariant _ c.loop-next.invariant
 
 -- not all used rows are passed yet
-some_left : (c : In-loop-count) →     c.loop-count.count < used_of c.args.t.now
+some_left : (c : In-loop-count) → c.loop-count.count < used_of c.args.t.now
 some_left c = omega (arith, c.loop-count-test.true, c.used-used.ensures)
 
-row_here : (c : Else-next-eq0) →     Within (used_of c.args.t.now) c.loop-count.next
-row_here c = omega (arith, (walked_here c.before.before).on, c.if-next-eq0.false)
+row_here : (c : Else-next-eq0) → Walked c.args.t.now c.args.order.now c.loop-count.rows (has c.loop-count.seen.bits) c.loop-count.low c.loop-count.count c.loop-count.next
+    → Within (used_of c.args.t.now) c.loop-count.next
+row_here c w = omega (arith, w.on, c.if-next-eq0.false)
 
-name-here : (c : After-name-name) →     c.name-name.result ≡ name_of c.args.t.now c.loop-count.next
+name-here : (c : After-name-name) → c.name-name.result ≡ name_of c.args.t.now c.loop-count.next
 unfolding name_of
 name-here c = c.name-name.ensures ∙ ap (get name) c.row_at-row.ensures.0
 
@@ -115,26 +116,29 @@ returns-then-next-eq0 c =
 
 pub row_at-row-requires : goal.row_at-row-requires
 row_at-row-requires c =
-        (c.requires.sized, c.row_length-size.ensures, row_here c)
+    let g = goal.at.row_at-row-requires c in (c.requires.sized, c.row_length-size.ensures, row_here g.Else-next-eq0 (walked_here g.At-loop-count))
 
 pub name-name-requires : goal.name-name-requires
 name-name-requires c = c.row_at-row.ensures.1
 
 pub returns-then-name-low : goal.returns-then-name-low
 returns-then-name-low c =
-        let w = walked_here (goal.at.returns-then-name-low c).At-loop-count in
-    (walk-falls w (row_here (goal.at.returns-then-name-low c).Else-next-eq0).0 (omega (arith, c.if-name-low.true, name-here (goal.at.returns-then-name-low c).After-name-name)), λ c. absurd (clash c), left-falls w (omega (arith, c.if-name-low.true, name-here c)))
+    let g = goal.at.returns-then-name-low c in
+    let w = walked_here g.At-loop-count in
+    let name = name-here g.After-name-name in
+    (walk-falls w (row_here g.Else-next-eq0 w).0 (omega (arith, c.if-name-low.true, name)), λ e. absurd (clash e), left-falls w (omega (arith, c.if-name-low.true, name)))
 
 pub overflow_cast-rows-in-loop-count : goal.overflow_cast-rows-in-loop-count
 overflow_cast-rows-in-loop-count c =
-        omega (arith, row_here (goal.at.overflow_cast-rows-in-loop-count c).Else-next-eq0, few-rows c.requires.sized)
+    let g = goal.at.overflow_cast-rows-in-loop-count c in
+    omega (arith, row_here g.Else-next-eq0 (walked_here g.At-loop-count), few-rows c.requires.sized)
 
 pub bounds-rows-count-in-loop-count : goal.bounds-rows-count-in-loop-count
 bounds-rows-count-in-loop-count c =
-        omega (arith, some_left (goal.at.bounds-rows-count-in-loop-count c).In-loop-count, few-rows c.requires.sized, (walked_here (goal.at.bounds-rows-count-in-loop-count c).At-loop-count).listed.places)
+    omega (arith, some_left (goal.at.bounds-rows-count-in-loop-count c).In-loop-count, few-rows c.requires.sized, (walked_here (goal.at.bounds-rows-count-in-loop-count c).At-loop-count).listed.places)
 
 pub overflow_sub-next : goal.overflow_sub-next
-overflow_sub-next c = omega (arith, row_here (goal.at.overflow_sub-next c).Else-next-eq0)
+overflow_sub-next c = let g = goal.at.overflow_sub-next c in omega (arith, row_here g.Else-next-eq0 (walked_here g.At-loop-count))
 
 pub link-next-requires-in-loop-count : goal.link-next-requires-in-loop-count
 link-next-requires-in-loop-count c = c.row_at-row.ensures.1
@@ -145,13 +149,14 @@ overflow_add-count-in-loop-count c = omega (arith, c.loop-count-test.true)
 pub loop-count-preserved : goal.loop-count-preserved
 unfolding link_of
 loop-count-preserved c lent begun =
-                        let k : c.link-next-in-loop-count.result ≡ link_of c.args.t.now c.loop-count.next = c.link-next-in-loop-count.ensures ∙ ap (get link) c.row_at-row.ensures.0 in
+    let g = goal.at.loop-count-preserved c in
+    let k : c.link-next-in-loop-count.result ≡ link_of c.args.t.now c.loop-count.next = c.link-next-in-loop-count.ensures ∙ ap (get link) c.row_at-row.ensures.0 in
     turned c.requires (c.loop-count.invariant lent begun) _ (c.loop-count.next - 1) (has c.add-seen-in-loop-count.result.bits) c.name-name.result c.link-next-in-loop-count.result
-    refl (omega (arith, row_here (goal.at.loop-count-preserved c).Else-next-eq0)) (some_left (goal.at.loop-count-preserved c).In-loop-count) c.add-seen-in-loop-count.ensures (name-here (goal.at.loop-count-preserved c).After-name-name) (omega (arith, c.if-name-low.false)) k
+    refl (omega (arith, row_here g.Else-next-eq0 (walked_here g.At-loop-count))) (some_left g.In-loop-count) c.add-seen-in-loop-count.ensures (name-here g.After-name-name) (omega (arith, c.if-name-low.false)) k
 
 pub returns : goal.returns
 returns c =
-                let w = walked_here (goal.at.returns c).At-loop-count in
+    let w = walked_here (goal.at.returns c).At-loop-count in
     let all : c.loop-count.count ≡ used_of c.args.t.now = omega (arith, c.loop-count-test.false, c.used-used.ensures, w.few) in (
       c.both.ensures
           ∙ ap (λ (b : Bool). eqb c.loop-count.next 0 && b) (c.fills.ensures ∙ ap (λ (n : ℕ). every n (has c.loop-count.seen.bits)) c.used-used.ensures)

@@ -26,14 +26,14 @@ there-is : (c : Else-not-has_chart) → let a = c.args in has_chart a.length a.m
 there-is c = sym c.has_chart.ensures ∙ c.if-not-has_chart.false
 
 -- so the grid is that of the mark, and its chart has a place for each number
-the-grid : (c : After-of_mark-g) → let a = c.args in c.of_mark-g.result ≡ grid_by a.mark a.length
-the-grid c =
-        let a = c.args in
-    c.of_mark-g.ensures ∙ rw (le-leb a.length 64 (omega (arith, chart-length a.length a.mark (there-is c.before.before))))
+the-grid : (c : After-of_mark-g) → let a = c.args in has_chart a.length a.mark ≡ true → c.of_mark-g.result ≡ grid_by a.mark a.length
+the-grid c there =
+    let a = c.args in
+    c.of_mark-g.ensures ∙ rw (le-leb a.length 64 (omega (arith, chart-length a.length a.mark there)))
 
-few : (c : After-of_mark-g) → let a = c.args in length (chart c.of_mark-g.result a.length) ≤ 64
+few : (c : After-of_mark-g) → let a = c.args in has_chart a.length a.mark ≡ true → length (chart c.of_mark-g.result a.length) ≤ 64
 unfolding PlacesSuffice places
-few c = let a = c.args in rw (the-grid c) (places-suffice a.length a.mark (there-is c.before.before))
+few c there = let a = c.args in rw (the-grid c there) (places-suffice a.length a.mark there)
 
 pub returns-then-not-has_chart : goal.returns-then-not-has_chart
 returns-then-not-has_chart c =
@@ -50,18 +50,22 @@ overflow_cast-mark c = let a = c.args in omega (arith, chart-mark a.length a.mar
 
 pub draw-requires : goal.draw-requires
 draw-requires c =
-        let a = c.args in
-    let l = chart-length a.length a.mark (there-is (goal.at.draw-requires c).Else-not-has_chart) in
-    (rw (the-grid (goal.at.draw-requires c).After-of_mark-g) (laid-fits a.mark a.length l.0), l.1, few (goal.at.draw-requires c).After-of_mark-g, omega arith)
+    let a = c.args in
+    let s = goal.at.draw-requires c in
+    let there = there-is s.Else-not-has_chart in
+    let l = chart-length a.length a.mark there in
+    (rw (the-grid s.After-of_mark-g there) (laid-fits a.mark a.length l.0), l.1, few s.After-of_mark-g there, omega arith)
 
 pub overflow_cast-draw : goal.overflow_cast-draw
-overflow_cast-draw c = omega (arith, c.draw.ensures.0, few (goal.at.overflow_cast-draw c).After-of_mark-g)
+overflow_cast-draw c = let s = goal.at.overflow_cast-draw c in omega (arith, c.draw.ensures.0, few s.After-of_mark-g (there-is s.Else-not-has_chart))
 
 pub returns : goal.returns
 returns c =
     let d = c.draw in
-    let g = the-grid (goal.at.returns c).After-of_mark-g in
-        let a = c.args in
-    let t = leaves (charted-done a.length a.mark a.list.now (there-is (goal.at.returns c).Else-not-has_chart) (omega arith))
+    let s = goal.at.returns c in
+    let there = there-is s.Else-not-has_chart in
+    let g = the-grid s.After-of_mark-g there in
+    let a = c.args in
+    let t = leaves (charted-done a.length a.mark a.list.now there (omega arith))
     (c.result-2.ensures ∙ ap (result_number 0) (d.ensures.0 ∙ ap (λ (x : Grid). length (chart x a.length)) g)) in
     (t.0, d.ensures.1 ∙ ap (λ (x : Grid). put 0 (in_places (chart x a.length)) a.list.now) g ∙ t.1)

@@ -32,13 +32,13 @@ loop-set-init c = (omega arith, omega arith, ap (λ (m : ℕ). c.args.start + m)
 pub is_smallest-wanted-requires : goal.is_smallest-wanted-requires
 is_smallest-wanted-requires c =
     let l = c.loop-set in
-            let e : l.set / 2 ^ c.args.g.cols ≡ c.args.start / 2 ^ c.args.g.cols = same_block _ _ l.set c.requires.4 l.invariant.0 (omega arith) in
+    let e : l.set / 2 ^ c.args.g.cols ≡ c.args.start / 2 ^ c.args.g.cols = same_block _ _ l.set c.requires.4 l.invariant.0 (omega arith) in
     (c.requires.0, omega arith, rw e c.columns_above-above.ensures)
 
 pub enter-at-requires : goal.enter-at-requires
 enter-at-requires c w =
     let l = c.loop-set in
-        omega (arith, draw-room c.args.g c.args.members l.set l.at l.invariant.4 c.requires.2 (omega (arith, c.requires.5)) (sym c.is_smallest-wanted.ensures ∙ w))
+    omega (arith, draw-room c.args.g c.args.members l.set l.at l.invariant.4 c.requires.2 (omega (arith, c.requires.5)) (sym c.is_smallest-wanted.ensures ∙ w))
 
 pub overflow_add-set : goal.overflow_add-set
 overflow_add-set c =

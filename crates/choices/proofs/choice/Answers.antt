@@ -32,15 +32,15 @@ used-here : (c : After-between) → is_used c.args.t.now c.args.c ≡ c.between.
 unfolding is_used
 used-here c = ap (between 1 c.args.c) (sym c.used-used.ensures) ∙ sym c.between.ensures
 
-row-used : (c : Else-not-between) → is_used c.args.t.now c.args.c ≡ true
-row-used c = used-here c.before ∙ c.if-not-between.false
+row-used : (c : Else-not-between) → is_used c.args.t.now c.args.c ≡ c.between.result → is_used c.args.t.now c.args.c ≡ true
+row-used c used = used ∙ c.if-not-between.false
 
-coordinator : (c : Else-not-between) → Within (used_of c.args.t.now) c.args.c
+coordinator : (c : Else-not-between) → is_used c.args.t.now c.args.c ≡ c.between.result → Within (used_of c.args.t.now) c.args.c
 unfolding is_used
-coordinator c = between_is 1 c.args.c (used_of c.args.t.now) (row-used c)
+coordinator c used = between_is 1 c.args.c (used_of c.args.t.now) (row-used c used)
 
 -- the frame that question 1 wrote down
-framed-here : (c : After-used-used) → Framed c.args.t.now c.ordered.new.1.0 c.ordered.new.1.1.0
+framed-here : (c : After-used-used) → Framed c.args.t.now c.ordered.new.order c.ordered.new.sets
 framed-here c = c.ordered.ensures.1 (c.if-not-ordered.false)
 
 -- a refusal, told
@@ -49,7 +49,7 @@ told o p x e h = h ∙ ap (λ (q : Chosen). result_number q.refusal q.value) (sy
 
 pub returns-then-not-ordered : goal.returns-then-not-ordered
 returns-then-not-ordered c =
-            let o = no_one c.args.t.now c.args.c c.args.kind c.args.set.now (sym c.ordered.ensures.0 ∙ c.if-not-ordered.true) in
+    let o = no_one c.args.t.now c.args.c c.args.kind c.args.set.now (sym c.ordered.ensures.0 ∙ c.if-not-ordered.true) in
     (told _ _ _ o c.result.ensures, refl, ap (λ (q : Chosen). q.set) (sym o))
 
 pub used-used-requires : goal.used-used-requires
@@ -57,42 +57,50 @@ used-used-requires c = long (sized (formed-here c))
 
 pub returns-then-not-between : goal.returns-then-not-between
 returns-then-not-between c =
-                let o = no-two c.args.t.now c.args.c c.args.kind c.args.set.now (formed-here (goal.at.returns-then-not-between c).Else-not-ordered) (used-here (goal.at.returns-then-not-between c).After-between ∙ c.if-not-between.true) in
+    let g = goal.at.returns-then-not-between c in
+    let o = no-two c.args.t.now c.args.c c.args.kind c.args.set.now (formed-here g.Else-not-ordered) (used-here g.After-between ∙ c.if-not-between.true) in
     (told _ _ _ o c.result-then-not-between.ensures, refl, ap (λ (q : Chosen). q.set) (sym o))
 
 pub returns-then-kind-gt1 : goal.returns-then-kind-gt1
 returns-then-kind-gt1 c =
-                let o = no-four c.args.t.now c.args.c c.args.kind c.args.set.now (formed-here (goal.at.returns-then-kind-gt1 c).Else-not-ordered) (row-used (goal.at.returns-then-kind-gt1 c).Else-not-between) (lt-leb c.args.kind 1 c.if-kind-gt1.true) in
+    let g = goal.at.returns-then-kind-gt1 c in
+    let o = no-four c.args.t.now c.args.c c.args.kind c.args.set.now (formed-here g.Else-not-ordered) (row-used g.Else-not-between (used-here g.After-between)) (lt-leb c.args.kind 1 c.if-kind-gt1.true) in
     (told _ _ _ o c.result-then-kind-gt1.ensures, refl, ap (λ (q : Chosen). q.set) (sym o))
 
 pub returns-then-set-ne8 : goal.returns-then-set-ne8
 returns-then-set-ne8 c =
-                    let o = no-five c.args.t.now c.args.c c.args.kind c.args.set.now (formed-here (goal.at.returns-then-set-ne8 c).Else-not-ordered) (row-used (goal.at.returns-then-set-ne8 c).Else-not-between) (le-leb c.args.kind 1 (omega (arith, c.if-kind-gt1.false))) (ne_eqb _ _ c.if-set-ne8.true) in
+    let g = goal.at.returns-then-set-ne8 c in
+    let o = no-five c.args.t.now c.args.c c.args.kind c.args.set.now (formed-here g.Else-not-ordered) (row-used g.Else-not-between (used-here g.After-between)) (le-leb c.args.kind 1 (omega (arith, c.if-kind-gt1.false))) (ne_eqb _ _ c.if-set-ne8.true) in
     (told _ _ _ o c.result-then-set-ne8.ensures, refl, ap (λ (q : Chosen). q.set) (sym o))
 
 pub row_of-row-requires : goal.row_of-row-requires
-row_of-row-requires c = (sized (formed-here (goal.at.row_of-row-requires c).Else-not-ordered), coordinator (goal.at.row_of-row-requires c).Else-not-between)
+row_of-row-requires c =
+    let g = goal.at.row_of-row-requires c in
+    (sized (formed-here g.Else-not-ordered), coordinator g.Else-not-between (used-here g.After-between))
 
 pub choice-rows-requires : goal.choice-rows-requires
 choice-rows-requires c =
-        (rw c.used-used.ensures (framed-here (goal.at.choice-rows-requires c).After-used-used).ordered.listed, (framed-here (goal.at.choice-rows-requires c).After-used-used).grouped.apart)
+    let g = goal.at.choice-rows-requires c in
+    (rw c.used-used.ensures (framed-here g.After-used-used).ordered.listed, (framed-here g.After-used-used).grouped.apart)
 
 -- the rows found are those that the coordinator calls first
-rows_are : (c : After-choice-rows) →     has c.choice-rows.result.bits ≡ first_called (kind_of c.args.kind) c.args.t.now c.args.c
+rows_are : (c : After-choice-rows) → Framed c.args.t.now c.ordered.new.order c.ordered.new.sets
+    → has c.choice-rows.result.bits ≡ first_called (kind_of c.args.kind) c.args.t.now c.args.c
 unfolding first_called name_of list_of
-rows_are c =
-                        let row = c.row_of-row.ensures.0 in
+rows_are c framed =
+    let row = c.row_of-row.ensures.0 in
     c.choice-rows.ensures
-    ∙ ap₂ (λ (kind : Kind) (f : Frame). list_choice kind f c.list-list.result c.name.result) c.kind_of.ensures (rw c.used-used.ensures (frame-by _ _ _ (framed-here c.before.before.before.before.before.before.before.before.before.before.before).ordered (framed-here c.before.before.before.before.before.before.before.before.before.before.before).grouped))
+    ∙ ap₂ (λ (kind : Kind) (f : Frame). list_choice kind f c.list-list.result c.name.result) c.kind_of.ensures (rw c.used-used.ensures (frame-by _ _ _ framed.ordered framed.grouped))
     ∙ ap₂ (λ (x : Laid) (a : ℕ). list_choice (kind_of c.args.kind) (frame_of c.args.t.now) x a) (c.list-list.ensures ∙ ap list row) (c.name.ensures ∙ ap (get name) row)
 
 small : (c : After-choice-rows) → c.choice-rows.result.bits < 2 ^ 64
-small c = omega (arith, c.choice-rows.type-inv)
+small c = omega (arith, c.choice-rows.type_inv)
 
 pub overflow_cast-size : goal.overflow_cast-size
 overflow_cast-size c = record { fits = omega (arith, c.size.ensures, count-le 64 (has c.choice-rows.result.bits)) }
 
 pub returns : goal.returns
 returns c =
-                                    let yes = all_yes c.args.t.now c.args.c c.args.kind c.args.set.now (formed-here (goal.at.returns c).Else-not-ordered) (row-used (goal.at.returns c).Else-not-between) (le-leb c.args.kind 1 (omega (arith, c.if-kind-gt1.false))) (omega (arith, c.if-set-ne8.false)) c.choice-rows.result.bits (small (goal.at.returns c).After-choice-rows) (rows_are (goal.at.returns c).After-choice-rows) in
+    let g = goal.at.returns c in
+    let yes = all_yes c.args.t.now c.args.c c.args.kind c.args.set.now (formed-here g.Else-not-ordered) (row-used g.Else-not-between (used-here g.After-between)) (le-leb c.args.kind 1 (omega (arith, c.if-kind-gt1.false))) (omega (arith, c.if-set-ne8.false)) c.choice-rows.result.bits (small g.After-choice-rows) (rows_are g.After-choice-rows (framed-here g.After-used-used)) in
     (c.result-2.ensures ∙ ap₂ result_number (sym yes.0) (c.size.ensures ∙ yes.1), refl, c.store_at.ensures ∙ yes.2)

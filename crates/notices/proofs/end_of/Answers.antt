@@ -16,7 +16,7 @@ returns-then-text-n-ne32 c =
 
 pub loop-n-preserved : goal.loop-n-preserved
 loop-n-preserved c =
-        let l = c.loop-n in
+    let l = c.loop-n in
     (omega arith, end-turn c.args.text.now l.n (omega arith) (omega (arith, c.if-text-n-ne32.false)) l.invariant.1)
 
 pub returns : goal.returns

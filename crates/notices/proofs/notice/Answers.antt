@@ -23,21 +23,21 @@ is_call c = sym c.both.ensures ∙ c.if-not-both.false
 pub returns-then-not-both : goal.returns-then-not-both
 unfolding in_papers
 returns-then-not-both c =
-        let a = c.args in
+    let a = c.args in
     leaves (noticed-4 a.call a.name a.number a.buffer.now (sym c.both.ensures ∙ c.if-not-both.true)) c.result.ensures
 
 pub returns-then-buffer-ne160 : goal.returns-then-buffer-ne160
 returns-then-buffer-ne160 c =
-        let a = c.args in
+    let a = c.args in
     leaves (noticed-5 a.call a.name a.number a.buffer.now (is_call (goal.at.returns-then-buffer-ne160 c).Else-not-both) c.if-buffer-ne160.true) c.result-then-buffer-ne160.ensures
 
 pub overflow_cast-tell : goal.overflow_cast-tell
 unfolding SentenceFits
 overflow_cast-tell c =
-        let a = c.args in omega (arith, c.tell.ensures.0, sentence-fits a.call a.name a.number)
+    let a = c.args in omega (arith, c.tell.ensures.0, sentence-fits a.call a.name a.number)
 
 pub returns : goal.returns
 returns c =
-            let a = c.args in
+    let a = c.args in
     let done = noticed-told a.call a.name a.number a.buffer.now (is_call (goal.at.returns c).Else-not-both) (omega (arith, c.if-buffer-ne160.false)) in
     let o = leaves done (c.result-2.ensures ∙ ap (result_number 0) c.tell.ensures.0) in (o.0, c.tell.ensures.1 ∙ o.1)

@@ -40,11 +40,11 @@ returns-then-values-lowest c = let l = c.loop-left in taken-behind _ _ l.invaria
 
 pub loop-left-smaller : goal.loop-left-smaller
 loop-left-smaller c =
-        fewer-left c.loop-left.invariant.1 (some_left (goal.at.loop-left-smaller c).In-loop-left) c.lowest.ensures c.rest-left.ensures
+    fewer-left c.loop-left.invariant.1 (some_left (goal.at.loop-left-smaller c).In-loop-left) c.lowest.ensures c.rest-left.ensures
 
 pub loop-left-preserved : goal.loop-left-preserved
 loop-left-preserved c =
-        let l = c.loop-left in (
+    let l = c.loop-left in (
       joining l.invariant.0 (only c.lowest.result),
       one-taken l.invariant.1 (some_left (goal.at.loop-left-preserved c).In-loop-left) c.lowest.ensures c.rest-left.ensures,
       same_more l.invariant.0 _ _ c.lowest.result l.invariant.2 (placed_row _ _ (hand (goal.at.loop-left-preserved c).After-lowest) ∙ c.if-values-lowest.false),

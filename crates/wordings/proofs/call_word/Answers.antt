@@ -1,8 +1,9 @@
-use mathlib.Core.Logic.{◌⊎◌, ⊎_elim, inl, inr}
+use Rattle.std.proofs.Common.{arith, inl, inr}
 use Rattle.telling.specs.Text.{in_bytes, spaces, padded}
 use Rattle.telling.specs.Notices.{words, word}
-use Rattle.wordings.proofs.ArmLaws.{word-by, other_word, above}
+use Rattle.wordings.proofs.ArmLaws.{word-by, other_word}
 use Rattle.wordings.proofs.call_word.Goals as goal
+use Rattle.wordings.proofs.call_word.Goals.{in-0-1, in_default-1}
 
 pub returns-in-1 : goal.returns-in-1
 unfolding padded spaces in_bytes word words
@@ -46,6 +47,4 @@ returns-in-10 c = word-by c.in-10.is
 
 pub returns-in-0 : goal.returns-in-0
 unfolding padded spaces in_bytes word words
-returns-in-0 c =
-        let n = c.args.call in
-    other_word n (⊎_elim (λ a. inl a.keys11) (λ b. inr (above n 10 b.rest.0 b.rest.1)) c.in-1.branch)
+returns-in-0 c = other_word c.args.call (elim c.in-0-1.branch [ in-0-1 w ↦ inl (omega arith) | in_default-1 w ↦ inr (omega arith) ])

@@ -1,8 +1,9 @@
-use mathlib.Core.Logic.{◌⊎◌, ⊎_elim, inl, inr}
+use Rattle.std.proofs.Common.{arith, inl, inr}
 use Rattle.telling.specs.Text.{in_bytes, spaces, padded}
 use Rattle.telling.specs.Notices.{no_reason, reasons, reason}
-use Rattle.wordings.proofs.ArmLaws.{reason-by, other-reason, above}
+use Rattle.wordings.proofs.ArmLaws.{reason-by, other-reason}
 use Rattle.wordings.proofs.wording.Goals as goal
+use Rattle.wordings.proofs.wording.Goals.{in-0-1, in_default-1}
 
 pub returns-in-1 : goal.returns-in-1
 unfolding padded spaces in_bytes reason reasons no_reason
@@ -86,6 +87,4 @@ returns-in-20 c = reason-by c.in-20.is
 
 pub returns-in-0 : goal.returns-in-0
 unfolding padded spaces in_bytes no_reason
-returns-in-0 c =
-        let n = c.args.number in
-    other-reason n (⊎_elim (λ a. inl a.keys21) (λ b. inr (above n 20 b.rest.0 b.rest.1)) c.in-1.branch)
+returns-in-0 c = other-reason c.args.number (elim c.in-0-1.branch [ in-0-1 w ↦ inl (omega arith) | in_default-1 w ↦ inr (omega arith) ])
