@@ -22,5 +22,5 @@ returns-then-mark-gt1 c = let a = c.args in sym (rw (lt-leb a.mark 1 c.if-mark-g
 pub returns : goal.returns
 unfolding limit
 returns c =
-        let a = c.args in
+    let a = c.args in
     c.both.ensures ∙ marked a.mark a.version a.desired (omega (arith, c.if-mark-gt1.false, c.if-mark-eq0.false)) (omega (arith, c.if-version-gt-LIMIT.false))

@@ -18,13 +18,13 @@ returns-then-not-both c = rw (values-are (goal.at.returns-then-not-both c).After
 pub returns-then-not-list_right : goal.returns-then-not-list_right
 unfolding head_right
 returns-then-not-list_right c =
-        rw (values-are (goal.at.returns-then-not-list_right c).After-both ∙ c.if-not-both.false, sym c.list_right.ensures ∙ c.if-not-list_right.true)
+    rw (values-are (goal.at.returns-then-not-list_right c).After-both ∙ c.if-not-both.false, sym c.list_right.ensures ∙ c.if-not-list_right.true)
 
 -- no form before 5 has counties
 pub returns : goal.returns
 unfolding head_right county_right
 returns c =
-                rw (
+    rw (
       values-are (goal.at.returns c).After-both ∙ c.if-not-both.false,
       sym c.list_right.ensures ∙ c.if-not-list_right.false,
       lt-leb 5 c.args.form (omega (arith, c.requires.0)),

@@ -32,4 +32,4 @@ place c = let e : (c.args.i - 1) % 64 ≡ c.args.i - 1 = mod-eq_of_lt (omega ari
 pub returns : goal.returns
 unfolding list_right is_empty list
 returns c =
-        rw (c.either.ensures, c.at.ensures, place (goal.at.returns c).Start, c.only_rows.ensures, c.members-bits.ensures) (exempt _ _ _)
+    rw (c.either.ensures, c.at.ensures, place (goal.at.returns c).Start, c.only_rows.ensures, c.members-bits.ensures) (exempt _ _ _)
