@@ -18,7 +18,7 @@ loop-k-init c = (omega arith, has-empty ∙ none-gathered _)
 
 pub loop-k-preserved : goal.loop-k-preserved
 loop-k-preserved c =
-        let l = c.loop-k in
+    let l = c.loop-k in
     let less = c.loop-k-test.true in (
       omega arith,
       c.add-out.ensures ∙ ap (λ (x : ℕ). cond (not c.is_empty.result) (gaining (has l.out.bits) (x + 1)) (has l.out.bits)) (mod-eq_of_lt (omega arith))

@@ -12,7 +12,7 @@ loop-k-init c = omega arith
 
 pub returns-then-there-members : goal.returns-then-there-members
 returns-then-there-members c =
-            λ e. all-inside c.args.sets.now c.requires (has c.args.members.bits) c.loop-k.k c.loop-k-test.true (sym c.inside-there.ensures ∙ ap has c.if-there-members.true)
+    λ e. all-inside c.args.sets.now c.requires (has c.args.members.bits) c.loop-k.k c.loop-k-test.true (sym c.inside-there.ensures ∙ ap has c.if-there-members.true)
 
 pub returns : goal.returns
 returns c = λ e. absurd (clash e)
