@@ -22,12 +22,12 @@ returns-then-u16_at-ne0-2 c = λ e. absurd (omega arith)
 
 pub overflow_cast-result : goal.overflow_cast-result
 overflow_cast-result c =
-            omega (arith, county-few c.args.row.now _ c.requires.2 c.u32_at-wide.ensures (sym c.u16_at-2.ensures ∙ c.if-u16_at-ne0-2.false) (sym c.is_county.ensures ∙ c.if-is_county.true), county-is c.args.row.now _ c.requires.2 c.u32_at-wide.ensures (sym c.u16_at-2.ensures ∙ c.if-u16_at-ne0-2.false) (sym c.is_county.ensures ∙ c.if-is_county.true))
+    omega (arith, county-few c.args.row.now _ c.requires.2 c.u32_at-wide.ensures (sym c.u16_at-2.ensures ∙ c.if-u16_at-ne0-2.false) (sym c.is_county.ensures ∙ c.if-is_county.true), county-is c.args.row.now _ c.requires.2 c.u32_at-wide.ensures (sym c.u16_at-2.ensures ∙ c.if-u16_at-ne0-2.false) (sym c.is_county.ensures ∙ c.if-is_county.true))
 
 pub returns-then-is_county : goal.returns-then-is_county
 returns-then-is_county c =
-        let z = sym c.u16_at-2.ensures ∙ c.if-u16_at-ne0-2.false in
-                        let y = sym c.is_county.ensures ∙ c.if-is_county.true in
+    let z = sym c.u16_at-2.ensures ∙ c.if-u16_at-ne0-2.false in
+    let y = sym c.is_county.ensures ∙ c.if-is_county.true in
     λ e. (
       record {
         link = c.leads_on.ensures (c.if-not-leads_on.false);
