@@ -6,7 +6,7 @@ use Rattle.wellformed.proofs.header_values.Goals as goal
 pub returns : goal.returns
 unfolding header_values form_value
 returns c =
-                                rw (
+    rw (
       c.both.ensures,
       c.rest_zero.ensures,
       c.both-grouped.ensures,

@@ -21,7 +21,7 @@ returns-then-not-rows_right c = by_rows _ (sized-here (goal.at.returns-then-not-
 
 pub framed-requires : goal.framed-requires
 framed-requires c =
-        record { sized = sized-here (goal.at.framed-requires c).Else-not-sized; rows = sym c.rows_right.ensures ∙ c.if-not-rows_right.false }
+    record { sized = sized-here (goal.at.framed-requires c).Else-not-sized; rows = sym c.rows_right.ensures ∙ c.if-not-rows_right.false }
 
 pub returns : goal.returns
 returns c = c.framed.ensures.0
