@@ -1,10 +1,8 @@
-use mathlib.Core.Path.{◌≡◌, sym, ◌∙◌, ap}
-use mathlib.Core.Bool.{true}
-use Prim.Native.Nat.{ℕ, ◌+◌, ◌-◌, ◌≤◌, ◌<◌}
+use mathlib.Core.Path.{sym, ◌∙◌, ap}
+use Prim.Native.Nat.{◌+◌, ◌<◌}
 use native.Mathlib.Omega.{arith}
-use borrow.Author.Rules.{rules}
 use Rattle.sets.specs.Upto.{Within}
-use Rattle.fields.specs.Layout.{get, county, used_of, row_bytes}
+use Rattle.fields.specs.Layout.{get, county, used_of}
 use Rattle.table.proofs.WellFormedLaws.{few-rows}
 use Rattle.grouping.proofs.GroupLaws.{same_more}
 use Rattle.grouping.proofs.all_in.Goals.{In-loop-k}

@@ -1,10 +1,9 @@
 use mathlib.Core.Path.{◌≡◌, sym, ◌∙◌, ap}
-use Prim.Native.Nat.{◌+◌, ◌-◌, ◌≤◌, ◌<◌}
+use Prim.Native.Nat.{◌+◌, ◌<◌}
 use native.Mathlib.Omega.{arith}
 use Rattle.sets.specs.Upto.{Within}
 use Rattle.fields.specs.Layout.{get, county, used_of, row_bytes}
 use Rattle.table.proofs.WellFormedLaws.{header, long, few-rows, county-few}
-use Rattle.grouping.specs.Grouped.{Filled}
 use Rattle.grouping.proofs.GroupLaws.{none_filled, filled-same, table-grouped}
 use Rattle.grouping.proofs.group.Goals.{After-county-county, After-county-first, In-loop-k}
 use Rattle.grouping.proofs.group.Goals as goal

@@ -3,7 +3,6 @@ use Prim.Native.Nat.{ℕ, ◌+◌, ◌-◌}
 use native.Mathlib.Nat.{mod-eq_of_lt}
 use native.Mathlib.Omega.{arith}
 use lib.ListN.{get_or}
-use borrow.Author.Rules.{rules}
 use Rattle.sets.specs.Sets.{has, gaining}
 use Rattle.grouping.proofs.GroupLaws.{none_more, one_more}
 use Rattle.grouping.proofs.put.Goals as goal

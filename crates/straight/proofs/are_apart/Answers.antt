@@ -1,5 +1,4 @@
-use borrow.Author.Rules.{rules}
-use mathlib.Core.Path.{◌≡◌, sym, ◌∙◌, ap}
+use mathlib.Core.Path.{sym, ◌∙◌, ap}
 use Rattle.bools.proofs.BoolLaws.{clash}
 use Rattle.fields.specs.Layout.{is_tall}
 use Rattle.straight.proofs.RowLaws.{beq_same}

@@ -1,8 +1,6 @@
-use borrow.Author.Rules.{rules}
 use mathlib.Core.Path.{sym, ◌∙◌, ap}
 use native.Mathlib.Omega.{arith}
 use Prim.Native.Nat.{ℕ, ◌+◌, ◌-◌, ◌%◌}
-use borrow.Author.Tests.{not-false}
 use Rattle.sets.specs.Sets.{has}
 use Rattle.fields.specs.Layout.{get, members}
 use Rattle.straight.proofs.RowLaws.{place, county-is, county-few, county-rest}

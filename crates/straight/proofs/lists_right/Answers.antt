@@ -1,7 +1,6 @@
-use mathlib.Core.Path.{◌≡◌, refl}
+use mathlib.Core.Path.{refl}
 use mathlib.Core.Logic.{inl, inr}
 use native.Mathlib.Omega.{arith}
-use borrow.Author.Tests.{not-false}
 use Rattle.bools.proofs.BoolLaws.{clash}
 use Rattle.fields.specs.Layout.{epoch_of, list_of}
 use Rattle.table.proofs.WellFormedLaws.{few-rows, header}

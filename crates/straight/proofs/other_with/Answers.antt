@@ -1,15 +1,10 @@
-use borrow.Author.Rules.{rules}
-use mathlib.Core.Path.{◌≡◌, refl, sym, ◌∙◌, ap}
-use mathlib.Core.Bool.{true}
+use mathlib.Core.Path.{refl, sym, ◌∙◌, ap}
 use mathlib.Core.Logic.{inl, inr}
 use native.Mathlib.Omega.{arith}
-use Prim.Native.Nat.{ℕ}
-use mathlib.Core.List.{List}
 use borrow.Author.Tests.{eq-eqb}
-use Rattle.octets.specs.Bytes.{part, all_zero}
+use Rattle.octets.specs.Bytes.{part}
 use Rattle.octets.proofs.CodeLaws.{zero_number}
-use Rattle.fields.specs.Layout.{get, epoch, list, row_bytes, epoch_of, list_of}
-use Rattle.straight.specs.Straight.{Alike}
+use Rattle.fields.specs.Layout.{get, epoch, list, epoch_of, list_of}
 use Rattle.straight.proofs.other_with.Goals as goal
 
 pub returns-then-has_list : goal.returns-then-has_list

@@ -1,7 +1,6 @@
-use mathlib.Core.Path.{◌≡◌, sym, ◌∙◌}
+use mathlib.Core.Path.{sym, ◌∙◌}
 use borrow.Author.Tests.{eq-eqb, ne_eqb}
 use Rattle.values.proofs.HeadLaws.{back-asked}
-use borrow.Author.Rules.{rules}
 use Rattle.values.proofs.back_right.Goals as goal
 
 pub returns-then-u8_at-ne0 : goal.returns-then-u8_at-ne0

@@ -3,7 +3,6 @@ use mathlib.Core.Bool.{and-false}
 use lib.Dec.{leb}
 use native.Mathlib.Omega.{arith}
 use borrow.Author.Tests.{lt-leb}
-use borrow.Author.Rules.{rules}
 use Rattle.values.proofs.CopyLaws.{unmarked, marked}
 use Rattle.table.specs.WellFormed.{limit}
 use Rattle.values.proofs.copy_numbers.Goals as goal

@@ -1,18 +1,16 @@
-use Rattle.values.proofs.CopyLaws.{beyond, no_record, bare-asked, copy-asked, cut-long, cut-kept}
-use Rattle.windows.specs.Visits.{window}
+use Rattle.values.proofs.CopyLaws.{beyond, no_record, bare-asked, copy-asked, cut-kept}
 use Rattle.windows.proofs.HeadLaws.{by-none}
 use Rattle.table.specs.WellFormed.{limit, kept_right, copy_right}
 use Rattle.fields.specs.Layout.{get, version, form_value, mark_in, oldest_in, spare_in, spare}
-use Rattle.octets.specs.Bytes.{number, part}
+use Rattle.octets.specs.Bytes.{part}
 use Rattle.octets.proofs.CodeLaws.{zero_number}
-use borrow.Author.Tests.{not-true, not-false, eq-eqb, ne_eqb}
+use borrow.Author.Tests.{eq-eqb, ne_eqb}
 use native.Mathlib.Omega.{arith}
 use mathlib.Core.Bool.{Bool, true, false, ◌&&◌}
-use Prim.Native.Nat.{◌-◌, ◌≤◌, ◌<◌}
+use Prim.Native.Nat.{◌-◌, ◌<◌}
 use lib.Dec.{eqb}
 use lib.ListN.{length}
 use mathlib.Core.Path.{◌≡◌, refl, sym, ◌∙◌}
-use borrow.Author.Rules.{rules}
 use Rattle.values.proofs.copy_right.Goals.{After-both, After-desired, Then-version-gt-LIMIT}
 use Rattle.values.proofs.copy_right.Goals as goal
 

@@ -2,14 +2,13 @@ use Rattle.values.proofs.CopyLaws.{copy-asked, cut-long, cut-kept}
 use Rattle.table.specs.WellFormed.{kept_right, copy_right}
 use Rattle.fields.specs.Layout.{spare_in}
 use Rattle.octets.specs.Bytes.{all_zero}
-use borrow.Author.Tests.{not-true, not-false, lt-leb}
+use borrow.Author.Tests.{lt-leb}
 use lib.ListN.{length}
 use native.Mathlib.Omega.{arith}
 use mathlib.Core.List.{List}
 use Prim.Native.Nat.{ℕ, ◌+◌, ◌<◌}
 use mathlib.Core.Bool.{Bool, true, false, ◌&&◌, and-true}
 use mathlib.Core.Path.{◌≡◌, sym, ◌∙◌}
-use borrow.Author.Rules.{rules}
 use Rattle.values.proofs.former_copy_right.Goals.{After-copy_numbers, Else-form-lt-WITH_RECORDS}
 use Rattle.values.proofs.former_copy_right.Goals as goal
 

@@ -1,8 +1,7 @@
 use Rattle.table.specs.WellFormed.{head_values, county_right, head_right}
-use borrow.Author.Tests.{not-true, not-false, lt-leb}
+use borrow.Author.Tests.{lt-leb}
 use native.Mathlib.Omega.{arith}
 use mathlib.Core.Path.{◌≡◌, sym, ◌∙◌}
-use borrow.Author.Rules.{rules}
 use Rattle.values.proofs.former_head_right.Goals.{After-both}
 use Rattle.values.proofs.former_head_right.Goals as goal
 

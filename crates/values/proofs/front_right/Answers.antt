@@ -1,8 +1,7 @@
-use mathlib.Core.Path.{◌≡◌, sym, ◌∙◌}
-use borrow.Author.Tests.{not-true, not-false, le-leb, lt-leb, eq-eqb, ne_eqb}
+use mathlib.Core.Path.{sym, ◌∙◌}
+use borrow.Author.Tests.{le-leb, lt-leb, eq-eqb, ne_eqb}
 use Rattle.values.proofs.HeadLaws.{front-asked}
 use Rattle.table.specs.WellFormed.{limit}
-use borrow.Author.Rules.{rules}
 use Rattle.values.proofs.front_right.Goals as goal
 
 pub returns-then-not-between : goal.returns-then-not-between

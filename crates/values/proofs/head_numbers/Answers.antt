@@ -1,5 +1,4 @@
 use Rattle.table.specs.WellFormed.{limit}
-use borrow.Author.Rules.{rules}
 use Rattle.values.proofs.head_numbers.Goals as goal
 
 pub returns : goal.returns

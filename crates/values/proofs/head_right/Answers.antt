@@ -1,6 +1,4 @@
-use borrow.Author.Tests.{not-true, not-false}
-use mathlib.Core.Path.{◌≡◌, sym, ◌∙◌}
-use borrow.Author.Rules.{rules}
+use mathlib.Core.Path.{sym, ◌∙◌}
 use Rattle.values.proofs.HeadLaws.{head-asked}
 use Rattle.values.proofs.head_right.Goals as goal
 

@@ -5,7 +5,6 @@ use native.Mathlib.Nat.{mod-eq_of_lt}
 use native.Mathlib.Omega.{arith}
 use lib.Dec.{eqb}
 use lib.Pow.{pow_pos}
-use borrow.Author.Rules.{rules}
 use borrow.Author.Tests.{eqb-true, lt-ltb}
 use Rattle.fields.specs.Layout.{list, is_empty}
 use Rattle.table.specs.WellFormed.{only_rows, list_right}

@@ -5,11 +5,9 @@ use Rattle.fields.proofs.FieldLaws.{stride-late}
 use lib.ListN.{length}
 use Rattle.sets.proofs.TestLaws.{every_more, every-not}
 use Rattle.sets.specs.Upto.{Within, every}
-use borrow.Author.Tests.{not-true, not-false}
 use native.Mathlib.Omega.{arith}
-use Prim.Native.Nat.{ℕ, ◌+◌, ◌-◌, ◌≤◌}
+use Prim.Native.Nat.{ℕ, ◌+◌}
 use mathlib.Core.Path.{◌≡◌, refl, sym, ◌∙◌, ap, ap₂}
-use mathlib.Core.Bool.{true}
 use Rattle.wellformed.proofs.every_copy.Goals.{After-copies_right, After-row_size-size, In-loop-k}
 use Rattle.wellformed.proofs.every_copy.Goals as goal
 

@@ -3,11 +3,9 @@ use Rattle.table.proofs.WellFormedLaws.{header, few-rows, long}
 use Rattle.fields.specs.Layout.{form_value, used_of}
 use Rattle.sets.proofs.TestLaws.{every_more, every-not}
 use Rattle.sets.specs.Upto.{Within, every}
-use borrow.Author.Tests.{not-true, not-false}
 use native.Mathlib.Omega.{arith}
-use Prim.Native.Nat.{ℕ, ◌+◌, ◌-◌, ◌≤◌}
+use Prim.Native.Nat.{ℕ, ◌+◌}
 use mathlib.Core.Path.{◌≡◌, refl, sym, ◌∙◌, ap}
-use mathlib.Core.Bool.{true}
 use Rattle.wellformed.proofs.every_former_head.Goals.{After-former_head_right, In-loop-k}
 use Rattle.wellformed.proofs.every_former_head.Goals as goal
 

@@ -4,11 +4,9 @@ use Rattle.fields.specs.Layout.{form_value, stride, used_of, row_length}
 use Rattle.fields.proofs.FieldLaws.{stride-late}
 use Rattle.sets.proofs.TestLaws.{every_more, every-not}
 use Rattle.sets.specs.Upto.{Within, every}
-use borrow.Author.Tests.{not-true, not-false}
 use native.Mathlib.Omega.{arith}
-use Prim.Native.Nat.{ℕ, ◌+◌, ◌-◌, ◌≤◌}
+use Prim.Native.Nat.{ℕ, ◌+◌}
 use mathlib.Core.Path.{◌≡◌, refl, sym, ◌∙◌, ap, ap₂}
-use mathlib.Core.Bool.{true}
 use Rattle.wellformed.proofs.every_head.Goals.{After-head_right, After-row_size-size, In-loop-k}
 use Rattle.wellformed.proofs.every_head.Goals as goal
 

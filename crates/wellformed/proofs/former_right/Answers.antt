@@ -4,13 +4,10 @@ use Rattle.table.specs.WellFormed.{head_right, copy_right, row_right}
 use Rattle.fields.specs.Layout.{form_of, used_of, file_length_of, row_bytes}
 use Rattle.sets.proofs.TestLaws.{every_more, every-not}
 use Rattle.sets.specs.Upto.{Within, every}
-use borrow.Author.Tests.{not-true, not-false}
-use borrow.Author.Rules.{rules}
 use lib.ListN.{length}
 use native.Mathlib.Omega.{arith}
-use Prim.Native.Nat.{ℕ, ◌+◌, ◌-◌, ◌≤◌, ◌<◌}
+use Prim.Native.Nat.{ℕ, ◌+◌, ◌<◌}
 use mathlib.Core.Path.{◌≡◌, refl, sym, ◌∙◌, ap}
-use mathlib.Core.Bool.{true}
 use Rattle.wellformed.proofs.former_right.Goals.{After-former_copy_right, After-former_head_right, In-loop-k}
 use Rattle.wellformed.proofs.former_right.Goals as goal
 

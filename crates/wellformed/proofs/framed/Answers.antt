@@ -1,7 +1,6 @@
 use mathlib.Core.Bool.{true, ◌&&◌}
 use mathlib.Core.Path.{◌≡◌, refl, sym, ◌∙◌}
 use mathlib.Core.Logic.{inl, inr}
-use borrow.Author.Tests.{not-true, not-false}
 use Rattle.bools.proofs.BoolLaws.{clash}
 use Rattle.table.proofs.WellFormedLaws.{by_chain, by-lists, by-unused}
 use Rattle.table.specs.WellFormed.{visits_each, names_rise}

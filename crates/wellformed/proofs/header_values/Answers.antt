@@ -1,6 +1,5 @@
 use Rattle.table.specs.WellFormed.{header_values}
 use Rattle.fields.specs.Layout.{form_value}
-use borrow.Author.Rules.{rules}
 use Rattle.wellformed.proofs.header_values.Goals as goal
 
 pub returns : goal.returns

@@ -1,6 +1,4 @@
-use mathlib.Core.Path.{◌≡◌, sym, ◌∙◌}
-use borrow.Author.Tests.{not-true, not-false}
-use borrow.Author.Rules.{rules}
+use mathlib.Core.Path.{sym, ◌∙◌}
 use Rattle.table.proofs.WellFormedLaws.{by_size, by_rows}
 use Rattle.table.specs.Asked.{Sized}
 use Rattle.wellformed.proofs.RowLaws.{sized-by}

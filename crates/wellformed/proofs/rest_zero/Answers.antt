@@ -3,7 +3,6 @@ use Rattle.octets.proofs.CodeLaws.{zero_number, zero-numbers}
 use Rattle.octets.specs.Bytes.{part, all_zero}
 use borrow.Author.Tests.{le-leb, lt-leb}
 use mathlib.Core.Path.{◌≡◌}
-use borrow.Author.Rules.{rules}
 use Rattle.wellformed.proofs.rest_zero.Goals.{After-both-rest}
 use Rattle.wellformed.proofs.rest_zero.Goals as goal
 
