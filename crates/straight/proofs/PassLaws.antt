@@ -1,18 +1,16 @@
 -- What one pass over the heads sees, and what follows of the whole table.
 use mathlib.Core.Path.{◌≡◌, refl, sym, subst, ◌∙◌, ap}
-use mathlib.Core.Bool.{Bool, true, false, not, ◌&&◌, ◌||◌}
+use mathlib.Core.Bool.{Bool, true, false, not, ◌||◌}
 use mathlib.Core.Logic.{◌⊎◌, inl, inr}
-use mathlib.Core.List.{List, ◌++◌}
-use Prim.Native.Nat.{ℕ, ◌+◌, ◌-◌, ◌*◌, ◌≤◌, ◌<◌}
+use mathlib.Core.List.{List}
+use Prim.Native.Nat.{ℕ, ◌+◌, ◌-◌, ◌≤◌, ◌<◌}
 use native.Mathlib.Numerals.{add-one}
 use native.Mathlib.Decide.{ℕ_discrete}
 use native.Mathlib.Omega.{arith}
-use lib.Dec.{eqb, leb}
 use lib.ListN.{length, replicate}
 use borrow.Author.Tests.{le-leb, eq-eqb}
 use Rattle.bools.proofs.BoolLaws.{and_i, or_l, or_r}
 use Rattle.sets.specs.Upto.{Within, every, some}
-use Rattle.sets.specs.Sets.{has}
 use Rattle.sets.proofs.UptoLaws.{every_of, some-none}
 use Rattle.octets.specs.Bytes.{number, part, all_zero}
 use Rattle.octets.proofs.CodeLaws.{number-first, zero-append}

@@ -1,26 +1,24 @@
 -- The chain of a straight table: its rows in their places.
 use mathlib.Core.Path.{◌≡◌, refl, sym, subst, ◌∙◌, ap}
-use mathlib.Core.Bool.{Bool, true, ◌&&◌, ◌||◌}
+use mathlib.Core.Bool.{Bool, true, ◌&&◌}
 use mathlib.Core.Logic.{◌⊎◌, inl, inr}
 use mathlib.Core.List.{List}
-use Prim.Native.Nat.{ℕ, zero, suc, ◌+◌, ◌≤◌, ◌<◌}
+use Prim.Native.Nat.{ℕ, zero, suc, ◌≤◌, ◌<◌}
 use native.Mathlib.Numerals.{add-one}
 use native.Mathlib.Omega.{arith}
-use lib.Dec.{eqb}
 use lib.ListN.{length, set}
 use borrow.Author.Tests.{lt-ltb, le-ltb, eq-eqb}
 use Rattle.bools.proofs.BoolLaws.{and_i, or_l, or_r}
-use Rattle.sets.specs.Upto.{Within, every}
+use Rattle.sets.specs.Upto.{Within}
 use Rattle.sets.specs.Sets.{has, gaining}
 use Rattle.sets.proofs.UptoLaws.{last, every_of}
 use Rattle.sets.proofs.SetLaws.{row-yes}
-use Rattle.fields.specs.Layout.{used_of, name_of, link_of}
+use Rattle.fields.specs.Layout.{used_of, name_of}
 use Rattle.table.specs.WellFormed.{visits_each, names_rise}
 use Rattle.table.specs.Asked.{Linked, Ordered, walked_into}
 use Rattle.table.proofs.WellFormedLaws.{header, few-rows}
 use Rattle.table.proofs.ChainLaws.{Walked, walk_start, walk_turn, walk-all, walk-order, left-all}
 use Rattle.straight.specs.Straight.{behind, name_before, Straight, numbered}
-use Rattle.straight.proofs.PassLaws.{before-is}
 
 -- the first k rows, put in one by one
 unfoldable seen : ℕ → ℕ → Bool

@@ -1,15 +1,11 @@
 use mathlib.Core.Path.{◌≡◌, sym, ◌∙◌, ap}
-use mathlib.Core.Logic.{⊎_elim}
-use Prim.Native.Nat.{◌+◌, ◌≤◌}
+use Prim.Native.Nat.{◌+◌}
 use native.Mathlib.Omega.{arith}
-use borrow.Author.Rules.{rules}
-use borrow.Author.Tests.{not-true, not-false}
 use Rattle.bools.proofs.BoolLaws.{clash}
 use Rattle.fields.specs.Layout.{get, epoch, list, epoch_of, list_of, is_empty}
 use Rattle.table.proofs.WellFormedLaws.{few-rows}
-use Rattle.agreement.specs.Compared.{Apart}
 use Rattle.agreement.proofs.AgreeLaws.{apart_more, join-none, join-like, join-listed}
-use Rattle.agreement.proofs.found.Goals.{After-epoch, After-epoch-epoch, After-list-list, After-list-own, Then-epoch}
+use Rattle.agreement.proofs.found.Goals.{After-epoch, After-epoch-epoch, After-list-list, After-list-own, Then-epoch, then-epoch+else-same+else-not-is_empty, else-epoch}
 use Rattle.agreement.proofs.found.Goals as goal
 
 -- list and epoch of row k + 1, and of row j
@@ -31,7 +27,8 @@ other-epoch c = c.epoch.ensures ∙ ap (get epoch) c.row_of-other.ensures.0
 
 -- the two are of one epoch
 alike : (c : Then-epoch) → let a = c.args in epoch_of a.t.now (a.k + 1) ≡ epoch_of a.t.now c.loop-j.j
-alike c = sym (its-epoch c.before.before.before.before.before) ∙ c.if-epoch.true ∙ other-epoch c.before
+unfolding epoch_of
+alike c = sym (c.epoch-epoch.ensures ∙ ap (get epoch) c.row_of-row.ensures.0) ∙ c.if-epoch.true ∙ c.epoch.ensures ∙ ap (get epoch) c.row_of-other.ensures.0
 
 pub overflow_add-k : goal.overflow_add-k
 overflow_add-k c = omega (arith, few-rows c.requires.0)
@@ -59,13 +56,13 @@ list-list-requires c = c.row_of-other.ensures.1
 
 pub returns-then-same : goal.returns-then-same
 returns-then-same c all =
-                let a = c.args in
+    let a = c.args in
     join-like a.t.now a.k c.loop-j.j (omega (arith, c.loop-j-test.true)) (alike (goal.at.returns-then-same c).Then-epoch) all
     (sym (own (goal.at.returns-then-same c).After-list-own) ∙ c.same.ensures.0 c.if-same.true ∙ other (goal.at.returns-then-same c).After-list-list)
 
 pub returns-then-not-is_empty : goal.returns-then-not-is_empty
 returns-then-not-is_empty c all =
-                            let a = c.args in
+    let a = c.args in
     c.is_empty-then-not-is_empty.ensures ∙ ap is_empty (own (goal.at.returns-then-not-is_empty c).After-list-own)
     ∙ join-listed a.t.now a.k c.loop-j.j (omega (arith, c.loop-j-test.true)) (alike (goal.at.returns-then-not-is_empty c).Then-epoch) all
     (ap is_empty (sym (other (goal.at.returns-then-not-is_empty c).After-list-list)) ∙ sym c.is_empty.ensures ∙ c.if-not-is_empty.true)
@@ -76,13 +73,13 @@ unfolding list_of
 loop-j-preserved c =
     let l = c.loop-j in (
       omega arith,
-      apart_more _ _ _ l.j l.invariant.1 (λ q. ⊎_elim
-          (λ w. ap is_empty (sym (w.1.ensures ∙ ap list c.row_of-other.ensures.0)) ∙ sym w.4.ensures ∙ not-false _ w.5.left)
-          (λ w. absurd (w.left (q ∙ sym (other-epoch (goal.at.loop-j-preserved c).After-epoch))))
-          c.if-epoch.branch),
+      apart_more _ _ _ l.j l.invariant.1 (λ q. elim c.if-epoch.branch [
+        | then-epoch+else-same+else-not-is_empty w ↦ ap is_empty (sym (w.list-list.ensures ∙ ap list c.row_of-other.ensures.0)) ∙ sym w.is_empty.ensures ∙ w.if-not-is_empty.false
+        | else-epoch w ↦ absurd (w.if-epoch.false (q ∙ sym (other-epoch (goal.at.loop-j-preserved c).After-epoch)))
+      ]),
     )
 
 pub returns : goal.returns
 returns c all =
-        let a = c.args in
+    let a = c.args in
     join-none a.t.now a.k (λ i w h q. c.loop-j.invariant.1 i w (omega (arith, c.loop-j-test.false)) (its-epoch (goal.at.returns c).After-epoch-epoch ∙ q))

@@ -1,10 +1,8 @@
-use mathlib.Core.Path.{◌≡◌, sym, ◌∙◌, ap}
-use mathlib.Core.Bool.{true}
-use Prim.Native.Nat.{ℕ, ◌+◌, ◌-◌, ◌≤◌, ◌<◌}
+use mathlib.Core.Path.{sym, ◌∙◌, ap}
+use Prim.Native.Nat.{◌+◌, ◌<◌}
 use native.Mathlib.Omega.{arith}
-use borrow.Author.Rules.{rules}
 use Rattle.sets.specs.Upto.{Within}
-use Rattle.fields.specs.Layout.{get, county, used_of, row_bytes}
+use Rattle.fields.specs.Layout.{get, county, used_of}
 use Rattle.table.proofs.WellFormedLaws.{few-rows}
 use Rattle.grouping.proofs.GroupLaws.{same_more}
 use Rattle.grouping.proofs.all_in.Goals.{In-loop-k}
@@ -13,7 +11,7 @@ use Rattle.grouping.proofs.all_in.Goals as goal
 -- the row of this turn is a used one
 turn : (c : In-loop-k) → Within (used_of c.args.t.now) (c.loop-k.k + 1) × (c.loop-k.k < 64)
 turn c =
-            let w : Within (used_of c.args.t.now) (c.loop-k.k + 1) = omega (arith, c.requires.2, c.loop-k-test.true) in
+    let w : Within (used_of c.args.t.now) (c.loop-k.k + 1) = omega (arith, c.requires.2, c.loop-k-test.true) in
     (w, omega (arith, w, few-rows c.requires.0))
 
 pub loop-k-init : goal.loop-k-init
@@ -36,8 +34,7 @@ loop-k-smaller c = let less = c.loop-k-test.true in omega arith
 
 pub loop-k-preserved : goal.loop-k-preserved
 loop-k-preserved c =
-            let l = c.loop-k in
-    (
+    let l = c.loop-k in (
       omega (arith, c.loop-k-test.true),
       λ e. same_more _ c.args.which l.k _ l.same l.invariant.1 (c.county-own.ensures ∙ ap (get county) c.row_at.ensures.0) (sym c.both-same.ensures ∙ e),
     )
@@ -45,5 +42,5 @@ loop-k-preserved c =
 pub returns : goal.returns
 returns c =
     let l = c.loop-k in
-        let done = c.loop-k-test.false in
+    let done = c.loop-k-test.false in
     λ e i w. l.invariant.1 e i (omega (arith, w, c.requires.2, done))

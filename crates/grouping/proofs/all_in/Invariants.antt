@@ -1,12 +1,8 @@
-use mathlib.Core.Path.{◌≡◌, sym, ◌∙◌, ap}
+use mathlib.Core.Path.{◌≡◌}
 use mathlib.Core.Bool.{true}
-use Prim.Native.Nat.{ℕ, ◌+◌, ◌-◌, ◌≤◌, ◌<◌}
-use native.Mathlib.Omega.{arith}
-use borrow.Author.Rules.{rules}
+use Prim.Native.Nat.{ℕ, ◌-◌, ◌≤◌}
 use Rattle.sets.specs.Upto.{Within}
-use Rattle.fields.specs.Layout.{get, county, used_of, row_bytes}
-use Rattle.table.proofs.WellFormedLaws.{few-rows}
-use Rattle.grouping.proofs.GroupLaws.{same_more}
+use Rattle.fields.specs.Layout.{get, county, row_bytes}
 use Rattle.grouping.proofs.all_in.Given as goal
 
 -- the first k rows have it

@@ -1,10 +1,9 @@
 use mathlib.Core.Path.{◌≡◌, sym, ◌∙◌, ap}
-use Prim.Native.Nat.{◌+◌, ◌-◌, ◌≤◌, ◌<◌}
+use Prim.Native.Nat.{◌+◌, ◌<◌}
 use native.Mathlib.Omega.{arith}
 use Rattle.sets.specs.Upto.{Within}
 use Rattle.fields.specs.Layout.{get, county, used_of, row_bytes}
 use Rattle.table.proofs.WellFormedLaws.{header, long, few-rows, county-few}
-use Rattle.grouping.specs.Grouped.{Filled}
 use Rattle.grouping.proofs.GroupLaws.{none_filled, filled-same, table-grouped}
 use Rattle.grouping.proofs.group.Goals.{After-county-county, After-county-first, In-loop-k}
 use Rattle.grouping.proofs.group.Goals as goal
@@ -12,7 +11,7 @@ use Rattle.grouping.proofs.group.Goals as goal
 -- the row of this turn is a used one
 turn : (c : In-loop-k) → Within (used_of c.args.t.now) (c.loop-k.k + 1) × (c.loop-k.k < 64)
 turn c =
-            let w : Within (used_of c.args.t.now) (c.loop-k.k + 1) = omega (arith, c.loop-k.invariant.0, c.loop-k-test.true) in
+    let w : Within (used_of c.args.t.now) (c.loop-k.k + 1) = omega (arith, c.loop-k.invariant.0, c.loop-k-test.true) in
     (w, omega (arith, w, few-rows c.requires.sized))
 
 -- and this is its county
@@ -27,14 +26,14 @@ used-used-requires c = long c.requires.sized
 
 pub row_at-requires : goal.row_at-requires
 row_at-requires c =
-            (c.requires.sized, c.row_length-size.ensures, omega (arith, (header c.requires.sized.header).used))
+    (c.requires.sized, c.row_length-size.ensures, omega (arith, (header c.requires.sized.header).used))
 
 pub county-first-requires : goal.county-first-requires
 county-first-requires c = c.row_at.ensures.1
 
 pub all_in-requires : goal.all_in-requires
 all_in-requires c =
-            (c.requires.sized, c.row_length-size.ensures, c.used-used.ensures)
+    (c.requires.sized, c.row_length-size.ensures, c.used-used.ensures)
 
 -- the county of row 1
 first-is : (c : After-county-first) → c.county-first.result ≡ get county (row_bytes c.args.t.now 1)
@@ -42,11 +41,11 @@ first-is c = c.county-first.ensures ∙ ap (get county) c.row_at.ensures.0
 
 pub whole-requires : goal.whole-requires
 whole-requires c =
-            rw (first-is (goal.at.whole-requires c).After-county-first) (county-few c.requires 1 (omega (arith, (header c.requires.sized.header).used)))
+    rw (first-is (goal.at.whole-requires c).After-county-first) (county-few c.requires 1 (omega (arith, (header c.requires.sized.header).used)))
 
 pub returns-then-all_in : goal.returns-then-all_in
 returns-then-all_in c =
-                    let filled = c.whole.ensures (omega (arith, c.used-used.ensures, few-rows c.requires.sized)) in
+    let filled = c.whole.ensures (omega (arith, c.used-used.ensures, few-rows c.requires.sized)) in
     table-grouped _ _ c.requires (filled-same _ _ _ _ (c.all_in.ensures c.if-all_in.true) (rw c.used-used.ensures at filled))
 
 pub loop-k-init : goal.loop-k-init
@@ -63,7 +62,7 @@ county-county-requires c = c.row_at-in-loop-k.ensures.1
 
 pub put-requires : goal.put-requires
 put-requires c =
-        ((turn (goal.at.put-requires c).In-loop-k).1, rw (here (goal.at.put-requires c).After-county-county) (county-few c.requires (c.loop-k.k + 1) (turn (goal.at.put-requires c).In-loop-k).0))
+    ((turn (goal.at.put-requires c).In-loop-k).1, rw (here (goal.at.put-requires c).After-county-county) (county-few c.requires (c.loop-k.k + 1) (turn (goal.at.put-requires c).In-loop-k).0))
 
 pub overflow_add-k-in-loop-k : goal.overflow_add-k-in-loop-k
 overflow_add-k-in-loop-k c = omega (arith, (turn (goal.at.overflow_add-k-in-loop-k c).In-loop-k).1)
@@ -73,11 +72,11 @@ loop-k-smaller c = let less = c.loop-k-test.true in omega arith
 
 pub loop-k-preserved : goal.loop-k-preserved
 loop-k-preserved c =
-        let l = c.loop-k in
+    let l = c.loop-k in
     (l.invariant.0, omega (arith, c.loop-k-test.true), c.put.ensures _ (sym (here (goal.at.loop-k-preserved c).After-county-county)) l.invariant.2)
 
 pub returns : goal.returns
 returns c =
     let l = c.loop-k in
-        let e : l.k ≡ used_of c.args.t.now = omega (arith, l.invariant.0, l.invariant.1, c.loop-k-test.false) in
+    let e : l.k ≡ used_of c.args.t.now = omega (arith, l.invariant.0, l.invariant.1, c.loop-k-test.false) in
     table-grouped _ _ c.requires (rw e at l.invariant.2)

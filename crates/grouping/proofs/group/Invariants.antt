@@ -1,11 +1,7 @@
-use mathlib.Core.Path.{◌≡◌, sym, ◌∙◌, ap}
-use Prim.Native.Nat.{◌+◌, ◌-◌, ◌≤◌, ◌<◌}
-use native.Mathlib.Omega.{arith}
-use Rattle.sets.specs.Upto.{Within}
+use mathlib.Core.Path.{◌≡◌}
+use Prim.Native.Nat.{◌-◌, ◌≤◌}
 use Rattle.fields.specs.Layout.{get, county, used_of, row_bytes}
-use Rattle.table.proofs.WellFormedLaws.{header, long, few-rows, county-few}
 use Rattle.grouping.specs.Grouped.{Filled}
-use Rattle.grouping.proofs.GroupLaws.{none_filled, filled-same, table-grouped}
 use Rattle.grouping.proofs.group.Given as goal
 
 -- the first k rows are in their sets

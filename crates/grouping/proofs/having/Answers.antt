@@ -1,16 +1,14 @@
 use mathlib.Core.Path.{◌≡◌, ◌∙◌, ap}
 use mathlib.Core.Bool.{not, cond}
-use Prim.Native.Nat.{ℕ, ◌+◌, ◌-◌, ◌≤◌}
+use Prim.Native.Nat.{ℕ, ◌+◌}
 use native.Mathlib.Nat.{mod-eq_of_lt}
 use native.Mathlib.Omega.{arith}
-use borrow.Author.Rules.{rules}
 use Rattle.bools.proofs.BoolLaws.{not-not}
 use Rattle.sets.specs.Upto.{some}
 use Rattle.sets.specs.Sets.{has, gaining}
 use Rattle.sets.proofs.SetLaws.{has-empty}
-use Rattle.sets.proofs.GatherLaws.{up_to, none-gathered, one-gathered}
-use Rattle.counties.specs.Counties.{in_county, has_members}
-use Rattle.grouping.specs.Grouped.{county_by}
+use Rattle.sets.proofs.GatherLaws.{none-gathered, one-gathered}
+use Rattle.counties.specs.Counties.{has_members}
 use Rattle.grouping.proofs.having.Goals as goal
 
 pub loop-k-init : goal.loop-k-init
@@ -18,7 +16,7 @@ loop-k-init c = (omega arith, has-empty ∙ none-gathered _)
 
 pub loop-k-preserved : goal.loop-k-preserved
 loop-k-preserved c =
-        let l = c.loop-k in
+    let l = c.loop-k in
     let less = c.loop-k-test.true in (
       omega arith,
       c.add-out.ensures ∙ ap (λ (x : ℕ). cond (not c.is_empty.result) (gaining (has l.out.bits) (x + 1)) (has l.out.bits)) (mod-eq_of_lt (omega arith))

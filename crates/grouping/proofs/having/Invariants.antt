@@ -1,15 +1,9 @@
-use mathlib.Core.Path.{◌≡◌, ◌∙◌, ap}
-use mathlib.Core.Bool.{not, cond}
-use Prim.Native.Nat.{ℕ, ◌+◌, ◌-◌, ◌≤◌}
-use native.Mathlib.Nat.{mod-eq_of_lt}
-use native.Mathlib.Omega.{arith}
-use borrow.Author.Rules.{rules}
-use Rattle.bools.proofs.BoolLaws.{not-not}
+use mathlib.Core.Path.{◌≡◌}
+use Prim.Native.Nat.{◌-◌, ◌≤◌}
 use Rattle.sets.specs.Upto.{some}
-use Rattle.sets.specs.Sets.{has, gaining}
-use Rattle.sets.proofs.SetLaws.{has-empty}
-use Rattle.sets.proofs.GatherLaws.{up_to, none-gathered, one-gathered}
-use Rattle.counties.specs.Counties.{in_county, has_members}
+use Rattle.sets.specs.Sets.{has}
+use Rattle.sets.proofs.GatherLaws.{up_to}
+use Rattle.counties.specs.Counties.{in_county}
 use Rattle.grouping.specs.Grouped.{county_by}
 use Rattle.grouping.proofs.having.Given as goal
 

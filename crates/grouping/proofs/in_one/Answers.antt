@@ -1,7 +1,5 @@
 use mathlib.Core.Path.{sym, ◌∙◌, ap}
-use Prim.Native.Nat.{◌-◌, ◌≤◌}
 use native.Mathlib.Omega.{arith}
-use borrow.Author.Rules.{rules}
 use Rattle.bools.proofs.BoolLaws.{clash}
 use Rattle.sets.specs.Sets.{has}
 use Rattle.grouping.proofs.GroupLaws.{all-inside}
@@ -12,7 +10,7 @@ loop-k-init c = omega arith
 
 pub returns-then-there-members : goal.returns-then-there-members
 returns-then-there-members c =
-            λ e. all-inside c.args.sets.now c.requires (has c.args.members.bits) c.loop-k.k c.loop-k-test.true (sym c.inside-there.ensures ∙ ap has c.if-there-members.true)
+    λ e. all-inside c.args.sets.now c.requires (has c.args.members.bits) c.loop-k.k c.loop-k-test.true (sym c.inside-there.ensures ∙ ap has c.if-there-members.true)
 
 pub returns : goal.returns
 returns c = λ e. absurd (clash e)

@@ -1,5 +1,4 @@
 use mathlib.Core.Path.{◌∙◌}
-use borrow.Author.Rules.{rules}
 use Rattle.sets.specs.Sets.{has}
 use Rattle.grouping.proofs.GroupLaws.{inside_is}
 use Rattle.grouping.proofs.inside.Goals as goal

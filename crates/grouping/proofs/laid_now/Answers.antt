@@ -1,4 +1,3 @@
-use borrow.Author.Rules.{rules}
 use Rattle.counties.specs.Marks.{laid_now}
 use Rattle.grouping.proofs.laid_now.Goals as goal
 

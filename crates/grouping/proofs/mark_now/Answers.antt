@@ -1,4 +1,3 @@
-use borrow.Author.Rules.{rules}
 use Rattle.counties.specs.Marks.{mark_now}
 use Rattle.grouping.proofs.mark_now.Goals as goal
 

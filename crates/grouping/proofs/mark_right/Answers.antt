@@ -1,4 +1,3 @@
-use borrow.Author.Rules.{rules}
 use Rattle.counties.specs.Marks.{mark_right}
 use Rattle.grouping.proofs.mark_right.Goals as goal
 

@@ -1,10 +1,6 @@
-use mathlib.Core.Path.{◌≡◌, ap}
-use Prim.Native.Nat.{ℕ, ◌+◌, ◌-◌, ◌≤◌}
-use native.Mathlib.Omega.{arith}
-use borrow.Author.Rules.{rules}
+use Prim.Native.Nat.{◌-◌, ◌≤◌}
 use lib.ListN.{length, get_or}
 use Rattle.grouping.specs.Grouped.{Filled}
-use Rattle.grouping.proofs.GroupLaws.{none_filled, places-grouped}
 use Rattle.grouping.proofs.of_places.Given as goal
 
 -- the first k rows are in their sets

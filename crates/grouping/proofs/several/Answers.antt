@@ -1,5 +1,4 @@
 use mathlib.Core.Path.{sym}
-use borrow.Author.Rules.{rules}
 use Rattle.sets.specs.Sets.{has}
 use Rattle.counties.specs.Counties.{several}
 use Rattle.counties.proofs.OneCountyLaws.{not-several}

@@ -1,5 +1,4 @@
 use native.Mathlib.Omega.{arith}
-use borrow.Author.Rules.{rules}
 use Rattle.grouping.proofs.GroupLaws.{none-whole, all_whole}
 use Rattle.grouping.proofs.whole.Goals as goal
 

@@ -1,8 +1,6 @@
-use borrow.Author.Rules.{rules}
 use mathlib.Core.Path.{sym, ◌∙◌, ap}
 use native.Mathlib.Omega.{arith}
 use Prim.Native.Nat.{ℕ, ◌+◌, ◌-◌, ◌%◌}
-use borrow.Author.Tests.{not-false}
 use Rattle.sets.specs.Sets.{has}
 use Rattle.fields.specs.Layout.{get, members}
 use Rattle.straight.proofs.RowLaws.{place, county-is, county-few, county-rest}
@@ -22,12 +20,12 @@ returns-then-u16_at-ne0-2 c = λ e. absurd (omega arith)
 
 pub overflow_cast-result : goal.overflow_cast-result
 overflow_cast-result c =
-            omega (arith, county-few c.args.row.now _ c.requires.2 c.u32_at-wide.ensures (sym c.u16_at-2.ensures ∙ c.if-u16_at-ne0-2.false) (sym c.is_county.ensures ∙ c.if-is_county.true), county-is c.args.row.now _ c.requires.2 c.u32_at-wide.ensures (sym c.u16_at-2.ensures ∙ c.if-u16_at-ne0-2.false) (sym c.is_county.ensures ∙ c.if-is_county.true))
+    omega (arith, county-few c.args.row.now _ c.requires.2 c.u32_at-wide.ensures (sym c.u16_at-2.ensures ∙ c.if-u16_at-ne0-2.false) (sym c.is_county.ensures ∙ c.if-is_county.true), county-is c.args.row.now _ c.requires.2 c.u32_at-wide.ensures (sym c.u16_at-2.ensures ∙ c.if-u16_at-ne0-2.false) (sym c.is_county.ensures ∙ c.if-is_county.true))
 
 pub returns-then-is_county : goal.returns-then-is_county
 returns-then-is_county c =
-        let z = sym c.u16_at-2.ensures ∙ c.if-u16_at-ne0-2.false in
-                        let y = sym c.is_county.ensures ∙ c.if-is_county.true in
+    let z = sym c.u16_at-2.ensures ∙ c.if-u16_at-ne0-2.false in
+    let y = sym c.is_county.ensures ∙ c.if-is_county.true in
     λ e. (
       record {
         link = c.leads_on.ensures (c.if-not-leads_on.false);

@@ -1,5 +1,4 @@
-use borrow.Author.Rules.{rules}
-use mathlib.Core.Path.{◌≡◌, sym, ◌∙◌}
+use mathlib.Core.Path.{sym, ◌∙◌}
 use native.Mathlib.Omega.{arith}
 use borrow.Author.Tests.{eqb-true}
 use Rattle.bools.proofs.BoolLaws.{clash}
@@ -16,7 +15,7 @@ returns-then-members-laid c = λ e. absurd (clash e)
 pub returns : goal.returns
 unfolding list
 returns c =
-                    let row = c.args.row.now in
+    let row = c.args.row.now in
     λ e.
     let q = sym c.u16_at.ensures ∙ eqb-true _ _ e in (
       sym c.epoch.ensures ∙ c.if-epoch-since.false,

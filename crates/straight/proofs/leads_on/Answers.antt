@@ -1,4 +1,3 @@
-use borrow.Author.Rules.{rules}
 use mathlib.Core.Path.{sym, ◌∙◌}
 use Rattle.straight.proofs.RowLaws.{behind-next, behind-last}
 use Rattle.straight.proofs.leads_on.Goals as goal

@@ -1,8 +1,5 @@
-use borrow.Author.Rules.{rules}
-use mathlib.Core.Path.{◌≡◌, sym, ◌∙◌, ap}
+use mathlib.Core.Path.{sym, ◌∙◌, ap}
 use native.Mathlib.Omega.{arith}
-use Prim.Native.Nat.{ℕ}
-use borrow.Author.Tests.{not-false}
 use Rattle.bools.proofs.BoolLaws.{clash}
 use Rattle.fields.specs.declared.Laid.{Laid}
 use Rattle.fields.specs.Layout.{list}
@@ -20,7 +17,7 @@ returns-then-not-only_rows c = λ e. absurd (clash e)
 pub returns : goal.returns
 unfolding limit list
 returns c =
-                    λ e. (
+    λ e. (
       omega (arith, c.if-epoch-gt-LIMIT.false, c.epoch.ensures),
       ap (λ (x : Laid). only_rows c.args.n x.members) (sym c.list-own.ensures) ∙ sym c.only_rows.ensures ∙ c.if-not-only_rows.false,
       ap (mark_right (county_by c.args.sets.now)) (sym c.list-own.ensures) ∙ sym c.mark_right.ensures ∙ e,

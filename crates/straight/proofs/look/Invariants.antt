@@ -1,14 +1,5 @@
-use mathlib.Core.Path.{◌≡◌, sym, subst, ◌∙◌, ap, ap₂}
-use native.Mathlib.Omega.{arith}
-use Prim.Native.Nat.{ℕ, ◌+◌, ◌-◌, ◌≤◌, ◌<◌}
-use Rattle.bools.proofs.BoolLaws.{clash}
-use Rattle.sets.specs.Upto.{Within}
-use Rattle.fields.specs.Layout.{get, name, epoch, list, county, stride, used_of, row_length, row_bytes, name_of, epoch_of, list_of, county_of}
-use Rattle.fields.proofs.FieldLaws.{stride-late}
-use Rattle.grouping.specs.Grouped.{county_by}
-use Rattle.table.proofs.WellFormedLaws.{header, few-rows, long}
-use Rattle.straight.specs.Straight.{Placed, Settled}
-use Rattle.straight.proofs.PassLaws.{Passed, none_passed, one-passed, grouped, straight}
+use Prim.Native.Nat.{◌-◌}
+use Rattle.straight.proofs.PassLaws.{Passed}
 use Rattle.straight.proofs.look.Given as goal
 
 abbrev pub invariant-loop-k : goal.invariant-loop-k

@@ -1,6 +1,5 @@
-use mathlib.Core.Path.{◌≡◌, refl, sym, ◌∙◌, ap}
+use mathlib.Core.Path.{◌≡◌, refl, ◌∙◌, ap}
 use native.Mathlib.Omega.{arith}
-use Prim.Native.Nat.{ℕ, ◌-◌, ◌≤◌}
 use lib.ListN.{length}
 use Rattle.straight.specs.Straight.{numbered}
 use Rattle.straight.proofs.RowLaws.{numbered_more, numbered-long}
@@ -16,7 +15,7 @@ overflow_add-next c = omega (arith, c.loop-k.invariant.1, c.loop-k-test.true, c.
 pub bounds-places-k : goal.bounds-places-k
 bounds-places-k c =
     let l = c.loop-k in
-        omega (arith, c.loop-k-test.true, c.requires, ap length l.invariant.2, numbered-long c.args.rows.now l.k, c.places-1.given.0.1)
+    omega (arith, c.loop-k-test.true, c.requires, ap length l.invariant.2, numbered-long c.args.rows.now l.k)
 
 pub overflow_add-k : goal.overflow_add-k
 overflow_add-k c = omega (arith, c.loop-k-test.true)
@@ -31,4 +30,4 @@ pub returns : goal.returns
 returns c =
     let l = c.loop-k in
     let e : l.k ≡ c.args.n = omega (arith, l.invariant.0, c.loop-k-test.false) in
-    (c.places-1.given.0.1, l.invariant.2 ∙ ap (numbered _) e)
+    (omega arith, l.invariant.2 ∙ ap (numbered _) e)

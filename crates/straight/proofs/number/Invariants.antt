@@ -1,9 +1,6 @@
-use mathlib.Core.Path.{◌≡◌, refl, sym, ◌∙◌, ap}
-use native.Mathlib.Omega.{arith}
-use Prim.Native.Nat.{ℕ, ◌-◌, ◌≤◌}
-use lib.ListN.{length}
+use mathlib.Core.Path.{◌≡◌}
+use Prim.Native.Nat.{◌-◌, ◌≤◌}
 use Rattle.straight.specs.Straight.{numbered}
-use Rattle.straight.proofs.RowLaws.{numbered_more, numbered-long}
 use Rattle.straight.proofs.number.Given as goal
 
 abbrev pub invariant-loop-k : goal.invariant-loop-k

@@ -1,4 +1,3 @@
-use borrow.Author.Rules.{rules}
 use Rattle.table.specs.WellFormed.{between}
 use Rattle.values.proofs.between.Goals as goal
 

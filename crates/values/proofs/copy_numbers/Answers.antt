@@ -3,7 +3,6 @@ use mathlib.Core.Bool.{and-false}
 use lib.Dec.{leb}
 use native.Mathlib.Omega.{arith}
 use borrow.Author.Tests.{lt-leb}
-use borrow.Author.Rules.{rules}
 use Rattle.values.proofs.CopyLaws.{unmarked, marked}
 use Rattle.table.specs.WellFormed.{limit}
 use Rattle.values.proofs.copy_numbers.Goals as goal
@@ -22,5 +21,5 @@ returns-then-mark-gt1 c = let a = c.args in sym (rw (lt-leb a.mark 1 c.if-mark-g
 pub returns : goal.returns
 unfolding limit
 returns c =
-        let a = c.args in
+    let a = c.args in
     c.both.ensures ∙ marked a.mark a.version a.desired (omega (arith, c.if-mark-gt1.false, c.if-mark-eq0.false)) (omega (arith, c.if-version-gt-LIMIT.false))

@@ -1,8 +1,7 @@
 use Rattle.table.specs.WellFormed.{head_values, county_right, head_right}
-use borrow.Author.Tests.{not-true, not-false, lt-leb}
+use borrow.Author.Tests.{lt-leb}
 use native.Mathlib.Omega.{arith}
 use mathlib.Core.Path.{◌≡◌, sym, ◌∙◌}
-use borrow.Author.Rules.{rules}
 use Rattle.values.proofs.former_head_right.Goals.{After-both}
 use Rattle.values.proofs.former_head_right.Goals as goal
 
@@ -18,13 +17,13 @@ returns-then-not-both c = rw (values-are (goal.at.returns-then-not-both c).After
 pub returns-then-not-list_right : goal.returns-then-not-list_right
 unfolding head_right
 returns-then-not-list_right c =
-        rw (values-are (goal.at.returns-then-not-list_right c).After-both ∙ c.if-not-both.false, sym c.list_right.ensures ∙ c.if-not-list_right.true)
+    rw (values-are (goal.at.returns-then-not-list_right c).After-both ∙ c.if-not-both.false, sym c.list_right.ensures ∙ c.if-not-list_right.true)
 
 -- no form before 5 has counties
 pub returns : goal.returns
 unfolding head_right county_right
 returns c =
-                rw (
+    rw (
       values-are (goal.at.returns c).After-both ∙ c.if-not-both.false,
       sym c.list_right.ensures ∙ c.if-not-list_right.false,
       lt-leb 5 c.args.form (omega (arith, c.requires.0)),

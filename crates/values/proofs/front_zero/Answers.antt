@@ -1,5 +1,4 @@
 use Rattle.octets.proofs.CodeLaws.{zero-numbers}
-use borrow.Author.Rules.{rules}
 use Rattle.values.proofs.front_zero.Goals as goal
 
 pub returns : goal.returns

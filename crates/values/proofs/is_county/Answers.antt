@@ -1,4 +1,3 @@
-use borrow.Author.Rules.{rules}
 use Rattle.table.specs.WellFormed.{is_county}
 use Rattle.values.proofs.is_county.Goals as goal
 

@@ -5,7 +5,6 @@ use native.Mathlib.Nat.{mod-eq_of_lt}
 use native.Mathlib.Omega.{arith}
 use lib.Dec.{eqb}
 use lib.Pow.{pow_pos}
-use borrow.Author.Rules.{rules}
 use borrow.Author.Tests.{eqb-true, lt-ltb}
 use Rattle.fields.specs.Layout.{list, is_empty}
 use Rattle.table.specs.WellFormed.{only_rows, list_right}
@@ -32,4 +31,4 @@ place c = let e : (c.args.i - 1) % 64 ≡ c.args.i - 1 = mod-eq_of_lt (omega ari
 pub returns : goal.returns
 unfolding list_right is_empty list
 returns c =
-        rw (c.either.ensures, c.at.ensures, place (goal.at.returns c).Start, c.only_rows.ensures, c.members-bits.ensures) (exempt _ _ _)
+    rw (c.either.ensures, c.at.ensures, place (goal.at.returns c).Start, c.only_rows.ensures, c.members-bits.ensures) (exempt _ _ _)

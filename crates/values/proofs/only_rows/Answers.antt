@@ -1,5 +1,4 @@
 use native.Mathlib.Omega.{arith}
-use borrow.Author.Rules.{rules}
 use Rattle.sets.proofs.SetLaws.{only-is}
 use Rattle.table.specs.WellFormed.{only_rows}
 use Rattle.values.proofs.only_rows.Goals as goal

@@ -1,4 +1,3 @@
-use borrow.Author.Rules.{rules}
 use Rattle.fields.specs.Layout.{list, is_empty}
 use Rattle.table.specs.WellFormed.{plain}
 use Rattle.values.proofs.plain.Goals as goal

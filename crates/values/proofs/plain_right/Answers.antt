@@ -1,6 +1,5 @@
 use mathlib.Core.Path.{sym}
 use borrow.Author.Tests.{le-leb, lt-leb}
-use borrow.Author.Rules.{rules}
 use Rattle.table.specs.WellFormed.{plain_right}
 use Rattle.values.proofs.plain_right.Goals as goal
 

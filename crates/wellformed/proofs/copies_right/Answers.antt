@@ -1,16 +1,13 @@
-use borrow.Author.Rules.{rules}
 use Rattle.table.specs.WellFormed.{copy_right}
 use Rattle.fields.proofs.FieldLaws.{stride-is, copy_is}
 use Rattle.blocks.specs.Blocks.{block}
 use Rattle.fields.specs.Layout.{form_value, copy_length, copy_in}
 use Rattle.sets.proofs.TestLaws.{every_more, every-not}
 use Rattle.sets.specs.Upto.{every}
-use borrow.Author.Tests.{not-true, not-false}
 use native.Mathlib.Omega.{arith}
 use native.Mathlib.Nat.{mul-le-mul_right}
-use Prim.Native.Nat.{ℕ, ◌+◌, ◌-◌, ◌*◌, ◌≤◌}
+use Prim.Native.Nat.{ℕ, ◌+◌, ◌*◌, ◌≤◌}
 use mathlib.Core.Path.{◌≡◌, refl, sym, ◌∙◌, ap}
-use mathlib.Core.Bool.{true}
 use Rattle.wellformed.proofs.copies_right.Goals.{After-copy_right}
 use Rattle.wellformed.proofs.copies_right.Goals as goal
 
@@ -19,7 +16,7 @@ found : (c : After-copy_right) → let a = c.args in
     copy_right form_value a.file (copy_in a.file (c.loop-q.q + 1) a.row.now) ≡ c.copy_right.result
 unfolding copy_in
 found c =
-        let a = c.args in
+    let a = c.args in
     sym (c.copy_right.ensures ∙ ap (copy_right form_value a.file) (c.copy_in.ensures.0 ∙ ap (λ (w : ℕ). block 32 w (c.loop-q.q + 1) a.row.now) c.copy_size-size.ensures))
 
 pub copy_size-size-requires : goal.copy_size-size-requires
@@ -31,7 +28,7 @@ loop-q-init c = (omega arith, refl)
 
 pub copy_in-requires : goal.copy_in-requires
 copy_in-requires c =
-        let w = copy_length c.args.file in
+    let w = copy_length c.args.file in
     let m : (c.loop-q.q + 1) * w ≤ c.args.files * w = mul-le-mul_right w (omega (arith, c.loop-q-test.true)) in
     (omega arith, rw c.copy_size-size.ensures (omega (arith, m, c.requires.1, stride-is c.args.files c.args.file)))
 
@@ -43,7 +40,7 @@ returns-then-not-copy_right c = every-not _ _ (c.loop-q.q + 1) (omega (arith, c.
 
 pub loop-q-preserved : goal.loop-q-preserved
 loop-q-preserved c =
-        let l = c.loop-q in
+    let l = c.loop-q in
     (omega (arith, c.loop-q-test.true), every_more _ l.q l.invariant.1 (found (goal.at.loop-q-preserved c).After-copy_right ∙ c.if-not-copy_right.false))
 
 pub returns : goal.returns

@@ -5,11 +5,9 @@ use Rattle.fields.proofs.FieldLaws.{stride-late}
 use lib.ListN.{length}
 use Rattle.sets.proofs.TestLaws.{every_more, every-not}
 use Rattle.sets.specs.Upto.{Within, every}
-use borrow.Author.Tests.{not-true, not-false}
 use native.Mathlib.Omega.{arith}
-use Prim.Native.Nat.{ℕ, ◌+◌, ◌-◌, ◌≤◌}
+use Prim.Native.Nat.{ℕ, ◌+◌}
 use mathlib.Core.Path.{◌≡◌, refl, sym, ◌∙◌, ap, ap₂}
-use mathlib.Core.Bool.{true}
 use Rattle.wellformed.proofs.every_copy.Goals.{After-copies_right, After-row_size-size, In-loop-k}
 use Rattle.wellformed.proofs.every_copy.Goals as goal
 
@@ -25,7 +23,7 @@ size_is c = c.row_size-size.ensures ∙ ap₂ stride c.files-files.ensures c.fil
 -- what was found of it
 found : (c : After-copies_right) → copies c.args.t.now (c.loop-k.k + 1) ≡ c.copies_right.result
 found c =
-            sym (c.copies_right.ensures ∙ copies-by _ _ _ _ _ c.files-files.ensures c.file_length-file.ensures c.row_at-row.ensures.0)
+    sym (c.copies_right.ensures ∙ copies-by _ _ _ _ _ c.files-files.ensures c.file_length-file.ensures c.row_at-row.ensures.0)
 
 pub used-used-requires : goal.used-used-requires
 used-used-requires c = long c.requires.0
@@ -53,11 +51,10 @@ pub overflow_add-k-in-loop-k : goal.overflow_add-k-in-loop-k
 overflow_add-k-in-loop-k c = omega (arith, c.loop-k-test.true)
 
 pub copies_right-requires : goal.copies_right-requires
-copies_right-requires c =
-        (
-      omega (arith, c.file_length-file.ensures, (header c.requires.0.header).file),
-      ap length c.row_at-row.ensures.0 ∙ later-long c.requires.0 c.requires.1 _ (within (goal.at.copies_right-requires c).In-loop-k) ∙ ap₂ stride (sym c.files-files.ensures) (sym c.file_length-file.ensures),
-    )
+copies_right-requires c = (
+  omega (arith, c.file_length-file.ensures, (header c.requires.0.header).file),
+  ap length c.row_at-row.ensures.0 ∙ later-long c.requires.0 c.requires.1 _ (within (goal.at.copies_right-requires c).In-loop-k) ∙ ap₂ stride (sym c.files-files.ensures) (sym c.file_length-file.ensures),
+)
 
 pub returns-then-not-copies_right : goal.returns-then-not-copies_right
 unfolding copies
@@ -68,12 +65,12 @@ loop-k-smaller c = omega (arith, c.loop-k-test.true)
 
 pub loop-k-preserved : goal.loop-k-preserved
 loop-k-preserved c =
-        let l = c.loop-k in
+    let l = c.loop-k in
     (omega (arith, c.loop-k-test.true), every_more _ l.k l.invariant.1 (found (goal.at.loop-k-preserved c).After-copies_right ∙ c.if-not-copies_right.false))
 
 pub returns : goal.returns
 unfolding copies
 returns c =
-        let t = c.args.t.now in
+    let t = c.args.t.now in
     let e : c.loop-k.k ≡ used_of t = omega (arith, c.loop-k-test.false, c.loop-k.invariant.0, c.used-used.ensures) in
     sym c.loop-k.invariant.1 ∙ ap (λ (n : ℕ). every n (copies t)) e

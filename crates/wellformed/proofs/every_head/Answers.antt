@@ -4,11 +4,9 @@ use Rattle.fields.specs.Layout.{form_value, stride, used_of, row_length}
 use Rattle.fields.proofs.FieldLaws.{stride-late}
 use Rattle.sets.proofs.TestLaws.{every_more, every-not}
 use Rattle.sets.specs.Upto.{Within, every}
-use borrow.Author.Tests.{not-true, not-false}
 use native.Mathlib.Omega.{arith}
-use Prim.Native.Nat.{ℕ, ◌+◌, ◌-◌, ◌≤◌}
+use Prim.Native.Nat.{ℕ, ◌+◌}
 use mathlib.Core.Path.{◌≡◌, refl, sym, ◌∙◌, ap, ap₂}
-use mathlib.Core.Bool.{true}
 use Rattle.wellformed.proofs.every_head.Goals.{After-head_right, After-row_size-size, In-loop-k}
 use Rattle.wellformed.proofs.every_head.Goals as goal
 
@@ -25,7 +23,7 @@ size_is c = c.row_size-size.ensures ∙ ap₂ stride c.files.ensures c.file_leng
 found : (c : After-head_right) → head c.args.t.now (c.loop-k.k + 1) ≡ c.head_right.result
 unfolding head
 found c =
-                sym (c.head_right.ensures ∙ rw (c.requires.1, c.used-used.ensures, c.row_at.ensures.0))
+    sym (c.head_right.ensures ∙ rw (c.requires.1, c.used-used.ensures, c.row_at.ensures.0))
 
 pub used-used-requires : goal.used-used-requires
 used-used-requires c = long c.requires.0
@@ -51,7 +49,7 @@ row_at-requires c = (c.requires.0, size_is (goal.at.row_at-requires c).After-row
 
 pub head_right-requires : goal.head_right-requires
 head_right-requires c =
-            (omega (arith, c.used-used.ensures, few-rows c.requires.0), omega (arith, c.used-used.ensures, within (goal.at.head_right-requires c).In-loop-k), c.row_at.ensures.1)
+    (omega (arith, c.used-used.ensures, few-rows c.requires.0), omega (arith, c.used-used.ensures, within (goal.at.head_right-requires c).In-loop-k), c.row_at.ensures.1)
 
 pub returns-then-not-head_right : goal.returns-then-not-head_right
 unfolding head
@@ -62,12 +60,12 @@ loop-k-smaller c = omega (arith, c.loop-k-test.true)
 
 pub loop-k-preserved : goal.loop-k-preserved
 loop-k-preserved c =
-        let l = c.loop-k in
+    let l = c.loop-k in
     (omega (arith, c.loop-k-test.true), every_more _ l.k l.invariant.1 (found (goal.at.loop-k-preserved c).After-head_right ∙ c.if-not-head_right.false))
 
 pub returns : goal.returns
 unfolding head
 returns c =
-        let t = c.args.t.now in
+    let t = c.args.t.now in
     let e : c.loop-k.k ≡ used_of t = omega (arith, c.loop-k-test.false, c.loop-k.invariant.0, c.used-used.ensures) in
     sym c.loop-k.invariant.1 ∙ ap (λ (n : ℕ). every n (head t)) e

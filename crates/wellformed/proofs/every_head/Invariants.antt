@@ -1,13 +1,7 @@
 use Rattle.wellformed.proofs.RowLaws.{head}
-use Rattle.table.proofs.WellFormedLaws.{header, few-rows, long}
-use Rattle.fields.specs.Layout.{form_value, stride, used_of, row_length}
-use Rattle.fields.proofs.FieldLaws.{stride-late}
-use Rattle.sets.proofs.TestLaws.{every_more, every-not}
-use Rattle.sets.specs.Upto.{Within, every}
-use borrow.Author.Tests.{not-true, not-false}
-use native.Mathlib.Omega.{arith}
-use Prim.Native.Nat.{ℕ, ◌+◌, ◌-◌, ◌≤◌}
-use mathlib.Core.Path.{◌≡◌, refl, sym, ◌∙◌, ap, ap₂}
+use Rattle.sets.specs.Upto.{every}
+use Prim.Native.Nat.{◌-◌, ◌≤◌}
+use mathlib.Core.Path.{◌≡◌}
 use mathlib.Core.Bool.{true}
 use Rattle.wellformed.proofs.every_head.Given as goal
 

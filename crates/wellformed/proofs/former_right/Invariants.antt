@@ -1,15 +1,7 @@
-use Rattle.wellformed.proofs.RowLaws.{former-is, third-long, head-no, head-yes}
-use Rattle.table.proofs.WellFormedLaws.{header, few-rows, long}
-use Rattle.table.specs.WellFormed.{head_right, copy_right, row_right}
-use Rattle.fields.specs.Layout.{form_of, used_of, file_length_of, row_bytes}
-use Rattle.sets.proofs.TestLaws.{every_more, every-not}
-use Rattle.sets.specs.Upto.{Within, every}
-use borrow.Author.Tests.{not-true, not-false}
-use borrow.Author.Rules.{rules}
-use lib.ListN.{length}
-use native.Mathlib.Omega.{arith}
-use Prim.Native.Nat.{ℕ, ◌+◌, ◌-◌, ◌≤◌, ◌<◌}
-use mathlib.Core.Path.{◌≡◌, refl, sym, ◌∙◌, ap}
+use Rattle.table.specs.WellFormed.{row_right}
+use Rattle.sets.specs.Upto.{every}
+use Prim.Native.Nat.{◌-◌, ◌≤◌}
+use mathlib.Core.Path.{◌≡◌}
 use mathlib.Core.Bool.{true}
 use Rattle.wellformed.proofs.former_right.Given as goal
 

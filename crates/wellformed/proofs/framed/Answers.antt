@@ -1,7 +1,6 @@
 use mathlib.Core.Bool.{true, ◌&&◌}
 use mathlib.Core.Path.{◌≡◌, refl, sym, ◌∙◌}
 use mathlib.Core.Logic.{inl, inr}
-use borrow.Author.Tests.{not-true, not-false}
 use Rattle.bools.proofs.BoolLaws.{clash}
 use Rattle.table.proofs.WellFormedLaws.{by_chain, by-lists, by-unused}
 use Rattle.table.specs.WellFormed.{visits_each, names_rise}
@@ -27,16 +26,15 @@ lists_right-requires c = (c.requires.sized, c.group.ensures)
 
 pub returns-then-not-lists_right : goal.returns-then-not-lists_right
 returns-then-not-lists_right c =
-            (by-lists _ c.requires (chain-right (goal.at.returns-then-not-lists_right c).Else-not-follow) (sym c.lists_right.ensures ∙ c.if-not-lists_right.true), λ z. absurd (clash z), c.follow.ensures.2, inl c.group.ensures)
+    (by-lists _ c.requires (chain-right (goal.at.returns-then-not-lists_right c).Else-not-follow) (sym c.lists_right.ensures ∙ c.if-not-lists_right.true), λ z. absurd (clash z), c.follow.ensures.2, inl c.group.ensures)
 
 pub unused_zero-requires : goal.unused_zero-requires
 unused_zero-requires c = c.requires.sized
 
 pub returns : goal.returns
-returns c =
-            (
-      c.unused_zero.ensures ∙ by-unused _ c.requires (chain-right (goal.at.returns c).Else-not-follow) (sym c.lists_right.ensures ∙ c.if-not-lists_right.false),
-      λ _. (c.follow.ensures.1 (c.if-not-follow.false), c.group.ensures),
-      c.follow.ensures.2,
-      inl c.group.ensures,
-    )
+returns c = (
+  c.unused_zero.ensures ∙ by-unused _ c.requires (chain-right (goal.at.returns c).Else-not-follow) (sym c.lists_right.ensures ∙ c.if-not-lists_right.false),
+  λ _. (c.follow.ensures.1 (c.if-not-follow.false), c.group.ensures),
+  c.follow.ensures.2,
+  inl c.group.ensures,
+)

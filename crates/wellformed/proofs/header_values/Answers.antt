@@ -1,12 +1,11 @@
 use Rattle.table.specs.WellFormed.{header_values}
 use Rattle.fields.specs.Layout.{form_value}
-use borrow.Author.Rules.{rules}
 use Rattle.wellformed.proofs.header_values.Goals as goal
 
 pub returns : goal.returns
 unfolding header_values form_value
 returns c =
-                                rw (
+    rw (
       c.both.ensures,
       c.rest_zero.ensures,
       c.both-grouped.ensures,

@@ -1,4 +1,3 @@
-use borrow.Author.Rules.{rules}
 use Rattle.table.specs.WellFormed.{length_right}
 use Rattle.wellformed.proofs.length_right.Goals as goal
 

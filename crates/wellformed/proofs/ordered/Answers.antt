@@ -1,15 +1,13 @@
-use borrow.Author.Rules.{rules}
 use mathlib.Core.Bool.{true, false, and-false}
 use mathlib.Core.Path.{◌≡◌, refl, sym, ◌∙◌, ap}
 use mathlib.Core.List.{List}
 use mathlib.Core.Logic.{inl, inr}
-use Prim.Native.Nat.{ℕ, ◌-◌, ◌≤◌}
+use Prim.Native.Nat.{ℕ, ◌-◌}
 use native.Mathlib.Omega.{arith}
 use lib.Dec.{eqb}
 use lib.ListN.{length, take}
 use lib.Seq.{take_all}
-use borrow.Author.Tests.{not-true, not-false, eq-eqb, ne_eqb}
-use borrow.Author.Rules.{rules}
+use borrow.Author.Tests.{eq-eqb, ne_eqb}
 use Rattle.bools.proofs.BoolLaws.{clash}
 use Rattle.sets.specs.Upto.{every}
 use Rattle.fields.specs.Layout.{form_value, form_of, used_of}
@@ -51,23 +49,24 @@ straight-here : (c : Then-look) → Straight c.args.t.now
 straight-here c = rw (lent-all _) at (c.look.ensures c.if-look.true).0
 
 rows-here : (c : After-every_copy) → every (used_of c.args.t.now) (row_right c.args.t.now) ≡ c.every_copy.result
-unfolding head copies
+unfolding head copies form_value
 rows-here c =
-        let t = c.args.t.now in
-    rows-by t (newest-here c.before.before.before.before.before) true _ (straight-heads t (newest-here c.before.before.before.before.before) (straight-here c.before)) (sym (rw (lent-all t) at c.every_copy.ensures))
+    let t = c.args.t.now in
+    let e : form_of t ≡ form_value = sym c.form.ensures ∙ c.if-form-ne-FORM.false in
+    rows-by t e true _ (straight-heads t e (rw (lent-all t) at (c.look.ensures c.if-look.true).0)) (sym (rw (lent-all t) at c.every_copy.ensures))
 
-linked-here : (c : Else-not-every_copy) → Linked c.args.t.now
-linked-here c = record { sized = sized-here c.before.before.before.before.before.before.before.before; rows = rows-here c.before ∙ c.if-not-every_copy.false }
+linked-here : (c : Else-not-every_copy) → every (used_of c.args.t.now) (row_right c.args.t.now) ≡ c.every_copy.result → Linked c.args.t.now
+linked-here c rows = record { sized = sized-by _ (sym c.sized.ensures ∙ c.if-not-sized.false); rows = rows ∙ c.if-not-every_copy.false }
 
 -- ---- otherwise
 rows-asked : (c : After-every_copy-2) → every (used_of c.args.t.now) (row_right c.args.t.now) ≡ c.every_copy-2.result
-unfolding head copies
+unfolding head copies form_value
 rows-asked c =
-            let t = c.args.t.now in
-    rows-by t (newest-here c.before.before.before.before.before.before.before) true _ (sym (rw (lent-all t) at c.every_head.ensures) ∙ c.if-not-every_head.false) (sym (rw (lent-all t) at c.every_copy-2.ensures))
+    let t = c.args.t.now in
+    rows-by t (sym c.form.ensures ∙ c.if-form-ne-FORM.false) true _ (sym (rw (lent-all t) at c.every_head.ensures) ∙ c.if-not-every_head.false) (sym (rw (lent-all t) at c.every_copy-2.ensures))
 
-linked-then : (c : Else-not-every_copy-2) → Linked c.args.t.now
-linked-then c = record { sized = sized-here c.before.before.before.before.before.before.before.before.before.before; rows = rows-asked c.before ∙ c.if-not-every_copy-2.false }
+linked-then : (c : Else-not-every_copy-2) → every (used_of c.args.t.now) (row_right c.args.t.now) ≡ c.every_copy-2.result → Linked c.args.t.now
+linked-then c rows = record { sized = sized-by _ (sym c.sized.ensures ∙ c.if-not-sized.false); rows = rows ∙ c.if-not-every_copy-2.false }
 
 pub returns-then-not-sized : goal.returns-then-not-sized
 returns-then-not-sized c =
@@ -91,26 +90,26 @@ every_copy-requires c = rw (lent-all _) (sized-here (goal.at.every_copy-requires
 
 pub returns-then-not-every_copy : goal.returns-then-not-every_copy
 returns-then-not-every_copy c =
-        let w = rows-here (goal.at.returns-then-not-every_copy c).After-every_copy ∙ c.if-not-every_copy.true in
+    let w = rows-here (goal.at.returns-then-not-every_copy c).After-every_copy ∙ c.if-not-every_copy.true in
     (by-own _ (by_rows _ (sized-here (goal.at.returns-then-not-every_copy c).Else-not-sized) w), λ z. absurd (clash z), left-wrong _ _ w, inr refl)
 
 pub used-requires : goal.used-requires
-used-requires c = rw (lent-all _) (long (linked-here (goal.at.used-requires c).Else-not-every_copy).sized)
+used-requires c = rw (lent-all _) (long (linked-here (goal.at.used-requires c).Else-not-every_copy (rows-here (goal.at.used-requires c).After-every_copy)).sized)
 
 pub number-requires : goal.number-requires
-number-requires c = let e = rw (lent-all _) at c.used.ensures in omega (arith, e, few-rows (linked-here (goal.at.number-requires c).Else-not-every_copy).sized)
+number-requires c = let e = rw (lent-all _) at c.used.ensures in omega (arith, e, few-rows (linked-here (goal.at.number-requires c).Else-not-every_copy (rows-here (goal.at.number-requires c).After-every_copy)).sized)
 
 pub unused_zero-requires : goal.unused_zero-requires
-unused_zero-requires c = rw (lent-all _) (linked-here (goal.at.unused_zero-requires c).Else-not-every_copy).sized
+unused_zero-requires c = rw (lent-all _) (linked-here (goal.at.unused_zero-requires c).Else-not-every_copy (rows-here (goal.at.unused_zero-requires c).After-every_copy)).sized
 
 pub returns-then-look : goal.returns-then-look
 returns-then-look c =
-                    let a = c.args in
+    let a = c.args in
     let t = a.t.now in
-    let l = linked-here (goal.at.returns-then-look c).Else-not-every_copy in
+    let l = linked-here (goal.at.returns-then-look c).Else-not-every_copy (rows-here (goal.at.returns-then-look c).After-every_copy) in
     let s = straight-here (goal.at.returns-then-look c).Then-look in
     let y = rw (lent-all t) at c.unused_zero.ensures ∙ by-unused t l (chain-right l s a.order.now c.number.ensures.0) s.lists ∙ by_form t (newest-here (goal.at.returns-then-look c).Else-form-ne-FORM) in
-    let o : c.number.new.0 ≡ numbered a.order.now (used_of t) = c.number.ensures.1 ∙ ap (numbered a.order.now) (rw (lent-all t) at c.used.ensures) in
+    let o : c.number.new.rows ≡ numbered a.order.now (used_of t) = c.number.ensures.1 ∙ ap (numbered a.order.now) (rw (lent-all t) at c.used.ensures) in
     let g = rw (lent-all t) at (c.look.ensures c.if-look.true).1 in
     (y, λ z. record { formed = sym y ∙ z; ordered = rw o (numbered-order l s a.order.now c.number.ensures.0); grouped = g }, o ∙ numbered-left l s a.order.now c.number.ensures.0 ∙ left-linked _ _ l (newest-here (goal.at.returns-then-look c).Else-form-ne-FORM), inl g)
 
@@ -120,7 +119,7 @@ every_head-requires c = rw (lent-all _) (sized-here (goal.at.every_head-requires
 pub returns-then-not-every_head : goal.returns-then-not-every_head
 unfolding head
 returns-then-not-every_head c =
-        let w = rows-by _ (newest-here (goal.at.returns-then-not-every_head c).Else-form-ne-FORM) false _ (sym (rw (lent-all _) at c.every_head.ensures) ∙ c.if-not-every_head.true) refl in
+    let w = rows-by _ (newest-here (goal.at.returns-then-not-every_head c).Else-form-ne-FORM) false _ (sym (rw (lent-all _) at c.every_head.ensures) ∙ c.if-not-every_head.true) refl in
     (by-own _ (by_rows _ (sized-here (goal.at.returns-then-not-every_head c).Else-not-sized) w), λ z. absurd (clash z), left-wrong _ _ w, inr refl)
 
 pub every_copy-requires-2 : goal.every_copy-requires-2
@@ -128,15 +127,15 @@ every_copy-requires-2 c = rw (lent-all _) (sized-here (goal.at.every_copy-requir
 
 pub returns-then-not-every_copy-2 : goal.returns-then-not-every_copy-2
 returns-then-not-every_copy-2 c =
-        let w = rows-asked (goal.at.returns-then-not-every_copy-2 c).After-every_copy-2 ∙ c.if-not-every_copy-2.true in
+    let w = rows-asked (goal.at.returns-then-not-every_copy-2 c).After-every_copy-2 ∙ c.if-not-every_copy-2.true in
     (by-own _ (by_rows _ (sized-here (goal.at.returns-then-not-every_copy-2 c).Else-not-sized) w), λ z. absurd (clash z), left-wrong _ _ w, inr refl)
 
 pub framed-requires : goal.framed-requires
-framed-requires c = rw (lent-all _) (linked-then (goal.at.framed-requires c).Else-not-every_copy-2)
+framed-requires c = rw (lent-all _) (linked-then (goal.at.framed-requires c).Else-not-every_copy-2 (rows-asked (goal.at.framed-requires c).After-every_copy-2))
 
 pub returns : goal.returns
 returns c =
-            let t = c.args.t.now in
+    let t = c.args.t.now in
     let f = rw (lent-all t) at c.framed.ensures in
     let y = f.0 ∙ by_form t (newest-here (goal.at.returns c).Else-form-ne-FORM) in
-    (y, λ z. record { formed = sym y ∙ z; ordered = (f.1 z).0; grouped = (f.1 z).1 }, f.2 ∙ left-linked _ _ (linked-then (goal.at.returns c).Else-not-every_copy-2) (newest-here (goal.at.returns c).Else-form-ne-FORM), f.3)
+    (y, λ z. record { formed = sym y ∙ z; ordered = (f.1 z).0; grouped = (f.1 z).1 }, f.2 ∙ left-linked _ _ (linked-then (goal.at.returns c).Else-not-every_copy-2 (rows-asked (goal.at.returns c).After-every_copy-2)) (newest-here (goal.at.returns c).Else-form-ne-FORM), f.3)

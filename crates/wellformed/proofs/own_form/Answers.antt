@@ -1,6 +1,4 @@
-use mathlib.Core.Path.{◌≡◌, sym, ◌∙◌}
-use borrow.Author.Tests.{not-true, not-false}
-use borrow.Author.Rules.{rules}
+use mathlib.Core.Path.{sym, ◌∙◌}
 use Rattle.table.proofs.WellFormedLaws.{by_size, by_rows}
 use Rattle.table.specs.Asked.{Sized}
 use Rattle.wellformed.proofs.RowLaws.{sized-by}
@@ -21,7 +19,7 @@ returns-then-not-rows_right c = by_rows _ (sized-here (goal.at.returns-then-not-
 
 pub framed-requires : goal.framed-requires
 framed-requires c =
-        record { sized = sized-here (goal.at.framed-requires c).Else-not-sized; rows = sym c.rows_right.ensures ∙ c.if-not-rows_right.false }
+    record { sized = sized-here (goal.at.framed-requires c).Else-not-sized; rows = sym c.rows_right.ensures ∙ c.if-not-rows_right.false }
 
 pub returns : goal.returns
 returns c = c.framed.ensures.0

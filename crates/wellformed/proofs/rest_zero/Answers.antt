@@ -3,7 +3,6 @@ use Rattle.octets.proofs.CodeLaws.{zero_number, zero-numbers}
 use Rattle.octets.specs.Bytes.{part, all_zero}
 use borrow.Author.Tests.{le-leb, lt-leb}
 use mathlib.Core.Path.{◌≡◌}
-use borrow.Author.Rules.{rules}
 use Rattle.wellformed.proofs.rest_zero.Goals.{After-both-rest}
 use Rattle.wellformed.proofs.rest_zero.Goals as goal
 
@@ -13,7 +12,7 @@ tested c = rw (c.both-rest.ensures, c.u64_at.ensures, c.u8_at.ensures) (zero-num
 pub returns-then-form-lt-WITH_FILES : goal.returns-then-form-lt-WITH_FILES
 unfolding rest_in
 returns-then-form-lt-WITH_FILES c =
-            let t = c.args.t.now in
+    let t = c.args.t.now in
     rw (lt-leb 4 c.args.form c.if-form-lt-WITH_FILES.true, c.both.ensures, c.u8_at-then-form-lt-WITH_FILES.ensures, tested (goal.at.returns-then-form-lt-WITH_FILES c).After-both-rest, ← zero_number (part 7 9 t)) (zero-numbers 6 1 9 t)
 
 pub returns : goal.returns

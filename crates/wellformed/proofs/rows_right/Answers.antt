@@ -1,4 +1,3 @@
-use borrow.Author.Rules.{rules}
 use Rattle.wellformed.proofs.RowLaws.{head, copies, rows_are}
 use Rattle.table.proofs.WellFormedLaws.{long, header}
 use Rattle.fields.specs.Layout.{form_value}

@@ -1,8 +1,6 @@
 use mathlib.Core.Bool.{true}
 use mathlib.Core.Path.{◌≡◌, sym, ◌∙◌}
 use native.Mathlib.Omega.{arith}
-use borrow.Author.Tests.{not-true, not-false}
-use borrow.Author.Rules.{rules}
 use Rattle.table.specs.WellFormed.{header_values}
 use Rattle.table.proofs.WellFormedLaws.{by-short}
 use Rattle.wellformed.proofs.sized.Goals.{Else-not-header_values}
