@@ -22,7 +22,7 @@ lone-requires c = listed_in c.requires.few c.requires
 
 pub returns-then-is_empty : goal.returns-then-is_empty
 returns-then-is_empty c =
-        let a = c.args in
+    let a = c.args in
     c.lone.ensures ∙ lone-choice (has a.members.bits) (none_beside _ c.rest.ensures.0 c.is_empty.ensures c.if-is_empty.true) a.kind a.mark (take a.count a.order.now) (λ i e. has_within 64 a.members.bits i (omega arith) e) a.name
 
 pub choose-chosen-requires : goal.choose-chosen-requires
@@ -33,8 +33,8 @@ standing-requires c = listed_in c.requires.few c.requires
 
 pub returns-then-fills : goal.returns-then-fills
 returns-then-fills c =
-        let chosen = c.choose-chosen in
-            let a = c.args in
+    let chosen = c.choose-chosen in
+    let a = c.args in
     let order = a.order.now in
     let n = a.count in
     let long : length (take n order) ≡ n = length-take-le n order (omega (arith, c.requires.places, c.requires.few)) in
@@ -50,5 +50,5 @@ seated_members-requires c = listed_in c.requires.few c.requires
 pub returns : goal.returns
 returns c =
     let chosen = c.choose-chosen in
-        let a = c.args in
+    let a = c.args in
     choice-law a.kind a.mark (take a.count a.order.now) (has a.members.bits) _ _ c.size-length.ensures c.of_mark.ensures a.name _ _ chosen.ensures c.seated_members.ensures

@@ -19,7 +19,7 @@ use Rattle.lists.proofs.held.Goals as goal
 below : (c : In-loop-j) → c.loop-j.positions.bits < 2 ^ 63
 below c =
     let l = c.loop-j in
-        let few : c.args.count - l.j ≤ 63 = omega (arith, c.requires.few, c.loop-j-test.true) in
+    let few : c.args.count - l.j ≤ 63 = omega (arith, c.requires.few, c.loop-j-test.true) in
     lt_of_lt_of_le l.invariant.1 (pow_mono few)
 
 pub loop-j-init : goal.loop-j-init
@@ -33,15 +33,15 @@ loop-j-init c =
 
 pub place_at-place-requires : goal.place_at-place-requires
 place_at-place-requires c =
-        (c.requires.places, omega (arith, c.requires.few), c.requires.each _ (omega (arith, c.loop-j-test.true)))
+    (c.requires.places, omega (arith, c.requires.few), c.requires.each _ (omega (arith, c.loop-j-test.true)))
 
 pub pushed-positions-requires : goal.pushed-positions-requires
 pushed-positions-requires c = below (goal.at.pushed-positions-requires c).In-loop-j
 
 pub loop-j-preserved : goal.loop-j-preserved
 loop-j-preserved c =
-            let l = c.loop-j in
-        let order = c.args.order.now in
+    let l = c.loop-j in
+    let order = c.args.order.now in
     let n = c.args.count in
     let j = l.j - 1 in
     let back : j + 1 ≡ l.j = omega (arith, c.loop-j-test.true) in

@@ -15,5 +15,5 @@ held_straight-requires c = c.requires.few
 
 pub returns-then-straight : goal.returns-then-straight
 returns-then-straight c =
-            let a = c.args in
+    let a = c.args in
     c.held_straight.ensures ∙ ap (λ (xs : List ℕ). at_seat (seats xs (has a.members.bits)) (has a.set.bits)) (sym (listed-straight c.requires (c.straight.ensures c.if-straight.true)))

@@ -13,26 +13,26 @@ use Rattle.counties.specs.Levels.{seats, at_seat}
 use Rattle.sets.proofs.SetLaws.{has-empty}
 use Rattle.sets.specs.Sets.{has, gaining, cut_to}
 use Rattle.sets.specs.Upto.{Within, some, upward, keep}
-use Rattle.lists.proofs.held_straight.Goals.{After-lowest, In-loop-set}
+use Rattle.lists.proofs.held_straight.Goals.{After-lowest}
 use Rattle.lists.proofs.held_straight.Goals as goal
 
 -- in a turn some member is ahead
-some-ahead : (c : In-loop-set) → some 64 (has c.loop-set.left.bits) ≡ true
-some-ahead c = not-false _ (sym c.is_empty.ensures ∙ not-true _ c.loop-set-test.true)
+some-ahead : (c : After-lowest) → some 64 (has c.loop-set.left.bits) ≡ true
+some-ahead c = not-false _ (sym c.is_empty.ensures ∙ c.loop-set-test.true)
 
 -- the next one
 here : (c : After-lowest) → Within 64 c.lowest.result × (has c.loop-set.left.bits c.lowest.result ≡ true)
-here c = at-hand c.loop-set.invariant.1 (some-ahead c.before) c.lowest.ensures
+here c = at-hand c.loop-set.invariant.1 (some-ahead c) c.lowest.ensures
 
 -- it has one of 64 positions
 few : (c : After-lowest) → c.loop-set.k < 64
 few c =
     let l = c.loop-set in
-        omega (arith, seats-few l.invariant.0 (has c.cut-left.result.bits), above l.invariant.1 (some-ahead c.before) c.lowest.ensures, (here c).0, l.invariant.2)
+    omega (arith, seats-few l.invariant.0 (has c.cut-left.result.bits), above l.invariant.1 (some-ahead c) c.lowest.ensures, (here c).0, l.invariant.2)
 
 pub returns-then-members-all : goal.returns-then-members-all
 returns-then-members-all c =
-                c.cut.ensures ∙ ap (cut_to (has c.args.set.bits)) c.first-all.ensures ∙ all_held c.args.count (has c.args.members.bits) (has c.args.set.bits) c.requires (ap has c.if-members-all.true ∙ c.first-all.ensures)
+    c.cut.ensures ∙ ap (cut_to (has c.args.set.bits)) c.first-all.ensures ∙ all_held c.args.count (has c.args.members.bits) (has c.args.set.bits) c.requires (ap has c.if-members-all.true ∙ c.first-all.ensures)
 
 pub loop-set-init : goal.loop-set-init
 unfolding seats keep upward
@@ -46,14 +46,14 @@ overflow_add-k c = omega (arith, few (goal.at.overflow_add-k c).After-lowest)
 
 pub loop-set-smaller : goal.loop-set-smaller
 loop-set-smaller c =
-        fewer-ahead c.loop-set.invariant.1 (some-ahead (goal.at.loop-set-smaller c).In-loop-set) c.lowest.ensures c.rest-left.ensures
+    fewer-ahead c.loop-set.invariant.1 (some-ahead (goal.at.loop-set-smaller c).After-lowest) c.lowest.ensures c.rest-left.ensures
 
 pub loop-set-preserved : goal.loop-set-preserved
 loop-set-preserved c =
-            let l = c.loop-set in
-            let m = l.invariant.0 in
+    let l = c.loop-set in
+    let m = l.invariant.0 in
     let x = c.lowest.result in
-    let some = some-ahead (goal.at.loop-set-preserved c).In-loop-set in
+    let some = some-ahead (goal.at.loop-set-preserved c).After-lowest in
     let xs = seats (upward m 1) (has c.cut-left.result.bits) in
     let f = has l.positions.bits in
     let next = seats-next l.invariant.1 some c.lowest.ensures in
@@ -69,6 +69,6 @@ loop-set-preserved c =
 pub returns : goal.returns
 returns c =
     let l = c.loop-set in
-                let n = c.args.count in
-    let all = sym (all-passed l.invariant.1 (sym c.is_empty.ensures ∙ not-false _ c.loop-set-test.false)) ∙ ap (seats (upward 64 1)) (c.cut-left.ensures ∙ ap (cut_to (has c.args.members.bits)) c.first-all.ensures) ∙ seats-cut (has c.args.members.bits) n c.requires in
+    let n = c.args.count in
+    let all = sym (all-passed l.invariant.1 (sym c.is_empty.ensures ∙ c.loop-set-test.false)) ∙ ap (seats (upward 64 1)) (c.cut-left.ensures ∙ ap (cut_to (has c.args.members.bits)) c.first-all.ensures) ∙ seats-cut (has c.args.members.bits) n c.requires in
     l.invariant.3 ∙ ap (λ (ys : List ℕ). at_seat ys (has c.args.set.bits)) all

@@ -15,10 +15,10 @@ use Rattle.lists.proofs.lone.Goals.{After-at}
 use Rattle.lists.proofs.lone.Goals as goal
 
 -- what is known of the row at hand
-at_row : (c : After-at) →     c.at.result ≡ has c.args.members.bits (get_or c.args.order.now c.loop-j.j 0)
+at_row : (c : After-at) → c.at.result ≡ has c.args.members.bits (get_or c.args.order.now c.loop-j.j 0)
 at_row c =
     let l = c.loop-j in
-        c.at.ensures ∙ ap (has c.args.members.bits) (row-place _ _ c.place_at.ensures (c.requires.each l.j c.loop-j-test.true))
+    c.at.ensures ∙ ap (has c.args.members.bits) (row-place _ _ c.place_at.ensures (c.requires.each l.j c.loop-j-test.true))
 
 pub loop-j-init : goal.loop-j-init
 unfolding seats keep
@@ -31,14 +31,14 @@ place_at-requires c =
 pub returns-then-at : goal.returns-then-at
 returns-then-at c =
     let l = c.loop-j in
-        let a = c.args in
+    let a = c.args in
     let some = stands_at a.order.now a.count (has a.members.bits) l.j (omega (arith, c.requires.places, c.requires.few)) c.loop-j-test.true (sym (at_row (goal.at.returns-then-at c).After-at) ∙ c.if-at.true) in
     fun_ext (λ i. sym (ap (λ (b : Bool). has a.members.bits i && b) (le-leb 1 _ some) ∙ and-true (has a.members.bits i)))
 
 pub loop-j-preserved : goal.loop-j-preserved
 loop-j-preserved c =
     let l = c.loop-j in
-        let a = c.args in
+    let a = c.args in
     (omega arith, none-stands a.order.now (has a.members.bits) l.j c.requires.places (omega (arith, c.requires.few)) (sym (at_row (goal.at.loop-j-preserved c).After-at) ∙ c.if-at.false) l.invariant.1)
 
 pub returns : goal.returns

@@ -17,7 +17,7 @@ lone-requires c = listed_in c.requires.few c.requires
 
 pub returns-then-is_empty : goal.returns-then-is_empty
 returns-then-is_empty c =
-        let a = c.args in
+    let a = c.args in
     ap not c.is_empty-then-is_empty.ensures ∙ not-not _ ∙ ap (some 64) (c.cut.ensures ∙ ap (λ (f : ℕ → Bool). cut_to f (has a.set.bits)) c.lone.ensures)
     ∙ lone-quorum (has a.members.bits) (none_beside _ c.rest.ensures.0 c.is_empty.ensures c.if-is_empty.true) a.kind a.mark (take a.count a.order.now) (λ i e. has_within 64 a.members.bits i (omega arith) e) (has a.set.bits)
 

@@ -28,8 +28,8 @@ place_at-place-requires c =
 
 pub loop-j-preserved : goal.loop-j-preserved
 loop-j-preserved c =
-        let l = c.loop-j in
-        let a = c.args in
+    let l = c.loop-j in
+    let a = c.args in
     let inside : l.j < 64 = omega (arith, c.requires.few) in
     let set = has l.set.bits in
     let b = c.both in

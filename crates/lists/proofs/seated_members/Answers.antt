@@ -18,6 +18,6 @@ seated_straight-requires c = c.requires.few
 
 pub returns-then-straight : goal.returns-then-straight
 returns-then-straight c =
-            let a = c.args in
+    let a = c.args in
     c.seated_straight.ensures ∙ ap {B = ℕ → Bool} (λ (xs : List ℕ) (i : ℕ). some 64 (λ k. has a.positions.bits k && at_seat (seats xs (has a.members.bits)) (eqb i) k))
     (sym (listed-straight c.requires (c.straight.ensures c.if-straight.true)))

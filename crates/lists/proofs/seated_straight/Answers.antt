@@ -14,19 +14,19 @@ use Rattle.counties.specs.Levels.{seats, at_seat}
 use Rattle.sets.proofs.SetLaws.{has-empty}
 use Rattle.sets.specs.Sets.{has, gaining, cut_to}
 use Rattle.sets.specs.Upto.{Within, some, upward, keep}
-use Rattle.lists.proofs.seated_straight.Goals.{After-cut-left, After-lowest, In-loop-ahead}
+use Rattle.lists.proofs.seated_straight.Goals.{After-cut-left, After-lowest}
 use Rattle.lists.proofs.seated_straight.Goals as goal
 
 small : (c : After-cut-left) → c.cut-left.result.bits < 2 ^ 64
 small c = omega arith
 
 -- in a turn some member is ahead
-some-ahead : (c : In-loop-ahead) → some 64 (has c.loop-ahead.left.bits) ≡ true
-some-ahead c = not-false _ (sym c.is_empty.ensures ∙ not-true _ c.loop-ahead-test.true)
+some-ahead : (c : After-lowest) → some 64 (has c.loop-ahead.left.bits) ≡ true
+some-ahead c = not-false _ (sym c.is_empty.ensures ∙ c.loop-ahead-test.true)
 
 -- the next one
 here : (c : After-lowest) → Within 64 c.lowest.result × (has c.loop-ahead.left.bits c.lowest.result ≡ true)
-here c = at-hand c.loop-ahead.invariant.1 (some-ahead c.before) c.lowest.ensures
+here c = at-hand c.loop-ahead.invariant.1 (some-ahead c) c.lowest.ensures
 
 pub loop-ahead-init : goal.loop-ahead-init
 unfolding seats keep upward
@@ -37,15 +37,15 @@ overflow_sub-lowest c = omega (arith, (here c).0)
 
 pub loop-ahead-smaller : goal.loop-ahead-smaller
 loop-ahead-smaller c =
-        fewer-ahead c.loop-ahead.invariant.1 (some-ahead (goal.at.loop-ahead-smaller c).In-loop-ahead) c.lowest.ensures c.rest-left.ensures
+    fewer-ahead c.loop-ahead.invariant.1 (some-ahead (goal.at.loop-ahead-smaller c).After-lowest) c.lowest.ensures c.rest-left.ensures
 
 pub loop-ahead-preserved : goal.loop-ahead-preserved
 loop-ahead-preserved c =
-                let l = c.loop-ahead in
-            let m = l.invariant.0 in
+    let l = c.loop-ahead in
+    let m = l.invariant.0 in
     let x = c.lowest.result in
     let q = c.args.positions.bits in
-    let some_one = some-ahead (goal.at.loop-ahead-preserved c).In-loop-ahead in
+    let some_one = some-ahead (goal.at.loop-ahead-preserved c).After-lowest in
     let members = has c.cut-left.result.bits in
     let xs = seats (upward m 1) members in
     let f = has l.set.bits in
@@ -62,6 +62,6 @@ loop-ahead-preserved c =
 pub returns : goal.returns
 returns c =
     let l = c.loop-ahead in
-                let all = sym (all-passed l.invariant.1 (sym c.is_empty.ensures ∙ not-false _ c.loop-ahead-test.false))
+    let all = sym (all-passed l.invariant.1 (sym c.is_empty.ensures ∙ c.loop-ahead-test.false))
     ∙ ap (seats (upward 64 1)) (c.cut-left.ensures ∙ ap (cut_to (has c.args.members.bits)) c.first.ensures) ∙ seats-cut (has c.args.members.bits) c.args.count c.requires in
     l.invariant.3 ∙ ap {B = ℕ → Bool} (λ (ys : List ℕ) (i : ℕ). some 64 (λ k. has c.args.positions.bits k && at_seat ys (eqb i) k)) all

@@ -10,8 +10,8 @@ loop-k-init c = (omega arith, none_right c.args.order.now)
 
 pub loop-k-preserved : goal.loop-k-preserved
 loop-k-preserved c =
-        let l = c.loop-k in
-        (omega (arith, c.loop-k-test.true), one_right c.args.order.now _ l.bits l.k c.smaller.result c.joined-bits.result (omega (arith, c.loop-k-test.true)) c.rows_in_turn-rows.ensures l.invariant.1 c.smaller.ensures c.joined-bits.ensures)
+    let l = c.loop-k in
+    (omega (arith, c.loop-k-test.true), one_right c.args.order.now _ l.bits l.k c.smaller.result c.joined-bits.result (omega (arith, c.loop-k-test.true)) c.rows_in_turn-rows.ensures l.invariant.1 c.smaller.ensures c.joined-bits.ensures)
 
 pub returns : goal.returns
 returns c =

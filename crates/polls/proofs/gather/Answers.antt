@@ -17,20 +17,20 @@ use Rattle.sets.proofs.SetLaws.{has-empty, has_within}
 use Rattle.sets.proofs.MemberLaws.{only, Taken, none-taken, all-taken, at-hand, in-set, fewer-left, one-taken}
 use Rattle.sets.specs.Sets.{has, no_row, joining}
 use Rattle.sets.specs.Upto.{Within, some}
-use Rattle.polls.proofs.gather.Goals.{After-copy_of-copy, After-lowest-i, In-loop-left}
+use Rattle.polls.proofs.gather.Goals.{After-copy_of-copy, After-lowest-i}
 use Rattle.polls.proofs.gather.Goals as goal
 
 -- in a turn some row is left
-some_left : (c : In-loop-left) → some 64 (has c.loop-left.left.bits) ≡ true
-some_left c = not-false _ (sym c.is_empty.ensures ∙ not-true _ c.loop-left-test.true)
+some_left : (c : After-lowest-i) → some 64 (has c.loop-left.left.bits) ≡ true
+some_left c = not-false _ (sym c.is_empty.ensures ∙ c.loop-left-test.true)
 
 -- and the lowest of them is at hand: a used row
 hand : (c : After-lowest-i) → Within 64 c.lowest-i.result
-hand c = (at-hand c.loop-left.invariant.1 (some_left c.before) c.lowest-i.ensures).0
+hand c = (at-hand c.loop-left.invariant.1 (some_left c) c.lowest-i.ensures).0
 
 used : (c : After-lowest-i) → Within (used_of c.args.t.now) c.lowest-i.result
 used c =
-        has_within (used_of c.args.t.now) c.args.answering.bits _ c.requires.3 (in-set c.loop-left.invariant.1 (some_left c.before) c.lowest-i.ensures)
+    has_within (used_of c.args.t.now) c.args.answering.bits _ c.requires.3 (in-set c.loop-left.invariant.1 (some_left c) c.lowest-i.ensures)
 
 -- and its copy has room for the numbers
 copy-room : (c : After-copy_of-copy) → 12 ≤ length c.copy_of-copy.result.now
@@ -84,18 +84,18 @@ bounds-p-k-in-loop-left-2 c = omega (arith, hand (goal.at.bounds-p-k-in-loop-lef
 
 pub loop-left-smaller : goal.loop-left-smaller
 loop-left-smaller c =
-        fewer-left c.loop-left.invariant.1 (some_left (goal.at.loop-left-smaller c).In-loop-left) c.lowest-i.ensures c.rest-left.ensures
+    fewer-left c.loop-left.invariant.1 (some_left (goal.at.loop-left-smaller c).After-lowest-i) c.lowest-i.ensures c.rest-left.ensures
 
 pub loop-left-preserved : goal.loop-left-preserved
 unfolding polled stale_of version_of desired_of epoch_of list_of
 loop-left-preserved c =
-                                                let l = c.loop-left in
+    let l = c.loop-left in
     let i = c.lowest-i.result in
     let s = l.invariant.0 in
     let row = c.row_of-row.ensures.0 in
     let copy = c.copy_of-copy.ensures.0 in (
       joining s (only i),
-      one-taken l.invariant.1 (some_left (goal.at.loop-left-preserved c).In-loop-left) c.lowest-i.ensures c.rest-left.ensures,
+      one-taken l.invariant.1 (some_left (goal.at.loop-left-preserved c).After-lowest-i) c.lowest-i.ensures c.rest-left.ensures,
       c.gain-stale.ensures ∙ gained-more s i (hand (goal.at.loop-left-preserved c).After-lowest-i) _ _ _ l.invariant.2 (c.is_stale.ensures ∙ ap (λ (b : List ℕ). eqb (get mark b) 1) copy),
       c.gain-listed.ensures ∙ gained-more s i (hand (goal.at.loop-left-preserved c).After-lowest-i) _ _ _ l.invariant.3 (ap not (c.is_empty-in-loop-left.ensures ∙ ap is_empty (c.list-list.ensures ∙ ap list row))),
       placed-more s i (hand (goal.at.loop-left-preserved c).After-lowest-i) _ _ _ l.invariant.7 l.invariant.4 (c.version.ensures ∙ ap (get version) copy),
@@ -117,7 +117,7 @@ unfolding polled
 returns c =
     let l = c.loop-left in
     let a = c.args in
-    let all = all-taken l.invariant.1 (omega arith) (sym c.is_empty.ensures ∙ not-false _ c.loop-left-test.false) in
+    let all = all-taken l.invariant.1 (omega arith) (sym c.is_empty.ensures ∙ c.loop-left-test.false) in
     rw all (record {
       stale = l.invariant.2;
       versions = l.invariant.4;

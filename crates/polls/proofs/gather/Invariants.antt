@@ -22,7 +22,7 @@ use Rattle.polls.proofs.gather.Given as goal
 -- the places and the sets show what the rows taken so far say
 abbrev pub invariant-loop-left : goal.invariant-loop-left
 invariant-loop-left l = (s : ℕ → Bool) × Taken l.initial.left.bits l.left.bits s
-    × (has l.stale.bits ≡ (polled l.t l.q s).l.stale) × (has l.listed.bits ≡ (λ (i : ℕ). s i && not (is_empty (list_of l.t i))))
+    × (has l.stale.bits ≡ (polled l.t l.q s).stale) × (has l.listed.bits ≡ (λ (i : ℕ). s i && not (is_empty (list_of l.t i))))
     × (placed l.p.versions ≡ (polled l.t l.q s).version) × (placed l.p.desired ≡ (polled l.t l.q s).desired) × (placed l.p.epochs ≡ (polled l.t l.q s).epoch)
     × (length l.p.versions ≡ 64) × (length l.p.desired ≡ 64) × (length l.p.epochs ≡ 64)
 

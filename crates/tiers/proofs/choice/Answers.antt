@@ -15,7 +15,7 @@ use Rattle.tiers.proofs.choice.Goals as goal
 pub returns-then-in_one : goal.returns-then-in_one
 unfolding frame_by
 returns-then-in_one c =
-        let a = c.args in
+    let a = c.args in
     c.choice.ensures ∙ choice-in-one a.kind (frame_by (take a.count a.order.now) a.sets.now) a.list (c.in_one.ensures c.if-in_one.true) a.name
 
 pub chosen_above-up-requires : goal.chosen_above-up-requires
@@ -26,7 +26,7 @@ chosen_above-up-requires c =
 pub returns : goal.returns
 unfolding frame_by
 returns c =
-        let a = c.args in
+    let a = c.args in
     c.chosen_within.ensures
     ∙ ap {B = ℕ → Bool} (λ (up : ℕ → Bool) (i : ℕ). some 8 (λ j. up j && level_choice a.kind a.list.mark (take a.count a.order.now) (in_county (county_by a.sets.now) (has a.list.members) j) a.name i))
     (c.chosen_above-up.ensures ∙ ap (λ (up : ℕ → Bool). level_choice a.kind a.list.mark counties up a.name) c.having.ensures)

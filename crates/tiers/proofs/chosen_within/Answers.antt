@@ -19,7 +19,7 @@ loop-k-init c = (omega arith, has-empty ∙ none-joined _)
 
 pub loop-k-preserved : goal.loop-k-preserved
 loop-k-preserved c =
-            let l = c.loop-k in
+    let l = c.loop-k in
     let a = c.args in
     let less = c.loop-k-test.true in (
       omega arith,

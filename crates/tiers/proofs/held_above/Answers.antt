@@ -8,7 +8,7 @@ use Rattle.tiers.proofs.held_above.Goals as goal
 
 pub returns-then-up-first : goal.returns-then-up-first
 returns-then-up-first c =
-                let a = c.args in
+    let a = c.args in
     let first = are-first c.if-up-first.true c.first-first.ensures c.size-n.ensures c.requires in
     c.holds.ensures ∙ level-law a.kind a.mark counties (has a.up.bits) _ _ c.size-n.ensures c.of_mark.ensures (has a.held.bits) _
     (c.cut.ensures ∙ own_held (has a.up.bits) c.size-n.result first.0 first.1 (has a.held.bits))

@@ -14,7 +14,7 @@ use Rattle.tiers.proofs.quorum.Goals as goal
 pub returns-then-in_one : goal.returns-then-in_one
 unfolding frame_by
 returns-then-in_one c =
-        let a = c.args in
+    let a = c.args in
     c.quorum.ensures ∙ quorum-in-one a.kind (frame_by (take a.count a.order.now) a.sets.now) a.list (c.in_one.ensures c.if-in_one.true) (has a.set.bits)
 
 pub held_above-requires : goal.held_above-requires
@@ -25,7 +25,7 @@ held_above-requires c =
 pub returns : goal.returns
 unfolding frame_by
 returns c =
-        let a = c.args in
+    let a = c.args in
     c.held_above.ensures
     ∙ ap₂ (λ (up held : ℕ → Bool). level a.kind a.list.mark counties up held) c.having-up.ensures c.holding-held.ensures
     ∙ quorum-above a.kind (frame_by (take a.count a.order.now) a.sets.now) a.list (has a.set.bits)

@@ -10,8 +10,8 @@ use Rattle.verdicts.proofs.lead.Goals as goal
 
 pub list_of-requires : goal.list_of-requires
 list_of-requires c =
-            (c.requires.0, λ i h. c.requires.1 i (and_l (has c.args.s.bits i) _ (ap (λ (f : ℕ → Bool). f i) (sym c.best-latest.ensures.rows) ∙ h)))
+    (c.requires.0, λ i h. c.requires.1 i (and_l (has c.args.s.bits i) _ (ap (λ (f : ℕ → Bool). f i) (sym c.best-latest.ensures.rows) ∙ h)))
 
 pub returns : goal.returns
 returns c =
-            record { epoch = c.best-latest.ensures.value; list = c.list_of.ensures ∙ ap (λ (f : ℕ → Bool). list_of c.args.t.now (lowest 64 f)) c.best-latest.ensures.rows }
+    record { epoch = c.best-latest.ensures.value; list = c.list_of.ensures ∙ ap (λ (f : ℕ → Bool). list_of c.args.t.now (lowest 64 f)) c.best-latest.ensures.rows }

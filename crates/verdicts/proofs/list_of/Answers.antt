@@ -27,5 +27,5 @@ row_of-requires c =
 pub returns : goal.returns
 unfolding list_of
 returns c =
-        let t = c.args.t.now in
+    let t = c.args.t.now in
     c.list.ensures ∙ ap list c.row_of.ensures.0 ∙ ap (λ (x : ℕ). list (row_bytes t x)) c.lowest-leader.ensures

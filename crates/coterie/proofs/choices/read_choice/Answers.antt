@@ -13,7 +13,7 @@ use Rattle.coterie.proofs.choices.read_choice.Goals as goal
 laid : (c : After-height-low) → let a = c.args in let h = c.height-low.result in let n = a.g.cols in
     (1 ≤ h) × (h * n ≤ a.length) × (a.length - h * n < n) × (a.name % h * n + n ≤ h * n) × (a.name % (h + 1) * n ≤ h * n)
 laid c =
-        let a = c.args in
+    let a = c.args in
     let p = parts a.g a.length a.name _ _ c.requires.0 c.height-low.ensures refl in
     (p.0, omega (arith, p.1), p.2, low-place a.g a.length a.name _ _ c.requires.0 c.height-low.ensures refl, high-place a.g a.length a.name _ _ c.requires.0 c.height-low.ensures refl)
 
@@ -40,11 +40,11 @@ run-set-requires c = omega (arith, laid c)
 
 pub returns-then-more-eq0 : goal.returns-then-more-eq0
 returns-then-more-eq0 c =
-            c.run-set.ensures ∙ one-run c.args.g c.args.length c.args.name _ _ c.requires.0 c.height-low.ensures refl c.if-more-eq0.true
+    c.run-set.ensures ∙ one-run c.args.g c.args.length c.args.name _ _ c.requires.0 c.height-low.ensures refl c.if-more-eq0.true
 
 pub overflow_add-low : goal.overflow_add-low
 overflow_add-low c =
-        omega (arith, laid (goal.at.overflow_add-low c).After-height-low, mul-le-mul_right {m = 1} {n = c.args.g.cols} c.height-low.result c.requires.0.some-column)
+    omega (arith, laid (goal.at.overflow_add-low c).After-height-low, mul-le-mul_right {m = 1} {n = c.args.g.cols} c.height-low.result c.requires.0.some-column)
 
 pub overflow_mul-name-2 : goal.overflow_mul-name-2
 overflow_mul-name-2 c = omega (arith, laid (goal.at.overflow_mul-name-2 c).After-height-low)
@@ -54,5 +54,5 @@ run-requires c = omega (arith, laid (goal.at.run-requires c).After-height-low)
 
 pub returns : goal.returns
 returns c =
-                c.joined.ensures ∙ ap₂ {C = ℕ → Bool} joining c.run-set.ensures c.run.ensures
+    c.joined.ensures ∙ ap₂ {C = ℕ → Bool} joining c.run-set.ensures c.run.ensures
     ∙ two_runs c.args.g c.args.length c.args.name _ _ c.requires.0 c.height-low.ensures refl

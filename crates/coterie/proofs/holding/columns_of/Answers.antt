@@ -30,6 +30,6 @@ loop-at-preserved c =
 pub returns : goal.returns
 returns c j w =
     let l = c.loop-at in
-        let a = c.args in
+    let a = c.args in
     l.invariant.2 j w ∙ ap (λ (f : ℕ → Bool). touches a.columns l.at f j) (c.cut-inside.ensures ∙ ap (cut_to (has a.set.bits)) c.first.ensures)
     ∙ rows_end a.columns a.length l.at (has a.set.bits) j (omega arith) (omega arith)

@@ -33,7 +33,7 @@ returns-then-not-fills c =
 
 pub returns-then-is_write : goal.returns-then-is_write
 returns-then-is_write c =
-                let a = c.args in
+    let a = c.args in
     let held = has a.held.bits in
     let kind : is_write a.kind ≡ true = sym c.is_write.ensures ∙ c.if-is_write.true in
     let outside = c.outside.ensures ∙ ap (λ (s : ℕ → Bool). left_of s held) c.first.ensures in
@@ -43,6 +43,6 @@ returns-then-is_write c =
 
 pub returns : goal.returns
 returns c =
-            let a = c.args in
+    let a = c.args in
     let kind : is_write a.kind ≡ false = sym c.is_write.ensures ∙ c.if-is_write.false in
     rw kind at (holds-yes a.g a.length (has a.held.bits) a.kind (omega arith) (omega arith) (sym (touched-is (goal.at.returns c).After-fills) ∙ c.if-not-fills.false))
