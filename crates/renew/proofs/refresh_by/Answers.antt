@@ -64,9 +64,9 @@ slice_bounds-refresh_row-end-2 c =
     search rules
 
 -- the sender's copy on the page
-page-is : (c : After-copy) →     (xs : List ℕ) → take (c.copy_size-copy.result - 0) (c.copy.new.0 ++ xs) ≡ copy_bytes c.args.t.now c.args.q c.args.from
+page-is : (c : After-copy) →     (xs : List ℕ) → take (c.copy_size-copy.result - 0) (c.copy.new.to ++ xs) ≡ copy_bytes c.args.t.now c.args.q c.args.from
 page-is c xs =
-        let n : length c.copy_of.result.now ≡ c.copy_size-copy.result = c.copy_of.ensures.1 ∙ sym (copy_is c.before.before.before.before) in
+        let n : length c.copy_of.result.now ≡ c.copy_size-copy.result = c.copy_of.ensures.1 ∙ sym (c.copy_size-copy.ensures ∙ ap copy_length c.file_length.ensures) in
     front-is _ _ _ _ c.copy.ensures n ∙ c.copy_of.ensures.0
 
 pub refresh_row-requires : goal.refresh_row-requires
@@ -86,5 +86,5 @@ pub returns : goal.returns
 unfolding in_copy
 returns c =
                         let t = c.args.t.now in
-    row_back c.requires.0 c.args.to c.requires.4 _ _ c.row_length-size.ensures c.rows_end-at.ensures (in_copy (file_length_of t) c.args.q (refreshed_copy (copy_bytes t c.args.q c.args.from))) _ c.refresh_row.auto.0
+    row_back c.requires.0 c.args.to c.requires.4 _ _ c.row_length-size.ensures c.rows_end-at.ensures (in_copy (file_length_of t) c.args.q (refreshed_copy (copy_bytes t c.args.q c.args.from))) _ c.refresh_row.auto.row
     (alike _ _ _ _ _ _ _ (copy_is (goal.at.returns c).After-copy_size-copy) (page-is (goal.at.returns c).After-copy _) c.refresh_row.ensures)

@@ -9,7 +9,7 @@ use Rattle.renew.proofs.refresh_copy.Goals as goal
 
 pub send_contents-requires : goal.send_contents-requires
 send_contents-requires c =
-            let n = c.renew_copy.auto.0 in
+            let n = c.renew_copy.auto.copy in
     (omega (arith, n, c.requires.0), n ∙ c.requires.1, subst (λ (m : ℕ). RightFor (m - 588) (window_of c.args.source.now)) (sym n) c.requires.2)
 
 pub returns : goal.returns

@@ -34,4 +34,4 @@ refresh_copy-requires c =
 pub returns : goal.returns
 returns c =
             let a = c.args in
-    copy-back a.row.now a.size a.q c.requires.0 (inside (goal.at.returns c).Start) _ _ c.refresh_copy.auto.0 c.refresh_copy.ensures
+    copy-back a.row.now a.size a.q c.requires.0 (inside (goal.at.returns c).Start) _ _ c.refresh_copy.auto.copy c.refresh_copy.ensures

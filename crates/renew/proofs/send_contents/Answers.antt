@@ -12,4 +12,4 @@ sent_over-requires c =
 
 pub returns : goal.returns
 returns c =
-                sent-in c.args.copy.now c.args.source.now c.requires.0 c.requires.1 c.args.missing _ _ c.oldest-oldest.ensures c.sent_over.ensures c.sent_over.auto.0
+                sent-in c.args.copy.now c.args.source.now c.requires.0 c.requires.1 c.args.missing _ _ c.oldest-oldest.ensures c.sent_over.ensures c.sent_over.auto.own
