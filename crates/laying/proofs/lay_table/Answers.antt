@@ -52,7 +52,7 @@ pub overflow_sub-at : goal.overflow_sub-at
 overflow_sub-at c = omega (arith, rows_long (goal.at.overflow_sub-at c).After-row_size-size)
 
 pub set_header-requires : goal.set_header-requires
-set_header-requires c = omega (arith, c.fill.auto.b, c.requires.0)
+set_header-requires c = omega (arith, c.fill.auto.s, c.requires.0)
 
 pub loop-i-init : goal.loop-i-init
 unfolding stride
@@ -96,7 +96,7 @@ loop-i-preserved c =
     )
 
 pub shape_of-t : goal.shape_of-t
-shape_of-t c = c.loop-i.invariant.1 ∙ c.set_header.auto.t ∙ c.fill.auto.b
+shape_of-t c = c.loop-i.invariant.1 ∙ c.set_header.auto.t ∙ c.fill.auto.s
 
 pub returns : goal.returns
 returns c =
