@@ -24,5 +24,5 @@ slice_bounds-mark_copy-end c = inside (goal.at.slice_bounds-mark_copy-end c).Sta
 
 pub returns : goal.returns
 returns c =
-            let a = c.args in
-    rw c.if-good.false (copy-back a.row.now a.size a.q c.requires.0 (inside (goal.at.returns c).Start) _ _ c.mark_copy.auto.0 c.mark_copy.ensures)
+    let a = c.args in
+    rw c.if-good.false (copy-back a.row.now a.size a.q c.requires.0 (inside (goal.at.returns c).Start) _ _ c.mark_copy.auto.copy c.mark_copy.ensures)

@@ -10,11 +10,8 @@ use Rattle.sets.specs.Sets.{has}
 use Rattle.blocks.specs.Blocks.{with_block, with_blocks}
 use Rattle.protocol.specs.Rows.{marked_copy}
 use Rattle.enroll.specs.Files.{by_file}
+use Rattle.enroll.proofs.mark_others.Invariants.{marked}
 use Rattle.enroll.proofs.mark_others.Goals as goal
-
--- the row with its copies of files 1 to k marked, where it is not good in them
-abbrev marked : ℕ → List ℕ → List ℕ → ℕ → ℕ → List ℕ → List ℕ
-marked size goods versions i k row = with_blocks 32 size (λ q. not (has (by_file goods q) i)) (λ q. marked_copy (by_file versions q)) k row
 
 -- one file more
 next : (size : ℕ) (goods versions : List ℕ) (i k : ℕ) (row row₀ : List ℕ) (good : Bool) → good ≡ has (get_or goods k 0) i → row ≡ marked size goods versions i k row₀
@@ -50,19 +47,18 @@ overflow_add-k c = omega (arith, c.loop-k-test.true, c.requires.0)
 
 pub mark_other-requires : goal.mark_other-requires
 mark_other-requires c =
-        let l = c.loop-k in
-        let more : l.k + 1 ≤ c.args.files = omega (arith, c.loop-k-test.true) in
-    (omega arith, omega (arith, l.invariant.1, c.requires.1, mul-le-mul_right {m = l.k + 1} {c = c.args.files} c.args.size more), c.requires.2)
+    let l = c.loop-k in
+    let more : l.k + 1 ≤ c.args.files = omega (arith, c.loop-k-test.true) in
+    (omega arith, omega (arith, l.invariant.1, c.requires.1, mul-le-mul_right {m = l.k + 1} {n = c.args.files} c.args.size more), c.requires.2)
 
 pub loop-k-smaller : goal.loop-k-smaller
 loop-k-smaller c = omega (arith, c.loop-k-test.true)
 
 pub loop-k-preserved : goal.loop-k-preserved
 loop-k-preserved c =
-            let l = c.loop-k in
-    (
+    let l = c.loop-k in (
       omega (arith, c.loop-k-test.true),
-      c.mark_other.auto.0 ∙ l.invariant.1,
+      c.mark_other.auto.row ∙ l.invariant.1,
       c.mark_other.ensures ∙ next c.args.size c.args.goods.now c.args.versions.now c.args.i l.k l.row c.args.row.now _ c.has.ensures l.invariant.2,
     )
 

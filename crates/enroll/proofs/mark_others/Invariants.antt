@@ -12,6 +12,10 @@ use Rattle.protocol.specs.Rows.{marked_copy}
 use Rattle.enroll.specs.Files.{by_file}
 use Rattle.enroll.proofs.mark_others.Given as goal
 
+-- the row with its copies of files 1 to k marked, where it is not good in them
+abbrev pub marked : ℕ → List ℕ → List ℕ → ℕ → ℕ → List ℕ → List ℕ
+marked size goods versions i k row = with_blocks 32 size (λ q. not (has (by_file goods q) i)) (λ q. marked_copy (by_file versions q)) k row
+
 abbrev pub invariant-loop-k : goal.invariant-loop-k
 invariant-loop-k l = (l.k ≤ l.files) × (length l.row ≡ length l.initial.row) × (l.row ≡ marked l.size l.goods l.versions l.i l.k l.initial.row)
 

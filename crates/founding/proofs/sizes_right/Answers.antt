@@ -18,21 +18,18 @@ seated c =
     let a = c.args in
     sym (c.both.ensures ∙ ap₂ ◌&&◌ (c.both-long.ensures ∙ ap₂ ◌&&◌ (c.both-seated.ensures ∙ ap₂ ◌&&◌ c.between.ensures (λ i. leb a.n a.capacity)) c.between-2.ensures) c.between-3.ensures)
 
-right : (c : Else-not-both) → let a = c.args in (between 1 a.capacity 64 && leb a.n a.capacity && between 1 a.file 4_096 && between 1 a.files 8) ≡ true
-right c = seated c.before ∙ c.if-not-both.false
-
-small : (c : Else-not-both) → let a = c.args in (a.capacity ≤ 64) × (a.files ≤ 8) × (a.file ≤ 4_096)
-small c =
-    let a = c.args in
-    let rows : (between 1 a.capacity 64 && leb a.n a.capacity && between 1 a.file 4_096) ≡ true = and_l _ _ (right c) in (
-      (between_is 1 a.capacity 64 (and_l _ _ (and_l (between 1 a.capacity 64 && leb a.n a.capacity) _ rows))).1,
-      (between_is 1 a.files 8 (and_r (between 1 a.capacity 64 && leb a.n a.capacity && between 1 a.file 4_096) _ (right c))).1,
-      (between_is 1 a.file 4_096 (and_r (between 1 a.capacity 64 && leb a.n a.capacity) _ rows)).1,
+-- what the four tests say
+small : (capacity files file n : ℕ) → (between 1 capacity 64 && leb n capacity && between 1 file 4_096 && between 1 files 8) ≡ true → (capacity ≤ 64) × (files ≤ 8) × (file ≤ 4_096)
+small capacity files file n h =
+    let rows : (between 1 capacity 64 && leb n capacity && between 1 file 4_096) ≡ true = and_l _ _ h in (
+      (between_is 1 capacity 64 (and_l _ _ (and_l (between 1 capacity 64 && leb n capacity) _ rows))).1,
+      (between_is 1 files 8 (and_r (between 1 capacity 64 && leb n capacity && between 1 file 4_096) _ h)).1,
+      (between_is 1 file 4_096 (and_r (between 1 capacity 64 && leb n capacity) _ rows)).1,
     )
 
-product : (c : After-row_size) → c.args.capacity * c.row_size.result ≤ 64 * widest
+product : (capacity files file : ℕ) → (capacity ≤ 64) × (files ≤ 8) × (file ≤ 4_096) → capacity * stride files file ≤ 64 * widest
 unfolding stride stride_in body_length
-product c = rw c.row_size.ensures (rows-small form_value (small c.before).0 (small c.before).1 (small c.before).2)
+product capacity files file s = rows-small form_value s.0 s.1 s.2
 
 pub returns-then-not-both : goal.returns-then-not-both
 returns-then-not-both c = let e = seated (goal.at.returns-then-not-both c).After-both ∙ c.if-not-both.true in rw e

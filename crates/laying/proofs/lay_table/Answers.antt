@@ -22,7 +22,7 @@ rows_long c = omega (arith, ap (λ (x : ℕ). c.args.capacity * x) c.row_size-si
 list-is : (c : After-laid_now-list) → let a = c.args in c.laid_now-list.result ≡ founded_list a.choice a.counties.now (length a.names.now / 2)
 unfolding founded_list
 list-is c =
-        c.laid_now-list.ensures
+    c.laid_now-list.ensures
     ∙ ap₂ (laid_now (eqb c.args.choice 1)) c.of_places-sets.ensures.1 (all-rows (length c.args.names.now / 2) c.first.result.bits (omega (arith, c.requires.3, c.requires.4, c.requires.5)) (omega arith) c.first.ensures)
 
 turn : (l : In-loop-i) → let a = l.args in
@@ -46,22 +46,21 @@ pub row_size-size-requires : goal.row_size-size-requires
 row_size-size-requires c = let p = c.requires in (p.1.1, p.2.1)
 
 pub overflow_mul-at : goal.overflow_mul-at
-overflow_mul-at c = omega (arith, rows_long c)
+overflow_mul-at c = omega (arith, rows_long (goal.at.overflow_mul-at c).After-row_size-size)
 
 pub overflow_sub-at : goal.overflow_sub-at
-overflow_sub-at c = omega (arith, rows_long c)
+overflow_sub-at c = omega (arith, rows_long (goal.at.overflow_sub-at c).After-row_size-size)
 
 pub set_header-requires : goal.set_header-requires
-set_header-requires c = omega (arith, c.fill.auto.0, c.requires.0)
+set_header-requires c = omega (arith, c.fill.auto.s, c.requires.0)
 
 pub loop-i-init : goal.loop-i-init
 unfolding stride
-loop-i-init c =
-    (
-      omega arith,
-      refl,
-      none-laid _ _ _ _ _ _ _ _ _ c.args.t.now _ _ (omega (arith, rows_long (goal.at.loop-i-init c).After-row_size-size)) c.requires.0 c.requires.3 (omega (arith, c.requires.3, c.requires.4, c.requires.5)) c.fill.ensures c.set_header.ensures,
-    )
+loop-i-init c = (
+  omega arith,
+  refl,
+  none-laid _ _ _ _ _ _ _ _ _ c.args.t.now _ _ (omega (arith, rows_long (goal.at.loop-i-init c).After-row_size-size)) c.requires.0 c.requires.3 (omega (arith, c.requires.3, c.requires.4, c.requires.5)) c.fill.ensures c.set_header.ensures,
+)
 
 pub u16_at-x-requires : goal.u16_at-x-requires
 u16_at-x-requires c = omega (arith, c.loop-i-test.true)
@@ -80,25 +79,25 @@ next_row-requires c = (omega (arith, c.loop-i-test.true), omega (arith, c.requir
 
 pub found_row-requires : goal.found_row-requires
 found_row-requires c =
-        omega (arith, ap length (lent-zeros (turn (goal.at.found_row-requires c).In-loop-i)), length-zeros (32 + (let a = c.args in body_length a.files a.file)))
+    omega (arith, ap length (lent-zeros (turn (goal.at.found_row-requires c).In-loop-i)), length-zeros (32 + (let a = c.args in body_length a.files a.file)))
 
 pub overflow_add-at-in-loop-i : goal.overflow_add-at-in-loop-i
-overflow_add-at-in-loop-i c = omega (arith, add-found-row c)
+overflow_add-at-in-loop-i c = omega (arith, laid-fits (turn (goal.at.overflow_add-at-in-loop-i c).In-loop-i))
 
 pub loop-i-preserved : goal.loop-i-preserved
 loop-i-preserved c =
-        let k = c.loop-i.i in
-        let row = c.found_row in (
+    let k = c.loop-i.i in
+    let row = c.found_row in (
       omega (arith, c.loop-i-test.true),
-      laid-long (turn (goal.at.loop-i-preserved c).In-loop-i) row.new.0 row.auto.0 ∙ c.loop-i.invariant.1,
+      laid-long (turn (goal.at.loop-i-preserved c).In-loop-i) row.new.row row.auto.row ∙ c.loop-i.invariant.1,
       laid-turn (turn (goal.at.loop-i-preserved c).In-loop-i) _ _ _ _ row.ensures (c.u16_at-x.ensures ∙ name-at _ _ (omega (arith, c.loop-i-test.true)))
           (sym (place_at k c.args.counties.now (given (goal.at.loop-i-preserved c).In-loop-i))) (omega arith) (omega (arith, c.requires.7 k (given (goal.at.loop-i-preserved c).In-loop-i))) c.next_row.ensures,
     )
 
 pub shape_of-t : goal.shape_of-t
-shape_of-t c = c.loop-i.invariant.1 ∙ c.set_header.auto.0 ∙ c.fill.auto.0
+shape_of-t c = c.loop-i.invariant.1 ∙ c.set_header.auto.t ∙ c.fill.auto.s
 
 pub returns : goal.returns
 returns c =
     let l = c.loop-i in
-        all_laid _ _ _ _ _ _ _ _ _ _ _ _ refl (list-is (goal.at.returns c).After-laid_now-list) (omega (arith, c.requires.4)) (omega (arith, c.requires.4)) l.invariant.2
+    all_laid _ _ _ _ _ _ _ _ _ _ _ _ refl (list-is (goal.at.returns c).After-laid_now-list) (omega (arith, c.requires.4)) (omega (arith, c.requires.4)) l.invariant.2

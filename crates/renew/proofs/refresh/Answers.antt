@@ -20,9 +20,9 @@ size_is c = c.copy_size.ensures ∙ ap copy_length c.file_length.ensures
 
 pub refresh_by-requires : goal.refresh_by-requires
 refresh_by-requires c =
-            (c.requires.0, c.requires.1, c.requires.2, c.requires.3, c.requires.4, c.requires.5, omega (arith, size_is (goal.at.refresh_by-requires c).After-copy_size, c.if-copy_size-le1024.true))
+    (c.requires.0, c.requires.1, c.requires.2, c.requires.3, c.requires.4, c.requires.5, omega (arith, size_is (goal.at.refresh_by-requires c).After-copy_size, c.if-copy_size-le1024.true))
 
 pub refresh_by-requires-2 : goal.refresh_by-requires-2
 refresh_by-requires-2 c =
-            let n : copy_length (file_length_of c.args.t.now) ≤ 4_684 = omega (arith, copy_is (file_length_of c.args.t.now), (header c.requires.0.header).file) in
+    let n : copy_length (file_length_of c.args.t.now) ≤ 4_684 = omega (arith, copy_is (file_length_of c.args.t.now), (header c.requires.0.header).file) in
     (c.requires.0, c.requires.1, c.requires.2, c.requires.3, c.requires.4, c.requires.5, search rules)

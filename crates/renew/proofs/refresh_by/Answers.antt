@@ -28,9 +28,9 @@ copy_is : (c : After-copy_size-copy) → c.copy_size-copy.result ≡ copy_length
 copy_is c = c.copy_size-copy.ensures ∙ ap copy_length c.file_length.ensures
 
 -- the target's row is in the table
-fits : (c : After-rows_end-at) →     c.rows_end-at.result + c.row_length-size.result ≤ length c.args.t.now
+fits : (c : After-rows_end-at) → c.rows_end-at.result + c.row_length-size.result ≤ length c.args.t.now
 fits c =
-            row_fits c.requires.0 c.args.to c.requires.4 _ _ c.row_length-size.ensures c.rows_end-at.ensures
+    row_fits c.requires.0 c.args.to c.requires.4 _ _ c.row_length-size.ensures c.rows_end-at.ensures
 
 pub row_length-size-requires : goal.row_length-size-requires
 row_length-size-requires c = let z = c.requires.0 in (long z, z.header)
@@ -49,7 +49,7 @@ slice_bounds-copy-end c = omega (arith, copy_is (goal.at.slice_bounds-copy-end c
 
 pub copy-requires : goal.copy-requires
 copy-requires c =
-            let n : length (take (c.copy_size-copy.result - 0) c.args.page.now) ≡ c.copy_size-copy.result - 0 = length-take-le (c.copy_size-copy.result - 0) c.args.page.now (omega (arith, copy_is (goal.at.copy-requires c).After-copy_size-copy, c.requires.6)) in
+    let n : length (take (c.copy_size-copy.result - 0) c.args.page.now) ≡ c.copy_size-copy.result - 0 = length-take-le (c.copy_size-copy.result - 0) c.args.page.now (omega (arith, copy_is (goal.at.copy-requires c).After-copy_size-copy, c.requires.6)) in
     omega (arith, n, copy_is (goal.at.copy-requires c).After-copy_size-copy, c.copy_of.ensures.1)
 
 pub overflow_add-at : goal.overflow_add-at
@@ -60,19 +60,19 @@ slice_bounds-refresh_row-end c = omega (arith, fits (goal.at.slice_bounds-refres
 
 pub slice_bounds-refresh_row-end-2 : goal.slice_bounds-refresh_row-end-2
 slice_bounds-refresh_row-end-2 c =
-            let room : c.copy_size-copy.result ≤ length c.args.page.now = omega (arith, copy_is (goal.at.slice_bounds-refresh_row-end-2 c).After-copy_size-copy, c.requires.6) in
+    let room : c.copy_size-copy.result ≤ length c.args.page.now = omega (arith, copy_is (goal.at.slice_bounds-refresh_row-end-2 c).After-copy_size-copy, c.requires.6) in
     search rules
 
 -- the sender's copy on the page
-page-is : (c : After-copy) →     (xs : List ℕ) → take (c.copy_size-copy.result - 0) (c.copy.new.0 ++ xs) ≡ copy_bytes c.args.t.now c.args.q c.args.from
+page-is : (c : After-copy) → (xs : List ℕ) → take (c.copy_size-copy.result - 0) (c.copy.new.to ++ xs) ≡ copy_bytes c.args.t.now c.args.q c.args.from
 page-is c xs =
-        let n : length c.copy_of.result.now ≡ c.copy_size-copy.result = c.copy_of.ensures.1 ∙ sym (copy_is c.before.before.before.before) in
+    let n : length c.copy_of.result.now ≡ c.copy_size-copy.result = c.copy_of.ensures.1 ∙ sym (c.copy_size-copy.ensures ∙ ap copy_length c.file_length.ensures) in
     front-is _ _ _ _ c.copy.ensures n ∙ c.copy_of.ensures.0
 
 pub refresh_row-requires : goal.refresh_row-requires
 refresh_row-requires c =
-                let t = c.args.t.now in
-        let n : row_length t ≡ 32 + files_of t * copy_length (file_length_of t) = row-newest t c.requires.1 ∙ stride-is (files_of t) (file_length_of t) in
+    let t = c.args.t.now in
+    let n : row_length t ≡ 32 + files_of t * copy_length (file_length_of t) = row-newest t c.requires.1 ∙ stride-is (files_of t) (file_length_of t) in
     let m = cut-length c.requires.0 c.args.to c.requires.4 _ _ c.row_length-size.ensures c.rows_end-at.ensures in
     let page = page-is (goal.at.refresh_row-requires c).After-copy _ in (
       c.requires.2.0,
@@ -85,6 +85,6 @@ refresh_row-requires c =
 pub returns : goal.returns
 unfolding in_copy
 returns c =
-                        let t = c.args.t.now in
-    row_back c.requires.0 c.args.to c.requires.4 _ _ c.row_length-size.ensures c.rows_end-at.ensures (in_copy (file_length_of t) c.args.q (refreshed_copy (copy_bytes t c.args.q c.args.from))) _ c.refresh_row.auto.0
+    let t = c.args.t.now in
+    row_back c.requires.0 c.args.to c.requires.4 _ _ c.row_length-size.ensures c.rows_end-at.ensures (in_copy (file_length_of t) c.args.q (refreshed_copy (copy_bytes t c.args.q c.args.from))) _ c.refresh_row.auto.row
     (alike _ _ _ _ _ _ _ (copy_is (goal.at.returns c).After-copy_size-copy) (page-is (goal.at.returns c).After-copy _) c.refresh_row.ensures)

@@ -27,11 +27,11 @@ slice_bounds-refresh_copy-end c = inside (goal.at.slice_bounds-refresh_copy-end 
 
 pub refresh_copy-requires : goal.refresh_copy-requires
 refresh_copy-requires c =
-        let a = c.args in
+    let a = c.args in
     let n = copy-long a.row.now a.size a.q c.requires.0 (inside (goal.at.refresh_copy-requires c).Start) in
     (omega (arith, n, c.requires.2), n ∙ sym c.requires.3, subst (λ (k : ℕ). RightFor (k - 588) (window_of a.source.now)) (sym n) c.requires.4)
 
 pub returns : goal.returns
 returns c =
-            let a = c.args in
-    copy-back a.row.now a.size a.q c.requires.0 (inside (goal.at.returns c).Start) _ _ c.refresh_copy.auto.0 c.refresh_copy.ensures
+    let a = c.args in
+    copy-back a.row.now a.size a.q c.requires.0 (inside (goal.at.returns c).Start) _ _ c.refresh_copy.auto.copy c.refresh_copy.ensures

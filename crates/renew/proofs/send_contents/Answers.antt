@@ -3,13 +3,12 @@ use borrow.Author.Rules.{rules}
 use Rattle.renew.proofs.send_contents.Goals as goal
 
 pub sent_over-requires : goal.sent_over-requires
-sent_over-requires c =
-        (
-      records-long c.args.copy.now c.args.source.now c.requires.0 c.requires.1,
-      right-cut c.args.copy.now c.args.source.now c.requires.0 c.requires.1 _ c.oldest-oldest.ensures c.requires.2,
-      both_long c.args.copy.now c.args.source.now c.requires.0 c.requires.1,
-    )
+sent_over-requires c = (
+  records-long c.args.copy.now c.args.source.now c.requires.0 c.requires.1,
+  right-cut c.args.copy.now c.args.source.now c.requires.0 c.requires.1 _ c.oldest-oldest.ensures c.requires.2,
+  both_long c.args.copy.now c.args.source.now c.requires.0 c.requires.1,
+)
 
 pub returns : goal.returns
 returns c =
-                sent-in c.args.copy.now c.args.source.now c.requires.0 c.requires.1 c.args.missing _ _ c.oldest-oldest.ensures c.sent_over.ensures c.sent_over.auto.0
+    sent-in c.args.copy.now c.args.source.now c.requires.0 c.requires.1 c.args.missing _ _ c.oldest-oldest.ensures c.sent_over.ensures c.sent_over.auto.own

@@ -28,12 +28,12 @@ slice_bounds-write_copy-end c = inside (goal.at.slice_bounds-write_copy-end c).S
 
 pub write_copy-requires : goal.write_copy-requires
 write_copy-requires c =
-        let a = c.args in (
+    let a = c.args in (
       omega (arith, copy-long a.row.now a.size a.q c.requires.0 (inside (goal.at.write_copy-requires c).Start), c.requires.2),
       subst (λ (copy : List ℕ). (file : ℕ) × RightFor file (window_of copy)) (sym (copy-lent a.row.now a.size a.q c.requires.0 (inside (goal.at.write_copy-requires c).Start))) c.requires.3,
     )
 
 pub returns : goal.returns
 returns c =
-            let a = c.args in
-    copy-back a.row.now a.size a.q c.requires.0 (inside (goal.at.returns c).Start) _ _ c.write_copy.auto.0 c.write_copy.ensures
+    let a = c.args in
+    copy-back a.row.now a.size a.q c.requires.0 (inside (goal.at.returns c).Start) _ _ c.write_copy.auto.copy c.write_copy.ensures
