@@ -1,7 +1,7 @@
 use borrow.Author.Rules.{rules}
 use mathlib.Core.Path.{◌≡◌, sym, ◌∙◌, ap₂}
 use mathlib.Core.Bool.{Bool, true, ◌&&◌}
-use mathlib.Core.List.{[]}
+use mathlib.Core.List.{List, []}
 use Prim.Native.Nat.{ℕ}
 use native.Mathlib.Omega.{arith}
 use borrow.Author.Tests.{ltb-true, not-true, not-false}
@@ -25,23 +25,23 @@ use Rattle.sheet.proofs.SheetLaws.{sheet-facts}
 use Rattle.protocol.specs.Calls.{Checking, lent_sheet, by_coordinator, answers}
 use Rattle.protocol.proofs.QuestionLaws.{ByCoordinator, passed_first}
 use Rattle.checks.proofs.CheckLaws.{check-one, check-early, check-same, held-is, check-six, check-seven, check-full, check_done}
-use Rattle.checks.proofs.check.Goals.{After-both, After-held_unless, Else-no-ne0, Else-not-below_limit, Else-not-both, Else-not-found, Else-not-held_unless, Else-v-r, Start}
+use Rattle.checks.proofs.check.Goals.{After-held_unless, Else-no-ne0, Else-not-below_limit, Else-not-both, Else-not-found, Else-v-r}
 use Rattle.checks.proofs.check.Goals as goal
 
 -- the arguments of the call
-abbrev checking : Start → Checking
-checking s = record { c = s.args.c; r = s.args.r; sheet = s.args.sheet.now }
+abbrev checking : (c r : ℕ) (sheet : List ℕ) → Checking
+checking c r sheet = record { c = c; r = r; sheet = sheet }
 
 -- question 1, as it was asked of sheet and table
-one : (c : After-both) → (sheet_right c.args.sheet.now && well_formed c.args.t.now) ≡ c.both.result
-one c = sym (c.both.ensures ∙ ap₂ ◌&&◌ c.is_right.ensures c.ordered.ensures.0)
+one : (sheet t : List ℕ) (x y both : Bool) → both ≡ (x && y) → x ≡ sheet_right sheet → y ≡ well_formed t → (sheet_right sheet && well_formed t) ≡ both
+one sheet t x y both h ex ey = sym (h ∙ ap₂ ◌&&◌ ex ey)
 
 -- both are right
 right : (c : Else-not-both) → sheet_right c.args.sheet.now ≡ true
-right c = and_l _ _ (one c.before ∙ c.if-not-both.false)
+right c = and_l _ _ (one _ _ _ _ _ c.both.ensures c.is_right.ensures c.ordered.ensures.0 ∙ c.if-not-both.false)
 
-framed : (c : Else-not-both) → Framed c.args.t.now c.ordered.new.1.0 c.ordered.new.1.1.0
-framed c = c.ordered.ensures.1 (c.ordered.ensures.0 ∙ and_r (sheet_right _) _ (one c.before ∙ c.if-not-both.false))
+framed : (c : Else-not-both) → Framed c.args.t.now c.ordered.new.order c.ordered.new.sets
+framed c = c.ordered.ensures.1 (c.ordered.ensures.0 ∙ and_r (sheet_right _) _ (one _ _ _ _ _ c.both.ensures c.is_right.ensures c.ordered.ensures.0 ∙ c.if-not-both.false))
 
 -- questions 2 and 3 are passed
 passed : (c : Else-no-ne0) → first_no (by_coordinator c.args.t.now c.args.c c.args.r []) ≡ 0
@@ -55,19 +55,18 @@ other : (c : Else-v-r) → c.judged-v.result.list.members ≡ c.args.r → ⊥
 other c e = omega (arith, e)
 
 -- question 6, as it was asked
-held : (c : After-held_unless) →     c.held_unless.result ≡ quorum_held Write (frame_of c.args.t.now) (answers c.args.t.now 1 c.args.r) (has c.args.r)
+held : (c : After-held_unless) → c.held_unless.result ≡ quorum_held Write (frame_of c.args.t.now) (answers c.args.t.now 1 c.args.r) (has c.args.r)
 held c =
-                            let f = framed c.before.before.before.before.before.before.before.before.before.before.before.before in
-    held-is c.args.t.now (checking c.before.before.before.before.before.before.before.before.before.before.before.before.before.before.before.before.before.before.before.before) (right c.before.before.before.before.before.before.before.before.before.before.before.before) (passed c.before.before.before.before.before.before.before.before.before.before) c.judged-v.result c.judged-v.ensures c.has_whole-whole.result _ _
+    let a = c.args in
+    let y = one _ _ _ _ _ c.both.ensures c.is_right.ensures c.ordered.ensures.0 ∙ c.if-not-both.false in
+    let f = c.ordered.ensures.1 (c.ordered.ensures.0 ∙ and_r (sheet_right _) _ y) in
+    let none : c.coordinator_asked-no.result ≡ 0 = omega arith in
+    held-is a.t.now (checking a.c a.r a.sheet.now) (and_l _ _ y) (sym c.coordinator_asked-no.ensures ∙ none) c.judged-v.result c.judged-v.ensures c.has_whole-whole.result _ _
     (rw c.used-count.ensures (frame-by _ _ _ f.ordered f.grouped)) c.has_whole-whole.ensures c.held_unless.ensures
-
--- it is passed
-six : (c : Else-not-held_unless) →     quorum_held Write (frame_of c.args.t.now) (answers c.args.t.now 1 c.args.r) (has c.args.r) ≡ true
-six c = sym (held c.before) ∙ c.if-not-held_unless.false
 
 -- and 7, of every file
 seven : (c : Else-not-found) →     every (files_of c.args.t.now) (λ q. current (answers c.args.t.now q c.args.r) (has c.args.r)) ≡ true
-seven c = sym c.look_through-found.ensures.current ∙ c.if-not-found.false
+seven c = sym c.look_through-found.ensures.current ∙ not-false _ c.if-not-found.false
 
 -- and 8
 room : (c : Else-not-below_limit) → ltb c.judged-v.result.epoch limit ≡ true
@@ -76,7 +75,8 @@ room c = sym c.below_limit.ensures ∙ c.if-not-below_limit.false
 pub returns-then-not-both : goal.returns-then-not-both
 unfolding lent_sheet
 returns-then-not-both c =
-            let no = check-one c.args.t.now (checking (goal.at.returns-then-not-both c).Start) (one (goal.at.returns-then-not-both c).After-both ∙ c.if-not-both.true) in
+    let a = c.args in
+    let no = check-one c.args.t.now (checking a.c a.r a.sheet.now) (one _ _ _ _ _ c.both.ensures c.is_right.ensures c.ordered.ensures.0 ∙ c.if-not-both.true) in
     (c.result.ensures ∙ no.result, no.table, no.sheet)
 
 pub coordinator_asked-no-requires : goal.coordinator_asked-no-requires
@@ -85,7 +85,8 @@ coordinator_asked-no-requires c = (framed c).formed
 pub returns-then-no-ne0 : goal.returns-then-no-ne0
 unfolding lent_sheet
 returns-then-no-ne0 c =
-        let no = check-early c.args.t.now (checking (goal.at.returns-then-no-ne0 c).Start) (right (goal.at.returns-then-no-ne0 c).Else-not-both) _ c.coordinator_asked-no.ensures (omega arith) in
+    let a = c.args in
+    let no = check-early c.args.t.now (checking a.c a.r a.sheet.now) (right (goal.at.returns-then-no-ne0 c).Else-not-both) _ c.coordinator_asked-no.ensures (omega arith) in
     (c.result-then-no-ne0.ensures ∙ no.result, no.table, no.sheet)
 
 pub judged-v-requires : goal.judged-v-requires
@@ -94,7 +95,8 @@ judged-v-requires c = let y = first c in (sized y.formed, newest _ y.formed, ome
 pub returns-then-v-r : goal.returns-then-v-r
 unfolding lent_sheet
 returns-then-v-r c =
-                let yes = check-same c.args.t.now (checking (goal.at.returns-then-v-r c).Start) (right (goal.at.returns-then-v-r c).Else-not-both) (passed (goal.at.returns-then-v-r c).Else-no-ne0) c.judged-v.result c.judged-v.ensures (omega arith) in
+    let a = c.args in
+    let yes = check-same c.args.t.now (checking a.c a.r a.sheet.now) (right (goal.at.returns-then-v-r c).Else-not-both) (passed (goal.at.returns-then-v-r c).Else-no-ne0) c.judged-v.result c.judged-v.ensures (omega arith) in
     (c.result-then-v-r.ensures ∙ yes.0, yes.1, yes.2)
 
 pub used-count-requires : goal.used-count-requires
@@ -102,31 +104,34 @@ used-count-requires c = long (sized (first (goal.at.used-count-requires c).Else-
 
 pub held_unless-requires : goal.held_unless-requires
 held_unless-requires c =
-        let f = framed (goal.at.held_unless-requires c).Else-not-both in
+    let f = framed (goal.at.held_unless-requires c).Else-not-both in
     (rw c.used-count.ensures f.ordered.listed, f.grouped.apart)
 
 pub returns-then-not-held_unless : goal.returns-then-not-held_unless
 unfolding lent_sheet
 returns-then-not-held_unless c =
-                        let no = check-six c.args.t.now (checking (goal.at.returns-then-not-held_unless c).Start) (right (goal.at.returns-then-not-held_unless c).Else-not-both) (passed (goal.at.returns-then-not-held_unless c).Else-no-ne0) c.judged-v.result c.judged-v.ensures (other (goal.at.returns-then-not-held_unless c).Else-v-r) (sym (held (goal.at.returns-then-not-held_unless c).After-held_unless) ∙ c.if-not-held_unless.true) in
+    let a = c.args in
+    let no = check-six c.args.t.now (checking a.c a.r a.sheet.now) (right (goal.at.returns-then-not-held_unless c).Else-not-both) (passed (goal.at.returns-then-not-held_unless c).Else-no-ne0) c.judged-v.result c.judged-v.ensures (other (goal.at.returns-then-not-held_unless c).Else-v-r) (sym (held (goal.at.returns-then-not-held_unless c).After-held_unless) ∙ c.if-not-held_unless.true) in
     (c.result-then-not-held_unless.ensures ∙ no.result, no.table, no.sheet)
 
 pub look_through-found-requires : goal.look_through-found-requires
 look_through-found-requires c =
-        let v = c.judged-v.ensures in
+    let v = c.judged-v.ensures in
     let y = first (goal.at.look_through-found-requires c).Else-no-ne0 in
     (sized y.formed, newest _ y.formed, y.rows, record { good = v.good; version = v.version; current = v.current })
 
 pub returns-then-not-found : goal.returns-then-not-found
 unfolding lent_sheet
 returns-then-not-found c =
-                            let no = check-seven c.args.t.now (checking (goal.at.returns-then-not-found c).Start) (right (goal.at.returns-then-not-found c).Else-not-both) (passed (goal.at.returns-then-not-found c).Else-no-ne0) c.judged-v.result c.judged-v.ensures (other (goal.at.returns-then-not-found c).Else-v-r) (six (goal.at.returns-then-not-found c).Else-not-held_unless) (sym c.look_through-found.ensures.current ∙ c.if-not-found.true) in
+    let a = c.args in
+    let no = check-seven c.args.t.now (checking a.c a.r a.sheet.now) (right (goal.at.returns-then-not-found c).Else-not-both) (passed (goal.at.returns-then-not-found c).Else-no-ne0) c.judged-v.result c.judged-v.ensures (other (goal.at.returns-then-not-found c).Else-v-r) (sym (held (goal.at.returns-then-not-found c).After-held_unless) ∙ c.if-not-held_unless.false) (sym c.look_through-found.ensures.current ∙ not-true _ c.if-not-found.true) in
     (c.result-then-not-found.ensures ∙ no.result, no.table, no.sheet)
 
 pub returns-then-not-below_limit : goal.returns-then-not-below_limit
 unfolding lent_sheet
 returns-then-not-below_limit c =
-                            let no = check-full c.args.t.now (checking (goal.at.returns-then-not-below_limit c).Start) (right (goal.at.returns-then-not-below_limit c).Else-not-both) (passed (goal.at.returns-then-not-below_limit c).Else-no-ne0) c.judged-v.result c.judged-v.ensures (other (goal.at.returns-then-not-below_limit c).Else-v-r) (six (goal.at.returns-then-not-below_limit c).Else-not-held_unless) (seven (goal.at.returns-then-not-below_limit c).Else-not-found) (sym c.below_limit.ensures ∙ c.if-not-below_limit.true) in
+    let a = c.args in
+    let no = check-full c.args.t.now (checking a.c a.r a.sheet.now) (right (goal.at.returns-then-not-below_limit c).Else-not-both) (passed (goal.at.returns-then-not-below_limit c).Else-no-ne0) c.judged-v.result c.judged-v.ensures (other (goal.at.returns-then-not-below_limit c).Else-v-r) (sym (held (goal.at.returns-then-not-below_limit c).After-held_unless) ∙ c.if-not-held_unless.false) (seven (goal.at.returns-then-not-below_limit c).Else-not-found) (sym c.below_limit.ensures ∙ c.if-not-below_limit.true) in
     (c.result-then-not-below_limit.ensures ∙ no.result, no.table, no.sheet)
 
 pub overflow_add-epoch : goal.overflow_add-epoch
@@ -145,6 +150,7 @@ clear-requires c = (sheet-facts _ (right (goal.at.clear-requires c).Else-not-bot
 pub returns : goal.returns
 unfolding lent_sheet
 returns c =
-                                            let l = c.look_through-found in
-    let yes = check_done c.args.t.now (checking (goal.at.returns c).Start) (right (goal.at.returns c).Else-not-both) (passed (goal.at.returns c).Else-no-ne0) c.judged-v.result c.judged-v.ensures (other (goal.at.returns c).Else-v-r) (six (goal.at.returns c).Else-not-held_unless) (seven (goal.at.returns c).Else-not-found) (room (goal.at.returns c).Else-not-below_limit) l.result l.ensures in
+    let a = c.args in
+    let l = c.look_through-found in
+    let yes = check_done c.args.t.now (checking a.c a.r a.sheet.now) (right (goal.at.returns c).Else-not-both) (passed (goal.at.returns c).Else-no-ne0) c.judged-v.result c.judged-v.ensures (other (goal.at.returns c).Else-v-r) (sym (held (goal.at.returns c).After-held_unless) ∙ c.if-not-held_unless.false) (seven (goal.at.returns c).Else-not-found) (room (goal.at.returns c).Else-not-below_limit) l.result l.ensures in
     (c.result-2.ensures ∙ yes.0, rw (← (c.laid_now-list.ensures ∙ ap₂ (λ (b : Bool) (y : ℕ → ℕ). laid_now b y c.args.r) c.is_tall-tall.ensures (framed (goal.at.returns c).Else-not-both).grouped.county)) c.check_rows.ensures ∙ yes.1, c.clear.ensures ∙ yes.2)

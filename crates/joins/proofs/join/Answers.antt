@@ -1,6 +1,6 @@
 use mathlib.Core.Path.{◌≡◌, refl, sym, ◌∙◌, ap}
 use mathlib.Core.Bool.{Bool, true, false, not, ◌&&◌}
-use Prim.Native.Nat.{◌<◌}
+use Prim.Native.Nat.{ℕ, ◌<◌}
 use native.Mathlib.Omega.{arith}
 use borrow.Author.Rules.{rules}
 use borrow.Author.Tests.{not-true, not-false, lt-ltb, le-ltb}
@@ -15,12 +15,12 @@ use Rattle.protocol.specs.Calls.{Joining, join, questions}
 use Rattle.protocol.proofs.QuestionLaws.{county-is}
 use Rattle.questions.proofs.QuestionLaws.{refused-is}
 use Rattle.joins.proofs.JoinLaws.{name_free, join-answers, join-done}
-use Rattle.joins.proofs.join.Goals.{After-any, Else-capacity-used, Else-not-is_county, Else-not-ordered, Start}
+use Rattle.joins.proofs.join.Goals.{After-any, Else-capacity-used, Else-not-is_county, Else-not-ordered}
 use Rattle.joins.proofs.join.Goals as goal
 
 -- the arguments of the call
-abbrev joining : Start → Joining
-joining s = record { name = s.args.name; county = s.args.county }
+abbrev joining : (name county : ℕ) → Joining
+joining name county = record { name = name; county = county }
 
 -- question 1 is yes
 formed : (c : Else-not-ordered) → well_formed c.args.t.now ≡ true
@@ -40,13 +40,9 @@ room c = omega (arith, c.capacity.ensures, c.used-used.ensures, c.if-capacity-us
 placed : (c : Else-not-is_county) → is_county c.args.county ≡ true
 placed c = sym c.is_county.ensures ∙ c.if-not-is_county.false
 
-passed : (c : Else-not-is_county) → first_no (questions c.args.t.now (join (joining c.before.before.before.before.before.before.before.before.before.before.before.before.before.before))) ≡ 0
-passed c =
-            join-answers _ _ true true true true (formed c.before.before.before.before.before.before.before.before.before) (named c.before.before.before.before.before.before ∙ ap not c.if-any.false) (lt-ltb _ _ (room c.before.before)) (placed c)
-
 pub returns-then-not-ordered : goal.returns-then-not-ordered
 returns-then-not-ordered c =
-        let no = refused-is c.args.t.now (join (joining (goal.at.returns-then-not-ordered c).Start)) 1 (join-answers _ _ false _ _ _ (sym c.ordered.ensures.0 ∙ c.if-not-ordered.true) refl refl refl) (omega arith) in
+    let no = refused-is c.args.t.now (join (joining c.args.name c.args.county)) 1 (join-answers _ _ false _ _ _ (sym c.ordered.ensures.0 ∙ c.if-not-ordered.true) refl refl refl) (omega arith) in
     (c.result.ensures ∙ no.result, no.table)
 
 pub place_of-place-requires : goal.place_of-place-requires
@@ -54,7 +50,7 @@ place_of-place-requires c = (formed (goal.at.place_of-place-requires c).Else-not
 
 pub returns-then-any : goal.returns-then-any
 returns-then-any c =
-        let no = refused-is c.args.t.now (join (joining (goal.at.returns-then-any c).Start)) 13 (join-answers _ _ true false _ _ (formed (goal.at.returns-then-any c).Else-not-ordered) (named (goal.at.returns-then-any c).After-any ∙ ap not c.if-any.true) refl refl) (omega arith) in
+    let no = refused-is c.args.t.now (join (joining c.args.name c.args.county)) 13 (join-answers _ _ true false _ _ (formed (goal.at.returns-then-any c).Else-not-ordered) (named (goal.at.returns-then-any c).After-any ∙ ap not c.if-any.true) refl refl) (omega arith) in
     (c.result-then-any.ensures ∙ no.result, no.table)
 
 pub used-used-requires : goal.used-used-requires
@@ -65,13 +61,13 @@ capacity-requires c = long (sized (formed (goal.at.capacity-requires c).Else-not
 
 pub returns-then-capacity-used : goal.returns-then-capacity-used
 returns-then-capacity-used c =
-                let full = le-ltb (used_of c.args.t.now) (capacity_of c.args.t.now) (omega (arith, c.capacity.ensures, c.used-used.ensures, c.if-capacity-used.true)) in
-    let no = refused-is c.args.t.now (join (joining (goal.at.returns-then-capacity-used c).Start)) 14 (join-answers _ _ true true false _ (formed (goal.at.returns-then-capacity-used c).Else-not-ordered) (named (goal.at.returns-then-capacity-used c).After-any ∙ ap not c.if-any.false) full refl) (omega arith) in
+    let full = le-ltb (used_of c.args.t.now) (capacity_of c.args.t.now) (omega (arith, c.capacity.ensures, c.used-used.ensures, c.if-capacity-used.true)) in
+    let no = refused-is c.args.t.now (join (joining c.args.name c.args.county)) 14 (join-answers _ _ true true false _ (formed (goal.at.returns-then-capacity-used c).Else-not-ordered) (named (goal.at.returns-then-capacity-used c).After-any ∙ ap not c.if-any.false) full refl) (omega arith) in
     (c.result-then-capacity-used.ensures ∙ no.result, no.table)
 
 pub returns-then-not-is_county : goal.returns-then-not-is_county
 returns-then-not-is_county c =
-                    let no = refused-is c.args.t.now (join (joining (goal.at.returns-then-not-is_county c).Start)) 20 (join-answers _ _ true true true false (formed (goal.at.returns-then-not-is_county c).Else-not-ordered) (named (goal.at.returns-then-not-is_county c).After-any ∙ ap not c.if-any.false) (lt-ltb _ _ (room (goal.at.returns-then-not-is_county c).Else-capacity-used)) (sym c.is_county.ensures ∙ c.if-not-is_county.true)) (omega arith) in
+    let no = refused-is c.args.t.now (join (joining c.args.name c.args.county)) 20 (join-answers _ _ true true true false (formed (goal.at.returns-then-not-is_county c).Else-not-ordered) (named (goal.at.returns-then-not-is_county c).After-any ∙ ap not c.if-any.false) (lt-ltb _ _ (room (goal.at.returns-then-not-is_county c).Else-capacity-used)) (sym c.is_county.ensures ∙ c.if-not-is_county.true)) (omega arith) in
     (c.result-then-not-is_county.ensures ∙ no.result, no.table)
 
 pub overflow_cast-county : goal.overflow_cast-county
@@ -79,8 +75,8 @@ overflow_cast-county c = record { fits = omega (arith, county-is _ (placed (goal
 
 pub admit-requires : goal.admit-requires
 admit-requires c =
-            let f = formed (goal.at.admit-requires c).Else-not-ordered in
-        (sized f, room (goal.at.admit-requires c).Else-capacity-used, rw c.place_of-place.ensures.0 (before-used c.args.t.now f c.args.name (room (goal.at.admit-requires c).Else-capacity-used)))
+    let f = formed (goal.at.admit-requires c).Else-not-ordered in
+    (sized f, room (goal.at.admit-requires c).Else-capacity-used, rw c.place_of-place.ensures.0 (before-used c.args.t.now f c.args.name (room (goal.at.admit-requires c).Else-capacity-used)))
 
 pub overflow_cast-used : goal.overflow_cast-used
 overflow_cast-used c = omega (arith, c.used-used.ensures, few-rows (sized (formed (goal.at.overflow_cast-used c).Else-not-ordered)))
@@ -90,5 +86,6 @@ overflow_add-used c = omega (arith, c.used-used.ensures, few-rows (sized (formed
 
 pub returns : goal.returns
 returns c =
-                    let yes = join-done c.args.t.now (joining (goal.at.returns c).Start) _ _ _ (passed (goal.at.returns c).Else-not-is_county) c.used-used.ensures c.place_of-place.ensures.0 c.admit.ensures in
+    let passed = join-answers c.args.t.now (joining c.args.name c.args.county) true true true true (formed (goal.at.returns c).Else-not-ordered) (named (goal.at.returns c).After-any ∙ ap not c.if-any.false) (lt-ltb _ _ (room (goal.at.returns c).Else-capacity-used)) (placed (goal.at.returns c).Else-not-is_county) in
+    let yes = join-done c.args.t.now (joining c.args.name c.args.county) _ _ _ passed c.used-used.ensures c.place_of-place.ensures.0 c.admit.ensures in
     (c.result-2.ensures ∙ yes.0, yes.1)

@@ -27,12 +27,12 @@ only_rows-requires c = omega (arith, c.used-used.ensures, few-rows (sized c.requ
 
 pub returns-then-has : goal.returns-then-has
 returns-then-has c =
-        by-answers _ _ _ true true c.requires (named (goal.at.returns-then-has c).After-both ∙ c.if-both.true) (sym c.has.ensures ∙ c.if-has.true)
+    by-answers _ _ _ true true c.requires (named (goal.at.returns-then-has c).After-both ∙ c.if-both.true) (sym c.has.ensures ∙ c.if-has.true)
 
 pub returns-then-both : goal.returns-then-both
 returns-then-both c =
-        by-answers _ _ _ true false c.requires (named (goal.at.returns-then-both c).After-both ∙ c.if-both.true) (sym c.has.ensures ∙ c.if-has.false)
+    by-answers _ _ _ true false c.requires (named (goal.at.returns-then-both c).After-both ∙ c.if-both.true) (sym c.has.ensures ∙ c.if-has.false)
 
 pub returns : goal.returns
 returns c =
-        by-answers _ _ _ false _ c.requires (named (goal.at.returns c).After-both ∙ c.if-both.false) refl
+    by-answers _ _ _ false _ c.requires (named (goal.at.returns c).After-both ∙ c.if-both.false) refl

@@ -41,7 +41,7 @@ in_group-requires c = long (sized c.requires)
 
 pub returns-then-not-in_group : goal.returns-then-not-in_group
 returns-then-not-in_group c =
-        let a = c.args in
+    let a = c.args in
     range-yes _ _ _ a.q a.offset a.count false _ (passed (goal.at.returns-then-not-in_group c).Else-no-ne0) (sym (c.if-not-in_group.true) ∙ c.in_group.ensures) refl
 
 pub file_length-requires : goal.file_length-requires
@@ -49,10 +49,10 @@ file_length-requires c = long (sized c.requires)
 
 pub returns-then-in_range : goal.returns-then-in_range
 returns-then-in_range c =
-            let a = c.args in
+    let a = c.args in
     range-yes _ _ _ a.q a.offset a.count true true (passed (goal.at.returns-then-in_range c).Else-no-ne0) (grouped (goal.at.returns-then-in_range c).Else-not-in_group) (sym c.if-in_range.true ∙ fits (goal.at.returns-then-in_range c).After-in_range)
 
 pub returns : goal.returns
 returns c =
-            let a = c.args in
+    let a = c.args in
     range-yes _ _ _ a.q a.offset a.count true false (passed (goal.at.returns c).Else-no-ne0) (grouped (goal.at.returns c).Else-not-in_group) (sym c.if-in_range.false ∙ fits (goal.at.returns c).After-in_range)

@@ -1,5 +1,6 @@
 use borrow.Author.Rules.{rules}
 use mathlib.Core.Path.{◌≡◌, sym, ◌∙◌, ap}
+use Prim.Native.Nat.{ℕ}
 use native.Mathlib.Omega.{arith}
 use Rattle.fields.specs.Layout.{get, version, file_length_of}
 use Rattle.fields.proofs.FieldLaws.{copy_is}
@@ -9,22 +10,22 @@ use Rattle.protocol.specs.Calls.{Sending, send, questions}
 use Rattle.protocol.proofs.QuestionLaws.{SendYes, send-yes}
 use Rattle.questions.proofs.QuestionLaws.{refused-is}
 use Rattle.sends.proofs.SendLaws.{sender-right, send-done}
-use Rattle.sends.proofs.send.Goals.{Else-no-ne0, Start}
+use Rattle.sends.proofs.send.Goals.{Else-no-ne0}
 use Rattle.sends.proofs.send.Goals as goal
 
 -- the arguments of the call
-abbrev sending : Start → Sending
-sending s = record { f = s.args.from; t = s.args.to; r = s.args.r; file = s.args.file }
+abbrev sending : (from to r file : ℕ) → Sending
+sending from to r file = record { f = from; t = to; r = r; file = file }
 
-passed : (c : Else-no-ne0) → first_no (questions c.args.t.now (send (sending c.before.before.before))) ≡ 0
+passed : (c : Else-no-ne0) → first_no (questions c.args.t.now (send (sending c.args.from c.args.to c.args.r c.args.file))) ≡ 0
 passed c = sym c.send_asked-no.ensures ∙ (let none : c.send_asked-no.result ≡ 0 = omega arith in none)
 
-yes : (c : Else-no-ne0) → SendYes c.args.t.now (sending c.before.before.before)
+yes : (c : Else-no-ne0) → SendYes c.args.t.now (sending c.args.from c.args.to c.args.r c.args.file)
 yes c = send-yes _ _ (passed c)
 
 pub returns-then-no-ne0 : goal.returns-then-no-ne0
 returns-then-no-ne0 c =
-        let no = refused-is c.args.t.now (send (sending (goal.at.returns-then-no-ne0 c).Start)) _ (sym c.send_asked-no.ensures) (omega arith) in
+    let no = refused-is c.args.t.now (send (sending c.args.from c.args.to c.args.r c.args.file)) _ (sym c.send_asked-no.ensures) (omega arith) in
     (c.result.ensures ∙ no.result, no.table)
 
 pub copy_of-requires : goal.copy_of-requires
@@ -38,5 +39,5 @@ refresh-requires c = let y = yes (goal.at.refresh-requires c).Else-no-ne0 in (si
 
 pub returns : goal.returns
 returns c =
-        let done = send-done c.args.t.now (sending (goal.at.returns c).Start) _ (passed (goal.at.returns c).Else-no-ne0) (c.version-version.ensures ∙ ap (get version) c.copy_of.ensures.0) in
+    let done = send-done c.args.t.now (sending c.args.from c.args.to c.args.r c.args.file) _ (passed (goal.at.returns c).Else-no-ne0) (c.version-version.ensures ∙ ap (get version) c.copy_of.ensures.0) in
     (c.result-2.ensures ∙ done.0, c.refresh.ensures ∙ done.1)
