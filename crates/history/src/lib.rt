@@ -1,3 +1,2 @@
 // Histories of calls: definitions and proofs only.
 #![tactic(auto)]
-

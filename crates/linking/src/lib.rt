@@ -1,3 +1,2 @@
 // A chain of links, and one put in: definitions and laws.
 #![tactic(auto)]
-

@@ -1,7 +1,6 @@
 // A round entered together: an order of it, and what a list of orders does, defined.
 #![tactic(auto)]
 
-
 // An order of a round: who coordinates, how many bytes, where they go and the bytes; of which file, and for which club.
 #[derive(Clone, Copy)]
 pub struct Order {

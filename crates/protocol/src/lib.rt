@@ -1,3 +1,2 @@
 // The protocol's definitions.
 #![tactic(auto)]
-

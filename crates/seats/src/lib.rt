@@ -1,3 +1,2 @@
 // The seats of a list on a well-formed table: claimed, and proved.
 #![tactic(auto)]
-

@@ -1,3 +1,2 @@
 // Fair use of imports, of calls and of whole histories.
 #![tactic(auto)]
-

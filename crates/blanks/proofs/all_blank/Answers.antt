@@ -20,7 +20,7 @@ loop-k-smaller c = omega (arith, c.loop-k-test.true)
 
 pub loop-k-preserved : goal.loop-k-preserved
 loop-k-preserved c =
-            let l = c.loop-k in
+    let l = c.loop-k in
     (l.invariant.0, l.invariant.1, omega (arith, c.loop-k-test.true), one_seen _ _ l.bits l.k l.invariant.3 c.joined-bits.result c.four.result (omega (arith, l.invariant.1, c.loop-k-test.true)) c.joined-bits.ensures c.four.ensures)
 
 pub returns : goal.returns

@@ -5,8 +5,8 @@ use Rattle.copying.proofs.copy.Goals as goal
 
 pub slice_bounds-copy_each-end : goal.slice_bounds-copy_each-end
 slice_bounds-copy_each-end c =
-        front_long _ _ c.args.from.now _ c.copy_each-2.ensures (sym c.requires)
+    front_long _ _ c.args.from.now _ c.copy_each-2.ensures (sym c.requires)
 
 pub returns : goal.returns
 returns c =
-                c.copy_each-3.ensures ∙ front-is _ _ c.args.from.now _ c.copy_each-2.ensures (sym c.requires)
+    c.copy_each-3.ensures ∙ front-is _ _ c.args.from.now _ c.copy_each-2.ensures (sym c.requires)

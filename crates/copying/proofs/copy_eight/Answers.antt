@@ -8,4 +8,4 @@ slice_bounds-copy_each-end c = front_long _ _ c.args.from.now _ c.copy_each.ensu
 
 pub returns : goal.returns
 returns c =
-                c.copy_each-2.ensures ∙ front-is _ _ c.args.from.now _ c.copy_each.ensures c.requires.1
+    c.copy_each-2.ensures ∙ front-is _ _ c.args.from.now _ c.copy_each.ensures c.requires.1

@@ -32,7 +32,7 @@ u8_at-requires c = omega (arith, given c)
 
 pub loop-i-preserved : goal.loop-i-preserved
 loop-i-preserved c =
-        let l = c.loop-i in
+    let l = c.loop-i in
     let places = c.args.counties.now in
     (omega (arith, c.loop-i-test.true), places-turn places l.i l.ok c.both-ok.result (given (goal.at.loop-i-preserved c).In-loop-i) l.invariant.1 (c.both-ok.ensures ∙ ap (λ (b : Bool). l.ok && b) (c.is_county.ensures ∙ ap is_county (c.u8_at.ensures ∙ number-one l.i places))))
 

@@ -34,7 +34,7 @@ half c = omega (arith, two-each c.args.t.now (asked c.before.before.before.befor
 -- question 12 by its answer
 sized : (c : After-sizes_right) → Twelve c.args.t.now (asked c.before.before.before.before.before.before.before) ≡ c.sizes_right.result
 sized c =
-        sym (c.sizes_right.ensures ∙ ap (λ (n : ℕ). between 1 c.args.capacity 64 && leb n c.args.capacity && between 1 c.args.file 4_096 && between 1 c.args.files 8 && eqb (length c.args.t.now) (16 + c.args.capacity * stride c.args.files c.args.file)) (half c.before))
+    sym (c.sizes_right.ensures ∙ ap (λ (n : ℕ). between 1 c.args.capacity 64 && leb n c.args.capacity && between 1 c.args.file 4_096 && between 1 c.args.files 8 && eqb (length c.args.t.now) (16 + c.args.capacity * stride c.args.files c.args.file)) (half c.before))
 
 twelve : (c : Else-not-sizes_right) → Twelve c.args.t.now (asked c.before.before.before.before.before.before.before.before) ≡ true
 twelve c = sized c.before ∙ c.if-not-sizes_right.false
@@ -50,17 +50,17 @@ twenty c = placed c.before ∙ c.if-not-counties_right.false
 
 pub returns-then-not-both : goal.returns-then-not-both
 returns-then-not-both c =
-        let no = refused-is c.args.t.now (founding (asked (goal.at.returns-then-not-both c).Start)) 11 (sym (found-answers c.args.t.now (asked (goal.at.returns-then-not-both c).Start) false _ _ (named (goal.at.returns-then-not-both c).After-both ∙ c.if-not-both.true) refl refl)) (omega arith) in
+    let no = refused-is c.args.t.now (founding (asked (goal.at.returns-then-not-both c).Start)) 11 (sym (found-answers c.args.t.now (asked (goal.at.returns-then-not-both c).Start) false _ _ (named (goal.at.returns-then-not-both c).After-both ∙ c.if-not-both.true) refl refl)) (omega arith) in
     (c.result.ensures ∙ no.result, no.table, refl, refl)
 
 pub returns-then-not-sizes_right : goal.returns-then-not-sizes_right
 returns-then-not-sizes_right c =
-        let no = refused-is c.args.t.now (founding (asked (goal.at.returns-then-not-sizes_right c).Start)) 12 (sym (found-answers c.args.t.now (asked (goal.at.returns-then-not-sizes_right c).Start) true false _ (eleven (goal.at.returns-then-not-sizes_right c).Else-not-both) (sized (goal.at.returns-then-not-sizes_right c).After-sizes_right ∙ c.if-not-sizes_right.true) refl)) (omega arith) in
+    let no = refused-is c.args.t.now (founding (asked (goal.at.returns-then-not-sizes_right c).Start)) 12 (sym (found-answers c.args.t.now (asked (goal.at.returns-then-not-sizes_right c).Start) true false _ (eleven (goal.at.returns-then-not-sizes_right c).Else-not-both) (sized (goal.at.returns-then-not-sizes_right c).After-sizes_right ∙ c.if-not-sizes_right.true) refl)) (omega arith) in
     (c.result-then-not-sizes_right.ensures ∙ no.result, no.table, refl, refl)
 
 pub returns-then-not-counties_right : goal.returns-then-not-counties_right
 returns-then-not-counties_right c =
-        let no = refused-is c.args.t.now (founding (asked (goal.at.returns-then-not-counties_right c).Start)) 20 (sym (found-answers c.args.t.now (asked (goal.at.returns-then-not-counties_right c).Start) true true false (eleven (goal.at.returns-then-not-counties_right c).Else-not-both) (twelve (goal.at.returns-then-not-counties_right c).Else-not-sizes_right) (placed (goal.at.returns-then-not-counties_right c).After-counties_right ∙ c.if-not-counties_right.true))) (omega arith) in
+    let no = refused-is c.args.t.now (founding (asked (goal.at.returns-then-not-counties_right c).Start)) 20 (sym (found-answers c.args.t.now (asked (goal.at.returns-then-not-counties_right c).Start) true true false (eleven (goal.at.returns-then-not-counties_right c).Else-not-both) (twelve (goal.at.returns-then-not-counties_right c).Else-not-sizes_right) (placed (goal.at.returns-then-not-counties_right c).After-counties_right ∙ c.if-not-counties_right.true))) (omega arith) in
     (c.result-then-not-counties_right.ensures ∙ no.result, no.table, refl, refl)
 
 pub lay_table-requires : goal.lay_table-requires
@@ -68,10 +68,10 @@ lay_table-requires c = found-fits c.args.t.now (asked (goal.at.lay_table-require
 
 pub overflow_cast-n : goal.overflow_cast-n
 overflow_cast-n c =
-        let f = found-fits c.args.t.now (asked (goal.at.overflow_cast-n c).Start) (eleven (goal.at.overflow_cast-n c).Else-not-both) (twelve (goal.at.overflow_cast-n c).Else-not-sizes_right) (twenty (goal.at.overflow_cast-n c).Else-not-counties_right) in
+    let f = found-fits c.args.t.now (asked (goal.at.overflow_cast-n c).Start) (eleven (goal.at.overflow_cast-n c).Else-not-both) (twelve (goal.at.overflow_cast-n c).Else-not-sizes_right) (twenty (goal.at.overflow_cast-n c).Else-not-counties_right) in
     record { fits = omega (arith, f.3, f.4, f.5) }
 
 pub returns : goal.returns
 returns c =
-        let yes = found-done c.args.t.now (asked (goal.at.returns c).Start) (eleven (goal.at.returns c).Else-not-both) (twelve (goal.at.returns c).Else-not-sizes_right) (twenty (goal.at.returns c).Else-not-counties_right) in
+    let yes = found-done c.args.t.now (asked (goal.at.returns c).Start) (eleven (goal.at.returns c).Else-not-both) (twelve (goal.at.returns c).Else-not-sizes_right) (twenty (goal.at.returns c).Else-not-counties_right) in
     (c.result-2.ensures ∙ ap (λ (n : ℕ). 0 * 2 ^ 32 + n) (half (goal.at.returns c).Else-not-both) ∙ yes.0, c.lay_table.ensures ∙ yes.1, refl, refl)

@@ -16,5 +16,5 @@ returns-then-mark-eq2 c =
 
 pub returns : goal.returns
 returns c =
-        let a = c.args in
+    let a = c.args in
     c.published-g.ensures ∙ by-published a.mark a.length (rw c.any.ensures at (sym c.both.ensures ∙ c.if-both.false)) (ne_eqb _ _ c.if-mark-eq2.false)

@@ -11,7 +11,7 @@ loop-i-init c = (omega arith, omega arith, omega arith, none_seen _ _)
 
 pub loop-i-preserved : goal.loop-i-preserved
 loop-i-preserved c =
-        let l = c.loop-i in
+    let l = c.loop-i in
     (l.invariant.0, l.invariant.1, omega arith, seen-turn _ _ l.bits l.i l.invariant.3 c.joined-bits.result c.joined.result (omega (arith, l.invariant.1)) (omega (arith, l.invariant.1)) c.joined-bits.ensures c.joined.ensures)
 
 pub returns : goal.returns

@@ -21,7 +21,7 @@ use Rattle.orders.proofs.chosen.Goals as goal
 inside : (c : Else-not-both) → let a = c.args in Within (used_of a.t.now) a.c × (a.c ≤ 16)
 unfolding between
 inside c =
-            let a = c.args in
+    let a = c.args in
     let n = c.used-used.result in
     let both : ((leb 1 a.c && leb a.c n) && leb a.c 16) ≡ true = ap (λ (x : Bool). x && leb a.c 16) (sym c.between.ensures) ∙ sym c.both.ensures ∙ c.if-not-both.false in
     let used : (leb 1 a.c && leb a.c n) ≡ true = and_l _ _ both in
@@ -46,14 +46,14 @@ bounds-choices-k c = omega (arith, inside (goal.at.bounds-choices-k c).Else-not-
 
 pub returns-then-kept-ne0 : goal.returns-then-kept-ne0
 returns-then-kept-ne0 c =
-        (c.requires.1.known _ (inside (goal.at.returns-then-kept-ne0 c).Else-not-both).0 (inside (goal.at.returns-then-kept-ne0 c).Else-not-both).1, c.requires.1)
+    (c.requires.1.known _ (inside (goal.at.returns-then-kept-ne0 c).Else-not-both).0 (inside (goal.at.returns-then-kept-ne0 c).Else-not-both).1, c.requires.1)
 
 pub row_of-row-requires : goal.row_of-row-requires
 row_of-row-requires c = (sized c.requires.0.formed, (inside (goal.at.row_of-row-requires c).Else-not-both).0)
 
 pub choice-made-requires : goal.choice-made-requires
 choice-made-requires c =
-        let f = c.requires.0 in (rw c.used-used.ensures f.ordered.listed, f.grouped.apart)
+    let f = c.requires.0 in (rw c.used-used.ensures f.ordered.listed, f.grouped.apart)
 
 pub offset_bounds-choices-k-2 : goal.offset_bounds-choices-k-2
 offset_bounds-choices-k-2 c = omega (arith, inside (goal.at.offset_bounds-choices-k-2 c).Else-not-both)
@@ -63,5 +63,5 @@ bounds-choices-k-2 c = omega (arith, inside (goal.at.bounds-choices-k-2 c).Else-
 
 pub returns : goal.returns
 returns c =
-                        let k : Known Write c.args.t.now c.args.c c.choice-made.result.bits = record { chosen = λ d. c.choice-made.ensures ∙ choice-of Write _ c.args.c _ _ c.requires.0 c.used-used.ensures c.row_of-row.ensures.0 c.list.ensures c.name.ensures } in
+    let k : Known Write c.args.t.now c.args.c c.choice-made.result.bits = record { chosen = λ d. c.choice-made.ensures ∙ choice-of Write _ c.args.c _ _ c.requires.0 c.used-used.ensures c.row_of-row.ensures.0 c.list.ensures c.name.ensures } in
     (k, kept_more _ _ c.args.c _ (inside (goal.at.returns c).Else-not-both).0.0 (inside (goal.at.returns c).Else-not-both).1 k c.requires.1)

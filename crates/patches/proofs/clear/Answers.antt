@@ -5,8 +5,8 @@ use Rattle.patches.proofs.clear.Goals as goal
 
 pub returns-then-oldest-eq0 : goal.returns-then-oldest-eq0
 returns-then-oldest-eq0 c =
-            empty-stays c.args.copy.now c.requires.0 c.requires.1 (sym c.oldest.ensures ∙ c.if-oldest-eq0.true)
+    empty-stays c.args.copy.now c.requires.0 c.requires.1 (sym c.oldest.ensures ∙ c.if-oldest-eq0.true)
 
 pub returns : goal.returns
 returns c =
-                cleared c.args.copy.now _ 0 c.requires.0 c.set_oldest.ensures refl _ c.fill.ensures
+    cleared c.args.copy.now _ 0 c.requires.0 c.set_oldest.ensures refl _ c.fill.ensures

@@ -13,4 +13,4 @@ overflow_add-before c = omega (arith, oldest-in c.requires.0 c.requires.1)
 pub returns : goal.returns
 unfolding window next record_of width
 returns c =
-                ends-ring c.requires.0 c.requires.1 _ (omega arith) (sym c.is_unused.ensures ∙ c.if-is_unused.false) (sym c.next_of.ensures ∙ omega (arith, c.if-next_of-ne0.false))
+    ends-ring c.requires.0 c.requires.1 _ (omega arith) (sym c.is_unused.ensures ∙ c.if-is_unused.false) (sym c.next_of.ensures ∙ omega (arith, c.if-next_of-ne0.false))

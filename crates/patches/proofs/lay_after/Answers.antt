@@ -38,7 +38,7 @@ slice_bounds-lay_where-end c = omega (arith, within (goal.at.slice_bounds-lay_wh
 pub lay_where-requires : goal.lay_where-requires
 unfolding window record_of width
 lay_where-requires c =
-            let v = within (goal.at.lay_where-requires c).In-loop-next in (
+    let v = within (goal.at.lay_where-requires c).In-loop-next in (
       part_length ((c.loop-next.next - 1) * 36) 36 c.args.records.now (omega (arith, v, c.requires.0)),
       ap (record_right _) (cut_record c.args.records.now c.loop-next.next v.0) ∙ to-right c.requires.0 c.requires.1 c.loop-next.invariant v.0,
     )
@@ -53,12 +53,12 @@ overflow_add-count c = omega (arith, c.loop-next.invariant.few)
 pub loop-next-smaller : goal.loop-next-smaller
 unfolding window
 loop-next-smaller c =
-            omega (arith, count_less c.requires.0 c.requires.1 c.loop-next.invariant (within (goal.at.loop-next-smaller c).In-loop-next).0)
+    omega (arith, count_less c.requires.0 c.requires.1 c.loop-next.invariant (within (goal.at.loop-next-smaller c).In-loop-next).0)
 
 pub loop-next-preserved : goal.loop-next-preserved
 unfolding window next record_of width
 loop-next-preserved c =
-                    let v = within (goal.at.loop-next-preserved c).In-loop-next in
+    let v = within (goal.at.loop-next-preserved c).In-loop-next in
     laying-more c.requires.0 c.requires.1 c.loop-next.invariant c.next_of-next.result _ v.0 c.next_of-next.ensures
     (c.lay_where.ensures ∙ ap (λ (r : List ℕ). cond (leb c.args.skip c.loop-next.count) (laid (patch_in r ∷ []) c.loop-next.contents) c.loop-next.contents) (cut_record c.args.records.now c.loop-next.next v.0))
     c.lay_where.auto.contents

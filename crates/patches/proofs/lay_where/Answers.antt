@@ -22,7 +22,7 @@ start_is : (c : After-u16_at-start) → c.u16_at-start.result ≡ get start c.ar
 unfolding get start
 start_is c = c.u16_at-start.ensures
 
-bounds : (c : After-u16_at-start) →     (get size c.args.r.now ≤ 32) × (get start c.args.r.now + get size c.args.r.now ≤ length c.args.contents.now)
+bounds : (c : After-u16_at-start) → (get size c.args.r.now ≤ 32) × (get start c.args.r.now + get size c.args.r.now ≤ length c.args.contents.now)
 bounds c = patch-bounds (length c.args.contents.now) c.args.r.now c.requires.1
 
 pub returns-then-not-wanted : goal.returns-then-not-wanted
@@ -37,7 +37,7 @@ slice_bounds-copy-end-2 c = omega (arith, size_is (goal.at.slice_bounds-copy-end
 pub returns : goal.returns
 unfolding laid patch_in
 returns c =
-                    let n : length (part 4 c.u8_at-size.result c.args.r.now) ≡ c.u8_at-size.result = length_part 4 c.u8_at-size.result c.args.r.now (omega (arith, size_is (goal.at.returns c).After-u8_at-size, (bounds (goal.at.returns c).After-u16_at-start).0, c.requires.0)) in
+    let n : length (part 4 c.u8_at-size.result c.args.r.now) ≡ c.u8_at-size.result = length_part 4 c.u8_at-size.result c.args.r.now (omega (arith, size_is (goal.at.returns c).After-u8_at-size, (bounds (goal.at.returns c).After-u16_at-start).0, c.requires.0)) in
     let w : c.args.wanted ≡ true = c.if-not-wanted.false in
     rw w (part-back c.u16_at-start.result c.u8_at-size.result c.args.contents.now _ (part 4 c.u8_at-size.result c.args.r.now)
     (c.copy.ensures ∙ part-is c.args.r.now 4 c.u8_at-size.result 4 c.u8_at-size.result refl refl) n

@@ -19,5 +19,5 @@ relink-requires c = part_length ((c.args.l - 1) * 36) 36 c.args.records.now (ome
 pub returns : goal.returns
 unfolding width
 returns c =
-                lent-record c.args.records.now _ c.args.l (store younger c.args.x) (omega (arith, c.if-l-eq0.false)) c.relink.ensures
+    lent-record c.args.records.now _ c.args.l (store younger c.args.x) (omega (arith, c.if-l-eq0.false)) c.relink.ensures
     (ap length c.relink.ensures ∙ relinked-long c.args.x _ (part_length ((c.args.l - 1) * 36) 36 c.args.records.now (omega (arith, c.if-l-eq0.false, c.requires.0, c.requires.1))))

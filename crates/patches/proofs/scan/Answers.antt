@@ -13,15 +13,14 @@ loop-count-init c = (omega arith, ends-none _)
 pub returns-then-is_unused : goal.returns-then-is_unused
 unfolding window record_of width
 returns-then-is_unused c =
-                ends_at c.requires.0 c.requires.1 c.loop-count.invariant.1 _ refl (omega (arith, c.loop-count-test.true)) (sym c.is_unused.ensures ∙ c.if-is_unused.true)
+    ends_at c.requires.0 c.requires.1 c.loop-count.invariant.1 _ refl (omega (arith, c.loop-count-test.true)) (sym c.is_unused.ensures ∙ c.if-is_unused.true)
 
 pub loop-count-preserved : goal.loop-count-preserved
 unfolding window next record_of width
-loop-count-preserved c =
-                (
-      omega (arith, c.loop-count-test.true),
-      ends_more c.requires.0 c.requires.1 c.loop-count.invariant.1 _ _ _ refl (omega (arith, c.loop-count-test.true)) (sym c.is_unused.ensures ∙ c.if-is_unused.false) c.next_of.ensures c.either-last.ensures,
-    )
+loop-count-preserved c = (
+  omega (arith, c.loop-count-test.true),
+  ends_more c.requires.0 c.requires.1 c.loop-count.invariant.1 _ _ _ refl (omega (arith, c.loop-count-test.true)) (sym c.is_unused.ensures ∙ c.if-is_unused.false) c.next_of.ensures c.either-last.ensures,
+)
 
 pub returns : goal.returns
 unfolding window

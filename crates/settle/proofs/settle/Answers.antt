@@ -50,7 +50,7 @@ choice-is : (c : After-name) → let a = c.args in
     list_choice a.kind (frame_by (take c.used-count.result a.order.now) a.sets.now) c.list-own.result c.name.result
     ≡ list_choice a.kind (frame_of a.t.now) (list_of a.t.now a.c) (name_of a.t.now a.c)
 choice-is c =
-            choice-of c.args.kind _ c.args.c _ _ c.requires.0 c.used-count.ensures c.row_of-row.ensures.0 c.list-own.ensures c.name.ensures
+    choice-of c.args.kind _ c.args.c _ _ c.requires.0 c.used-count.ensures c.row_of-row.ensures.0 c.list-own.ensures c.name.ensures
 
 chosen_is : (c : After-chosen_unless-chosen) → let a = c.args in
     has c.chosen_unless-chosen.result.bits ≡ list_choice a.kind (frame_of a.t.now) (list_of a.t.now a.c) (name_of a.t.now a.c)
@@ -61,7 +61,7 @@ chosen-said : (c : After-chosen_unless-chosen) → let a = c.args in
     has c.chosen_unless-chosen.result.bits ≡ list_choice a.kind (frame_of a.t.now) ((answers a.t.now a.q a.answering.bits).list a.c) (name_of a.t.now a.c)
 unfolding answers polled
 chosen-said c =
-        chosen_is c
+    chosen_is c
     ∙ ap (λ (b : Bool). list_choice c.args.kind (frame_of c.args.t.now) (cond b (list_of c.args.t.now c.args.c) no_list) (name_of c.args.t.now c.args.c)) (sym c.requires.3)
 
 -- P is tried first
@@ -75,7 +75,7 @@ tried c =
 -- its rows are used ones
 tried-used : (c : After-cut-tried) → c.cut-tried.result.bits < 2 ^ used_of c.args.t.now
 tried-used c =
-        within-lt (used_of c.args.t.now) c.cut-tried.result.bits (few-rows (sized c.requires.0.formed)) (omega arith)
+    within-lt (used_of c.args.t.now) c.cut-tried.result.bits (few-rows (sized c.requires.0.formed)) (omega arith)
     (λ i m. has_within _ c.args.answering.bits i c.requires.2 (try-in c.args.kind c.args.t.now c.args.q c.args.c c.args.answering.bits c.cut-tried.result.bits (tried c) i m))
 
 -- the whole table as a part of itself
@@ -90,7 +90,7 @@ alone-part c = rw (lent-all c.args.t.now) at c.judged-part.ensures
 part : (c : After-judged-part) → Judged (answers c.args.t.now c.args.q c.args.answering.bits) (has c.cut-tried.result.bits) c.judged-part.result
 part c =
     let a = c.args in
-        alone a.kind a.t.now a.q a.c a.answering.bits c.cut-tried.result.bits (tried c.before.before) _ (alone-part c)
+    alone a.kind a.t.now a.q a.c a.answering.bits c.cut-tried.result.bits (tried c.before.before) _ (alone-part c)
 
 -- question 6 of P, and both: is it current too?
 abbrev six : After-judged-part → Bool
@@ -103,7 +103,7 @@ yes c = c.judged-part.result.current && six c
 sure : (c : Then-both) → yes c.before.before.before.before.before.before.before ≡ true
 unfolding list_of list
 sure c =
-                        let t = c.args.t.now in
+    let t = c.args.t.now in
     let k = c.if-part.true in
     let both = sym c.both.ensures ∙ c.if-both.true in
     let whole : has c.cut-tried.result.bits ≡ has c.chosen_unless-chosen.result.bits = ap has (eqb-true _ _ (and_l _ _ both)) in
@@ -132,14 +132,14 @@ pub row_of-row-requires : goal.row_of-row-requires
 row_of-row-requires c = (sized c.requires.0.formed, own-used c)
 
 pub chosen_unless-chosen-requires : goal.chosen_unless-chosen-requires
-chosen_unless-chosen-requires c =     (listed (goal.at.chosen_unless-chosen-requires c).After-used-count, c.requires.0.grouped.apart, λ d. c.requires.4.chosen d ∙ sym (choice-is c))
+chosen_unless-chosen-requires c = (listed (goal.at.chosen_unless-chosen-requires c).After-used-count, c.requires.0.grouped.apart, λ d. c.requires.4.chosen d ∙ sym (choice-is c))
 
 pub judged-part-requires : goal.judged-part-requires
 judged-part-requires c = rw (lent-all c.args.t.now) (sized c.requires.0.formed, newest c.args.t.now c.requires.0.formed, c.requires.1, tried-used (goal.at.judged-part-requires c).After-cut-tried)
 
 pub returns-then-both : goal.returns-then-both
 returns-then-both c =
-                    let a = c.args in
+    let a = c.args in
     works-on-try a.kind a.t.now a.q a.c a.answering.bits c.cut-tried.result.bits (tried (goal.at.returns-then-both c).After-cut-tried) _ (frame_is (goal.at.returns-then-both c).After-used-count) _ (part (goal.at.returns-then-both c).After-judged-part) (yes (goal.at.returns-then-both c).After-judged-part) refl
     (sure (goal.at.returns-then-both c).Then-both) _ c.cut-tried.result _ refl (ap (count 64) (chosen-said (goal.at.returns-then-both c).After-chosen_unless-chosen)) c.on_try.ensures
 
@@ -148,7 +148,7 @@ quorum_held-requires c = (listed (goal.at.quorum_held-requires c).After-used-cou
 
 pub returns-then-quorum_held : goal.returns-then-quorum_held
 returns-then-quorum_held c =
-                    let a = c.args in
+    let a = c.args in
     works-on-try a.kind a.t.now a.q a.c a.answering.bits c.cut-tried.result.bits (tried (goal.at.returns-then-quorum_held c).After-cut-tried) _ (frame_is (goal.at.returns-then-quorum_held c).After-used-count) _ (part (goal.at.returns-then-quorum_held c).After-judged-part) (yes (goal.at.returns-then-quorum_held c).After-judged-part) refl
     (counted (goal.at.returns-then-quorum_held c).Then-quorum_held) _ c.cut-tried.result _ refl (ap (count 64) (chosen-said (goal.at.returns-then-quorum_held c).After-chosen_unless-chosen)) c.on_try-then-quorum_held.ensures
 
@@ -157,7 +157,7 @@ on_all-requires c = (listed (goal.at.on_all-requires c).After-used-count, c.requ
 
 pub returns-then-tried-answering : goal.returns-then-tried-answering
 returns-then-tried-answering c =
-                    let a = c.args in
+    let a = c.args in
     works-on-all a.kind a.t.now a.q a.c a.answering.bits c.cut-tried.result.bits (tried (goal.at.returns-then-tried-answering c).After-cut-tried) _ (frame_is (goal.at.returns-then-tried-answering c).After-used-count) _ (part (goal.at.returns-then-tried-answering c).After-judged-part) (yes (goal.at.returns-then-tried-answering c).After-judged-part) refl
     (failed (goal.at.returns-then-tried-answering c).Joined-part) _ a.answering _ _ refl c.used-count.ensures
     (subst (λ (x : ℕ). Judged (answers a.t.now a.q a.answering.bits) (has x) c.judged-part.result) c.if-tried-answering.true (part (goal.at.returns-then-tried-answering c).After-judged-part)) c.on_all.ensures
@@ -170,6 +170,6 @@ on_all-requires-2 c = (listed (goal.at.on_all-requires-2 c).After-used-count, c.
 
 pub returns : goal.returns
 returns c =
-                    let a = c.args in
+    let a = c.args in
     works-on-all a.kind a.t.now a.q a.c a.answering.bits c.cut-tried.result.bits (tried (goal.at.returns c).After-cut-tried) _ (frame_is (goal.at.returns c).After-used-count) _ (part (goal.at.returns c).After-judged-part) (yes (goal.at.returns c).After-judged-part) refl
     (failed (goal.at.returns c).Joined-part) _ a.answering _ _ refl c.used-count.ensures (rw (lent-all a.t.now) at c.judged.ensures) c.on_all-2.ensures

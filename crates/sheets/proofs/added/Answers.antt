@@ -11,7 +11,7 @@ loop-x-init c = (omega arith, none-added c.args.s.now)
 
 pub loop-x-preserved : goal.loop-x-preserved
 loop-x-preserved c =
-                        let l = c.loop-x in
+    let l = c.loop-x in
     (omega arith, one-added _ l.x l.right l.taken l.invariant.1 _ _ _ _ _ _ c.u32_at.ensures c.u32_at-in-loop-x.ensures c.u32_at-ceiling.ensures c.taken_by-most.ensures c.both.ensures c.both-right.ensures (omega arith))
 
 pub returns : goal.returns

@@ -20,8 +20,8 @@ store_at-requires c = let l = c.loop-x in omega (arith, l.invariant.1, c.require
 
 pub loop-x-preserved : goal.loop-x-preserved
 loop-x-preserved c =
-        let l = c.loop-x in
-        let w = c.store_at in (omega arith, w.auto.s ∙ l.invariant.1, w.ensures ∙ one-cleared c.args.s.now l.s l.x (l.invariant.1 ∙ c.requires) c.loop-x-test.true l.invariant.2)
+    let l = c.loop-x in
+    let w = c.store_at in (omega arith, w.auto.s ∙ l.invariant.1, w.ensures ∙ one-cleared c.args.s.now l.s l.x (l.invariant.1 ∙ c.requires) c.loop-x-test.true l.invariant.2)
 
 pub shape_of-s : goal.shape_of-s
 shape_of-s c = c.loop-x.invariant.1

@@ -7,12 +7,12 @@ use Rattle.sheets.proofs.left_after.Goals as goal
 
 pub returns-then-u32_at : goal.returns-then-u32_at
 returns-then-u32_at c =
-        let a = c.args in
+    let a = c.args in
     rw (lt-ltb (count_of a.s.now a.club) (assured_of a.s.now a.club) (omega (arith, c.if-u32_at.true, c.u32_at-2.ensures, c.u32_at.ensures, assured-of a.s.now a.club (omega arith), count-of a.s.now a.club (omega arith))))
     (omega arith)
 
 pub returns : goal.returns
 returns c =
-            let a = c.args in
+    let a = c.args in
     rw (le-ltb (count_of a.s.now a.club) (assured_of a.s.now a.club) (omega (arith, c.if-u32_at.false, c.u32_at-2.ensures, c.u32_at.ensures, assured-of a.s.now a.club (omega arith), count-of a.s.now a.club (omega arith))))
     c.left_of.ensures

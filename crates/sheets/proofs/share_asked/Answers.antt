@@ -14,19 +14,19 @@ returns-then-club-gt16 c = let a = c.args in by-no-club a.s.now a.club (inr c.if
 
 pub returns-then-u32_at-count : goal.returns-then-u32_at-count
 returns-then-u32_at-count c =
-                let a = c.args in
+    let a = c.args in
     by-ceiling a.s.now a.club (omega arith) (omega (arith, c.if-u32_at-count.true, c.u32_at.ensures, c.u32_at-count.ensures, ceiling-of a.s.now a.club (omega arith), count-of a.s.now a.club (omega arith)))
 
 pub returns-then-count-u32_at : goal.returns-then-count-u32_at
 returns-then-count-u32_at c =
-                let a = c.args in
+    let a = c.args in
     by-assured a.s.now a.club (omega arith)
     (omega (arith, c.if-u32_at-count.false, c.u32_at.ensures, c.u32_at-count.ensures, ceiling-of a.s.now a.club (omega arith), count-of a.s.now a.club (omega arith)))
     (omega (arith, c.if-count-u32_at.true, c.u32_at-2.ensures, c.u32_at-count.ensures, assured-of a.s.now a.club (omega arith), count-of a.s.now a.club (omega arith)))
 
 pub returns-then-left-gt0 : goal.returns-then-left-gt0
 returns-then-left-gt0 c =
-                        let a = c.args in
+    let a = c.args in
     by_left a.s.now a.club (omega arith) a.left c.requires.1
     (omega (arith, c.if-u32_at-count.false, c.u32_at.ensures, c.u32_at-count.ensures, ceiling-of a.s.now a.club (omega arith), count-of a.s.now a.club (omega arith)))
     (omega (arith, c.if-count-u32_at.false, c.u32_at-2.ensures, c.u32_at-count.ensures, assured-of a.s.now a.club (omega arith), count-of a.s.now a.club (omega arith)))
@@ -34,7 +34,7 @@ returns-then-left-gt0 c =
 
 pub returns-else-left-gt0 : goal.returns-else-left-gt0
 returns-else-left-gt0 c =
-                        let a = c.args in
+    let a = c.args in
     by-spent a.s.now a.club (omega arith) a.left c.requires.1
     (omega (arith, c.if-u32_at-count.false, c.u32_at.ensures, c.u32_at-count.ensures, ceiling-of a.s.now a.club (omega arith), count-of a.s.now a.club (omega arith)))
     (omega (arith, c.if-count-u32_at.false, c.u32_at-2.ensures, c.u32_at-count.ensures, assured-of a.s.now a.club (omega arith), count-of a.s.now a.club (omega arith)))

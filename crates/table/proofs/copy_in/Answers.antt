@@ -24,6 +24,6 @@ slice_bounds-result-end c = inside c
 
 pub returns : goal.returns
 returns c =
-        let a = c.args in
+    let a = c.args in
     let r = inside (goal.at.returns c).Start in
     (copy-lent a.row.now a.size a.q c.requires.0 r, copy-long a.row.now a.size a.q c.requires.0 r)

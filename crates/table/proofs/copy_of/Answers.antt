@@ -22,7 +22,7 @@ copy_size-requires c = omega (arith, c.file_length.ensures, (header c.requires.0
 
 pub copy_in-requires : goal.copy_in-requires
 copy_in-requires c =
-            let t = c.args.t.now in
+    let t = c.args.t.now in
     let w = copy_length (file_length_of t) in
     let l : length (row_bytes t c.args.i) ≡ 32 + files_of t * w = length-row c.requires.0 c.args.i c.requires.2 ∙ row-newest t c.requires.1 ∙ stride-is (files_of t) (file_length_of t) in
     let m : c.args.q * w ≤ files_of t * w = mul-le-mul_right w c.requires.3.1 in
@@ -31,4 +31,4 @@ copy_in-requires c =
 pub returns : goal.returns
 unfolding copy_bytes copy_in
 returns c =
-        rw (size_is (goal.at.returns c).After-copy_size, c.row_of.ensures.0) at c.copy_in.ensures
+    rw (size_is (goal.at.returns c).After-copy_size, c.row_of.ensures.0) at c.copy_in.ensures

@@ -13,11 +13,11 @@ use Rattle.turns.proofs.next.Goals as goal
 
 pub slice_bounds-step-end : goal.slice_bounds-step-end
 slice_bounds-step-end c =
-        let e : length (map (λ (v : ℕ). v) c.args.o.bytes) ≡ 8 = c.UNKNOWN-well-formed.1.1.1.0.1.1.1.1.1.0.1.0.1 in omega (arith, e, length-map c.args.o.bytes (λ (v : ℕ). v), c.bytes_in-n.ensures.1)
+    let e : length (map (λ (v : ℕ). v) c.args.o.bytes) ≡ 8 = c.UNKNOWN-well-formed.1.1.1.0.1.1.1.1.1.0.1.0.1 in omega (arith, e, length-map c.args.o.bytes (λ (v : ℕ). v), c.bytes_in-n.ensures.1)
 
 pub returns : goal.returns
 unfolding turn patch_of
 returns c =
-                let a = c.args in
+    let a = c.args in
     let e = patch-is a.o.length c.bytes_in-n.result a.o.bytes c.bytes_in-n.ensures.0 in
     (c.step-turn.ensures.0 ∙ ap (stepped (run a.s.result a.t.now a.sheet.now)) (order-writes a.r a.sheet.now a.o _ (ap (λ (n : ℕ). take n a.o.bytes) (sub-zero c.bytes_in-n.result) ∙ e)), c.step-turn.ensures.1)

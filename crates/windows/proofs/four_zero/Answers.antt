@@ -32,7 +32,7 @@ over-requires-in-loop-n-3 c = (c.requires.0, omega (arith, c.requires.1), c.requ
 
 pub loop-n-preserved : goal.loop-n-preserved
 loop-n-preserved c =
-                            let l = c.loop-n in (
+    let l = c.loop-n in (
       omega (arith, c.loop-n-test.true),
       quiet-turn _ l.bits l.n c.joined-bits.result c.joined-low.result c.joined-high.result c.joined.result l.invariant.1
           (c.joined-low.ensures ∙ ap₂ both c.over.ensures c.over-in-loop-n.ensures) (c.joined-high.ensures ∙ ap₂ both c.over-in-loop-n-2.ensures c.over-in-loop-n-3.ensures) c.joined.ensures c.joined-bits.ensures,

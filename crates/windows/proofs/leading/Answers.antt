@@ -35,7 +35,7 @@ one_more-breaks-requires c =
 
 pub loop-k-preserved : goal.loop-k-preserved
 loop-k-preserved c =
-            let l = c.loop-k in
+    let l = c.loop-k in
     (omega (arith, c.loop-k-test.true), every_more _ l.k l.invariant.1 (sym c.head_right.ensures ∙ c.if-not-head_right.false), breaks-more _ l.k l.breaks _ _ l.invariant.2 c.next_of.ensures c.one_more-breaks.ensures)
 
 pub returns : goal.returns

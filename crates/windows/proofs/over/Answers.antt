@@ -8,4 +8,4 @@ use Rattle.windows.proofs.over.Goals as goal
 pub returns : goal.returns
 unfolding over
 returns c =
-        c.smaller.ensures ∙ ap (min _) (far _ c.args.n _ c.requires.0 c.requires.3 c.requires.4)
+    c.smaller.ensures ∙ ap (min _) (far _ c.args.n _ c.requires.0 c.requires.3 c.requires.4)

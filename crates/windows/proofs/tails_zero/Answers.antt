@@ -18,9 +18,9 @@ use Rattle.windows.proofs.tails_zero.Goals as goal
 room : (c : In-loop-i) → c.loop-i.i * 36 + 144 ≤ length c.args.records.now
 room c = omega (arith, c.loop-i.invariant.0, c.loop-i-test.true, c.requires.1, c.requires.2)
 
-turn : (c : After-four_zero) →     every (c.loop-i.i + 4) (λ x. tail_zero (block 0 36 x c.args.records.now)) ≡ c.four_zero.result
+turn : (c : After-four_zero) → every (c.loop-i.i + 4) (λ x. tail_zero (block 0 36 x c.args.records.now)) ≡ c.four_zero.result
 turn c =
-        let l = c.loop-i in
+    let l = c.loop-i in
     let records = c.args.records.now in
     tails-turn records l.i c.four_zero.result l.invariant.2 (c.four_zero.ensures ∙ ap (λ (r : List ℕ). every 4 (λ x. tail_zero (block 0 36 x r))) (part-is records (l.i * 36) 144 (l.i * 36) 144 refl refl))
 
@@ -39,24 +39,24 @@ slice_bounds-four_zero-end c = omega (arith, room c)
 
 pub four_zero-requires : goal.four_zero-requires
 four_zero-requires c =
-            let records = c.args.records.now in
+    let records = c.args.records.now in
     let at = c.loop-i.i in
     let four : at + 4 ≤ 16 = omega (arith, c.loop-i.invariant.0, c.loop-i-test.true, c.requires.2) in
     (c.requires.0, part_length (at * 36) 144 records (room (goal.at.four_zero-requires c).In-loop-i), subst (Short 4) (sym (part-is records (at * 36) 144 (at * 36) 144 refl refl)) (short-part records at c.requires.4 four))
 
 pub returns-then-not-four_zero : goal.returns-then-not-four_zero
 returns-then-not-four_zero c =
-            tails-wrong c.args.records.now c.args.k (c.loop-i.i + 4) c.requires.3 c.requires.2 (omega (arith, c.loop-i.invariant.0, c.loop-i-test.true, c.requires.1, c.requires.2)) (turn (goal.at.returns-then-not-four_zero c).After-four_zero ∙ c.if-not-four_zero.true)
+    tails-wrong c.args.records.now c.args.k (c.loop-i.i + 4) c.requires.3 c.requires.2 (omega (arith, c.loop-i.invariant.0, c.loop-i-test.true, c.requires.1, c.requires.2)) (turn (goal.at.returns-then-not-four_zero c).After-four_zero ∙ c.if-not-four_zero.true)
 
 pub loop-i-smaller : goal.loop-i-smaller
 loop-i-smaller c = omega (arith, c.loop-i-test.true, room (goal.at.loop-i-smaller c).In-loop-i)
 
 pub loop-i-preserved : goal.loop-i-preserved
 loop-i-preserved c =
-        let l = c.loop-i in
+    let l = c.loop-i in
     (omega (arith, l.invariant.0), omega (arith, l.invariant.0, c.loop-i-test.true, c.requires.1, c.requires.2), turn (goal.at.loop-i-preserved c).After-four_zero ∙ c.if-not-four_zero.false)
 
 pub returns : goal.returns
 returns c =
     let l = c.loop-i in
-        sym l.invariant.2 ∙ tails-more c.args.records.now c.args.k l.i c.requires.3 (omega (arith, c.loop-i-test.false))
+    sym l.invariant.2 ∙ tails-more c.args.records.now c.args.k l.i c.requires.3 (omega (arith, c.loop-i-test.false))

@@ -19,11 +19,11 @@ counted-requires c = omega (arith, c.loop-count-test.true)
 
 pub returns-then-next-eq0 : goal.returns-then-next-eq0
 returns-then-next-eq0 c =
-            c.counted.ensures ∙ at-end c.loop-count.invariant c.if-next-eq0.true (omega (arith, c.loop-count-test.true))
+    c.counted.ensures ∙ at-end c.loop-count.invariant c.if-next-eq0.true (omega (arith, c.loop-count-test.true))
 
 pub returns-then-next-gt-PLACES : goal.returns-then-next-gt-PLACES
 returns-then-next-gt-PLACES c =
-        at_none c.loop-count.invariant (omega (arith, c.if-next-gt-PLACES.true)) (omega (arith, c.loop-count-test.true))
+    at_none c.loop-count.invariant (omega (arith, c.if-next-gt-PLACES.true)) (omega (arith, c.loop-count-test.true))
 
 pub overflow_sub-next : goal.overflow_sub-next
 overflow_sub-next c = omega (arith, c.if-next-eq0.false)
@@ -37,7 +37,7 @@ overflow_add-count c = omega (arith, c.loop-count-test.true)
 pub loop-count-preserved : goal.loop-count-preserved
 unfolding next record_of width window
 loop-count-preserved c =
-                let v : Within 16 c.loop-count.next = omega (arith, c.if-next-eq0.false, c.if-next-gt-PLACES.false) in
+    let v : Within 16 c.loop-count.next = omega (arith, c.if-next-eq0.false, c.if-next-gt-PLACES.false) in
     let place : (c.loop-count.next - 1) % 64 ≡ c.loop-count.next - 1 = mod-eq_of_lt (omega (arith, v)) in
     let row : (c.loop-count.next - 1) % 64 + 1 ≡ c.loop-count.next = omega (arith, place, v.0) in
     passed-more c.loop-count.invariant (has c.add-seen.result.bits) c.next_of-next.result (omega (arith, c.loop-count-test.true)) v
