@@ -1,3 +1,2 @@
 // The wall chart of quorums: definitions and laws.
 #![tactic(auto)]
-

@@ -1,3 +1,2 @@
 // Whom to call, as a definition.
 #![tactic(auto)]
-

@@ -1,3 +1,2 @@
 // Notices of refused calls in plain words: definitions and laws.
 #![tactic(auto)]
-

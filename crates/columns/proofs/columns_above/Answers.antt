@@ -11,7 +11,7 @@ use Rattle.columns.proofs.columns_above.Goals as goal
 
 pub loop-at-init : goal.loop-at-init
 loop-at-init c =
-        let f = c.requires.0 in
+    let f = c.requires.0 in
     let n = c.args.g.cols in (
       f.some-column,
       omega (arith, f.narrow),

@@ -15,7 +15,7 @@ use Rattle.columns.proofs.is_smallest.Goals as goal
 said : (c : After-with_first-c) → let a = c.args in let r = c.with_first-c.result in
     asked a.g.cols (has r.touched.bits) (has r.twice.bits) (has r.whole.bits) ≡ smallest a.g a.length (has a.set.bits)
 said c =
-        by-columns c.args.g c.args.length (has c.args.set.bits) c.requires.0.some-column (omega (arith, c.requires.0.narrow)) _ _ _ c.with_first-c.ensures
+    by-columns c.args.g c.args.length (has c.args.set.bits) c.requires.0.some-column (omega (arith, c.requires.0.narrow)) _ _ _ c.with_first-c.ensures
 
 -- every column is touched; one is whole; one has two members
 all : (c : Else-not-fills) → every c.args.g.cols (has c.with_first-c.result.touched.bits) ≡ true
@@ -36,16 +36,16 @@ returns-then-not-fills c =
 
 pub returns-then-is_empty : goal.returns-then-is_empty
 returns-then-is_empty c =
-        let e : some 64 _ ≡ false = not-true _ (sym c.is_empty.ensures ∙ c.if-is_empty.true) in
+    let e : some 64 _ ≡ false = not-true _ (sym c.is_empty.ensures ∙ c.if-is_empty.true) in
     rw (all (goal.at.returns-then-is_empty c).Else-not-fills, e) at (said (goal.at.returns-then-is_empty c).After-with_first-c)
 
 pub returns-then-is_empty-2 : goal.returns-then-is_empty-2
 returns-then-is_empty-2 c =
-        let e : some 64 _ ≡ false = not-true _ (sym c.is_empty-2.ensures ∙ c.if-is_empty-2.true) in
+    let e : some 64 _ ≡ false = not-true _ (sym c.is_empty-2.ensures ∙ c.if-is_empty-2.true) in
     rw (all (goal.at.returns-then-is_empty-2 c).Else-not-fills, one (goal.at.returns-then-is_empty-2 c).Else-is_empty, e) at (said (goal.at.returns-then-is_empty-2 c).After-with_first-c)
 
 pub returns : goal.returns
 returns c =
-            c.is_empty-3.ensures
+    c.is_empty-3.ensures
     ∙ ap (λ (s : ℕ → Bool). not (some 64 s)) (c.rest.ensures.0 ∙ ap (λ (s : ℕ → Bool). losing s (lowest 64 s)) c.joined.ensures)
     ∙ (rw (all (goal.at.returns c).Else-not-fills, one (goal.at.returns c).Else-is_empty, two (goal.at.returns c).Else-is_empty-2) at (said (goal.at.returns c).After-with_first-c))

@@ -6,7 +6,7 @@ use Rattle.columns.proofs.with_first.Goals as goal
 
 pub returns : goal.returns
 returns c =
-                let a = c.args in
+    let a = c.args in
     rw (
       c.outside-2.ensures,
       c.outside.ensures,
