@@ -1,10 +1,9 @@
 use mathlib.Core.Bool.{Bool, true, false, not, cond, ◌&&◌, and-false}
-use mathlib.Core.Path.{◌≡◌, refl, sym, ◌∙◌, ap, ap₂, subst}
+use mathlib.Core.Path.{◌≡◌, refl, sym, ◌∙◌, ap, subst}
 use mathlib.Core.List.{List}
 use Prim.Native.Nat.{ℕ, ◌-◌, ◌^◌, ◌<◌}
 use native.Mathlib.Omega.{arith}
 use lib.Dec.{eqb}
-use borrow.Author.Rules.{rules}
 use borrow.Author.Tests.{eqb-true}
 use lib.ListN.{length, take}
 use lib.Seq.{take_all}
@@ -20,8 +19,7 @@ use Rattle.table.proofs.WellFormedLaws.{newest, sized, long, few-rows}
 use Rattle.table.proofs.FormLaws.{formed}
 use Rattle.table.specs.Asked.{Listed}
 use Rattle.table.specs.Chain.{frame_of}
-use Rattle.fields.specs.declared.Laid.{Laid}
-use Rattle.fields.specs.Layout.{get, name, list, no_list, is_empty, used_of, name_of, list_of}
+use Rattle.fields.specs.Layout.{list, no_list, is_empty, used_of, name_of, list_of}
 use Rattle.bools.proofs.BoolLaws.{and_l, and_r, and_i}
 use Rattle.sets.proofs.SetLaws.{has_within, within-lt}
 use Rattle.sets.specs.Sets.{has, cut_to}

@@ -1,8 +1,7 @@
-use Rattle.surveys.proofs.SurveyLaws.{Seen, seen_none, seen_more, seen_all}
+use Rattle.surveys.proofs.SurveyLaws.{seen_none, seen_more, seen_all}
 use Rattle.table.proofs.WellFormedLaws.{header, long}
-use borrow.Author.Rules.{rules}
 use native.Mathlib.Omega.{arith}
-use Prim.Native.Nat.{◌-◌, ◌≤◌, ◌<◌}
+use Prim.Native.Nat.{◌<◌}
 use mathlib.Core.Path.{refl}
 use Rattle.surveys.proofs.look_through.Goals.{In-loop-k}
 use Rattle.surveys.proofs.look_through.Goals as goal
@@ -10,14 +9,14 @@ use Rattle.surveys.proofs.look_through.Goals as goal
 -- there are eight files at most
 eight : (c : In-loop-k) → c.loop-k.k < 8
 eight c =
-        omega (arith, c.loop-k-test.true, c.files-files.ensures, (header c.requires.0.header).files)
+    omega (arith, c.loop-k-test.true, c.files-files.ensures, (header c.requires.0.header).files)
 
 pub files-files-requires : goal.files-files-requires
 files-files-requires c = long c.requires.0
 
 pub loop-k-init : goal.loop-k-init
 loop-k-init c =
-        (omega (arith, c.files-files.ensures, (header c.requires.0.header).files), seen_more _ _ 0 _ _ _ (seen_none c.args.t.now c.args.s.bits) (omega arith) c.args.first c.requires.3 _ refl)
+    (omega (arith, c.files-files.ensures, (header c.requires.0.header).files), seen_more _ _ 0 _ _ _ (seen_none c.args.t.now c.args.s.bits) (omega arith) c.args.first c.requires.3 _ refl)
 
 pub overflow_add-k : goal.overflow_add-k
 overflow_add-k c = omega (arith, eight c)
@@ -45,7 +44,7 @@ loop-k-smaller c = omega (arith, c.loop-k-test.true)
 
 pub loop-k-preserved : goal.loop-k-preserved
 loop-k-preserved c =
-        let l = c.loop-k in
+    let l = c.loop-k in
     (omega (arith, c.loop-k-test.true), seen_more _ _ l.k l.goods l.versions l.all l.invariant.1 (eight (goal.at.loop-k-preserved c).In-loop-k) _ c.tallied-found.ensures _ c.both-all.ensures)
 
 pub returns : goal.returns
