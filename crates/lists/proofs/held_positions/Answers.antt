@@ -1,7 +1,6 @@
 use mathlib.Core.Path.{sym, ap, ◌∙◌}
 use mathlib.Core.List.{List}
 use Prim.Native.Nat.{ℕ}
-use borrow.Author.Rules.{rules}
 use Rattle.lists.proofs.StraightLaws.{listed-straight}
 use Rattle.counties.specs.Levels.{seats, at_seat}
 use Rattle.sets.specs.Sets.{has}

@@ -4,11 +4,10 @@ use mathlib.Core.List.{List, [], ◌∷◌}
 use Prim.Native.Nat.{ℕ, ◌+◌, ◌-◌, ◌%◌, ◌<◌}
 use native.Mathlib.Nat.{mod-eq_of_lt}
 use native.Mathlib.Omega.{arith}
-use borrow.Author.Rules.{rules}
-use borrow.Author.Tests.{not-true, not-false}
+use borrow.Author.Tests.{not-false}
 use lib.ListN.{length, length-append}
 use Rattle.lists.proofs.SeatLaws.{row-place, held_more, none-held}
-use Rattle.lists.proofs.StraightLaws.{Ahead, all-ahead, all-passed, at-hand, above, seats-next, seats-few, seats-cut, all_held, fewer-ahead, one-passed}
+use Rattle.lists.proofs.StraightLaws.{all-ahead, all-passed, at-hand, above, seats-next, seats-few, seats-cut, all_held, fewer-ahead, one-passed}
 use Rattle.counties.specs.Levels.{seats, at_seat}
 use Rattle.sets.proofs.SetLaws.{has-empty}
 use Rattle.sets.specs.Sets.{has, gaining, cut_to}

@@ -1,16 +1,8 @@
-use mathlib.Core.Bool.{Bool, ◌&&◌, and-true, and-false}
-use mathlib.Core.Path.{◌≡◌, sym, ap, ◌∙◌, fun_ext}
-use Prim.Native.Nat.{ℕ, ◌-◌, ◌≤◌}
-use native.Mathlib.Omega.{arith}
-use borrow.Author.Rules.{rules}
-use borrow.Author.Tests.{le-leb}
-use lib.Dec.{leb}
-use lib.ListN.{length, get_or, take}
-use Rattle.lists.proofs.SeatLaws.{row-place, stands_at, none-stands}
+use mathlib.Core.Path.{◌≡◌}
+use Prim.Native.Nat.{◌-◌, ◌≤◌}
+use lib.ListN.{length, take}
 use Rattle.counties.specs.Levels.{seats}
-use Rattle.sets.proofs.SetLaws.{has-empty}
-use Rattle.sets.specs.Sets.{has, no_row}
-use Rattle.sets.specs.Upto.{keep}
+use Rattle.sets.specs.Sets.{has}
 use Rattle.lists.proofs.lone.Given as goal
 
 -- no member stands among the first j

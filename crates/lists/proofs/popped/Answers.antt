@@ -1,4 +1,3 @@
-use borrow.Author.Rules.{rules}
 use Rattle.lists.proofs.popped.Goals as goal
 
 pub returns-then-counts : goal.returns-then-counts

@@ -1,16 +1,14 @@
 use mathlib.Core.Bool.{cond, ◌&&◌}
 use mathlib.Core.Path.{◌≡◌, sym, ap, ◌∙◌}
-use Prim.Native.Nat.{ℕ, ◌+◌, ◌-◌, ◌/◌, ◌%◌, ◌^◌, ◌≤◌, ◌<◌}
+use Prim.Native.Nat.{ℕ, ◌+◌, ◌%◌, ◌<◌}
 use native.Mathlib.Nat.{div-one}
 use native.Mathlib.Omega.{arith}
-use borrow.Author.Rules.{rules}
-use lib.ListN.{length, get_or, take}
-use lib.Dec.{eqb}
+use lib.ListN.{get_or}
 use Rattle.lists.proofs.SeatLaws.{row-place, left-next, seated-next, none-seated}
-use Rattle.counties.specs.Levels.{seats, at_seat}
+use Rattle.counties.specs.Levels.{seats}
 use Rattle.sets.proofs.SetLaws.{has-empty}
 use Rattle.sets.specs.Sets.{has, gaining}
-use Rattle.sets.specs.Upto.{some, keep}
+use Rattle.sets.specs.Upto.{keep}
 use Rattle.lists.proofs.seated.Goals.{After-place_at-place}
 use Rattle.lists.proofs.seated.Goals as goal
 

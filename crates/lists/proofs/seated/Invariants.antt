@@ -1,16 +1,11 @@
-use mathlib.Core.Bool.{cond, ◌&&◌}
-use mathlib.Core.Path.{◌≡◌, sym, ap, ◌∙◌}
-use Prim.Native.Nat.{ℕ, ◌+◌, ◌-◌, ◌/◌, ◌%◌, ◌^◌, ◌≤◌, ◌<◌}
-use native.Mathlib.Nat.{div-one}
-use native.Mathlib.Omega.{arith}
-use borrow.Author.Rules.{rules}
-use lib.ListN.{length, get_or, take}
+use mathlib.Core.Bool.{◌&&◌}
+use mathlib.Core.Path.{◌≡◌}
+use Prim.Native.Nat.{ℕ, ◌-◌, ◌/◌, ◌^◌, ◌≤◌}
+use lib.ListN.{length, take}
 use lib.Dec.{eqb}
-use Rattle.lists.proofs.SeatLaws.{row-place, left-next, seated-next, none-seated}
 use Rattle.counties.specs.Levels.{seats, at_seat}
-use Rattle.sets.proofs.SetLaws.{has-empty}
-use Rattle.sets.specs.Sets.{has, gaining}
-use Rattle.sets.specs.Upto.{some, keep}
+use Rattle.sets.specs.Sets.{has}
+use Rattle.sets.specs.Upto.{some}
 use Rattle.lists.proofs.seated.Given as goal
 
 abbrev pub invariant-loop-j : goal.invariant-loop-j

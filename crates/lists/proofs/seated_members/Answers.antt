@@ -2,7 +2,6 @@ use mathlib.Core.Bool.{Bool, ◌&&◌}
 use mathlib.Core.Path.{sym, ap, ◌∙◌}
 use mathlib.Core.List.{List}
 use Prim.Native.Nat.{ℕ}
-use borrow.Author.Rules.{rules}
 use lib.Dec.{eqb}
 use Rattle.lists.proofs.StraightLaws.{listed-straight}
 use Rattle.counties.specs.Levels.{seats, at_seat}

@@ -1,19 +1,12 @@
-use mathlib.Core.Bool.{Bool, cond, ◌&&◌, true}
-use mathlib.Core.Path.{◌≡◌, sym, ap, ◌∙◌}
-use mathlib.Core.List.{List}
-use Prim.Native.Nat.{ℕ, ◌+◌, ◌-◌, ◌/◌, ◌%◌, ◌^◌, ◌<◌}
-use native.Mathlib.Nat.{div-one}
-use native.Mathlib.Omega.{arith}
-use borrow.Author.Rules.{rules}
-use borrow.Author.Tests.{not-true, not-false}
+use mathlib.Core.Bool.{◌&&◌}
+use mathlib.Core.Path.{◌≡◌}
+use Prim.Native.Nat.{ℕ, ◌/◌, ◌^◌}
 use lib.Dec.{eqb}
 use lib.ListN.{length}
-use Rattle.lists.proofs.SeatLaws.{row-place, left-more, seated-more, none-seated}
-use Rattle.lists.proofs.StraightLaws.{Ahead, all-ahead, all-passed, at-hand, above, seats-next, seats-few, seats-cut, fewer-ahead, one-passed}
+use Rattle.lists.proofs.StraightLaws.{Ahead}
 use Rattle.counties.specs.Levels.{seats, at_seat}
-use Rattle.sets.proofs.SetLaws.{has-empty}
-use Rattle.sets.specs.Sets.{has, gaining, cut_to}
-use Rattle.sets.specs.Upto.{Within, some, upward, keep}
+use Rattle.sets.specs.Sets.{has}
+use Rattle.sets.specs.Upto.{some, upward}
 use Rattle.lists.proofs.seated_straight.Given as goal
 
 abbrev pub invariant-loop-ahead : goal.invariant-loop-ahead

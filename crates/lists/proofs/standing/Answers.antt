@@ -3,15 +3,14 @@ use mathlib.Core.Path.{◌≡◌, sym, ap, ◌∙◌, fun_ext}
 use Prim.Native.Nat.{ℕ, ◌+◌, ◌-◌, ◌<◌}
 use native.Mathlib.Nat.{mod-eq_of_lt}
 use native.Mathlib.Omega.{arith}
-use borrow.Author.Rules.{rules}
-use borrow.Author.Tests.{not-true, not-false}
+use borrow.Author.Tests.{not-false}
 use lib.Dec.{eqb}
 use lib.ListN.{get_or, take}
 use Rattle.lists.proofs.SeatLaws.{none-standing, standing-next, standing-all}
 use Rattle.counties.specs.Levels.{at_seat}
 use Rattle.bools.proofs.BoolLaws.{and_r}
 use Rattle.sets.proofs.SetLaws.{has-empty, first-within}
-use Rattle.sets.proofs.MemberLaws.{only, Taken, none-taken, all-taken, in-set, fewer-left, one-taken}
+use Rattle.sets.proofs.MemberLaws.{only, none-taken, all-taken, in-set, fewer-left, one-taken}
 use Rattle.sets.specs.Sets.{has, no_row, gaining, joining, cut_to}
 use Rattle.sets.specs.Upto.{Within, some}
 use Rattle.lists.proofs.standing.Goals.{After-lowest}

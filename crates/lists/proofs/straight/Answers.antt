@@ -1,8 +1,6 @@
 use mathlib.Core.Path.{◌≡◌}
-use Prim.Native.Nat.{◌-◌, ◌≤◌}
 use native.Mathlib.Omega.{arith}
-use borrow.Author.Rules.{rules}
-use Rattle.lists.proofs.StraightLaws.{Right, none_right, one_right}
+use Rattle.lists.proofs.StraightLaws.{none_right, one_right}
 use Rattle.lists.proofs.straight.Goals as goal
 
 pub loop-k-init : goal.loop-k-init

@@ -1,8 +1,5 @@
-use mathlib.Core.Path.{◌≡◌}
 use Prim.Native.Nat.{◌-◌, ◌≤◌}
-use native.Mathlib.Omega.{arith}
-use borrow.Author.Rules.{rules}
-use Rattle.lists.proofs.StraightLaws.{Right, none_right, one_right}
+use Rattle.lists.proofs.StraightLaws.{Right}
 use Rattle.lists.proofs.straight.Given as goal
 
 abbrev pub invariant-loop-k : goal.invariant-loop-k

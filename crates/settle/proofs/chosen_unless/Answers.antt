@@ -1,4 +1,3 @@
-use borrow.Author.Rules.{rules}
 use Rattle.settle.proofs.chosen_unless.Goals as goal
 
 pub returns : goal.returns

@@ -1,5 +1,4 @@
 use native.Mathlib.Omega.{arith}
-use borrow.Author.Rules.{rules}
 use Rattle.settle.proofs.on_all.Goals as goal
 
 pub overflow_cast-count : goal.overflow_cast-count

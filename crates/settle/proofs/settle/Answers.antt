@@ -1,15 +1,14 @@
 use mathlib.Core.Bool.{Bool, true, false, not, cond, ◌&&◌, and-false}
-use mathlib.Core.Path.{◌≡◌, refl, sym, ◌∙◌, ap, ap₂, subst}
-use mathlib.Core.Logic.{⊎_elim}
+use mathlib.Core.Path.{◌≡◌, refl, sym, ◌∙◌, ap, subst}
 use mathlib.Core.List.{List}
 use Prim.Native.Nat.{ℕ, ◌-◌, ◌^◌, ◌<◌}
 use native.Mathlib.Omega.{arith}
 use lib.Dec.{eqb}
-use borrow.Author.Rules.{rules}
 use borrow.Author.Tests.{eqb-true}
 use lib.ListN.{length, take}
 use lib.Seq.{take_all}
 use Rattle.settle.proofs.SettleLaws.{sure-held, choice-of, try-in, works-on-try, works-on-all, alone}
+use Rattle.verdicts.specs.declared.Verdict.{Verdict}
 use Rattle.verdicts.specs.Judged.{Judged}
 use Rattle.protocol.specs.Calls.{answers}
 use Rattle.protocol.specs.Polls.{polled, own_try}
@@ -20,13 +19,12 @@ use Rattle.table.proofs.WellFormedLaws.{newest, sized, long, few-rows}
 use Rattle.table.proofs.FormLaws.{formed}
 use Rattle.table.specs.Asked.{Listed}
 use Rattle.table.specs.Chain.{frame_of}
-use Rattle.fields.specs.declared.Laid.{Laid}
-use Rattle.fields.specs.Layout.{get, name, list, no_list, is_empty, used_of, name_of, list_of}
+use Rattle.fields.specs.Layout.{list, no_list, is_empty, used_of, name_of, list_of}
 use Rattle.bools.proofs.BoolLaws.{and_l, and_r, and_i}
 use Rattle.sets.proofs.SetLaws.{has_within, within-lt}
 use Rattle.sets.specs.Sets.{has, cut_to}
 use Rattle.sets.specs.Upto.{Within, count}
-use Rattle.settle.proofs.settle.Goals.{After-chosen_unless-chosen, After-cut-tried, After-judged-part, After-list-own, After-name, After-used-count, Joined-part, Then-both, Then-quorum_held}
+use Rattle.settle.proofs.settle.Goals.{After-cut-tried, After-used-count, then-part+else-both+else-quorum_held, else-part}
 use Rattle.settle.proofs.settle.Goals as goal
 
 -- the coordinator's row is a used one
@@ -42,22 +40,18 @@ frame_is : (c : After-used-count) → frame_by (take c.used-count.result c.args.
 frame_is c = let f = c.requires.0 in rw c.used-count.ensures (frame-by _ _ _ f.ordered f.grouped)
 
 -- the coordinator's own list, and its choice
-own_is : (c : After-list-own) → c.list-own.result ≡ list_of c.args.t.now c.args.c
+own_is : (c : After-cut-tried) → c.list-own.result ≡ list_of c.args.t.now c.args.c
 unfolding list_of
 own_is c = c.list-own.ensures ∙ ap list c.row_of-row.ensures.0
 
-choice-is : (c : After-name) → let a = c.args in
-    list_choice a.kind (frame_by (take c.used-count.result a.order.now) a.sets.now) c.list-own.result c.name.result
-    ≡ list_choice a.kind (frame_of a.t.now) (list_of a.t.now a.c) (name_of a.t.now a.c)
-choice-is c =
-    choice-of c.args.kind _ c.args.c _ _ c.requires.0 c.used-count.ensures c.row_of-row.ensures.0 c.list-own.ensures c.name.ensures
-
-chosen_is : (c : After-chosen_unless-chosen) → let a = c.args in
+chosen_is : (c : After-cut-tried) → let a = c.args in
     has c.chosen_unless-chosen.result.bits ≡ list_choice a.kind (frame_of a.t.now) (list_of a.t.now a.c) (name_of a.t.now a.c)
-chosen_is c = c.chosen_unless-chosen.ensures ∙ choice-is c.before
+chosen_is c =
+    c.chosen_unless-chosen.ensures
+    ∙ choice-of c.args.kind _ c.args.c _ _ c.requires.0 c.used-count.ensures c.row_of-row.ensures.0 c.list-own.ensures c.name.ensures
 
 -- over the list that it says it has
-chosen-said : (c : After-chosen_unless-chosen) → let a = c.args in
+chosen-said : (c : After-cut-tried) → let a = c.args in
     has c.chosen_unless-chosen.result.bits ≡ list_choice a.kind (frame_of a.t.now) ((answers a.t.now a.q a.answering.bits).list a.c) (name_of a.t.now a.c)
 unfolding answers polled
 chosen-said c =
@@ -70,7 +64,7 @@ tried : (c : After-cut-tried) → let a = c.args in
 unfolding own_try
 tried c =
     let a = c.args in
-    c.cut-tried.ensures ∙ ap (λ (f : ℕ → Bool). cut_to f (has a.answering.bits)) (chosen-said c.before)
+    c.cut-tried.ensures ∙ ap (λ (f : ℕ → Bool). cut_to f (has a.answering.bits)) (chosen-said c)
 
 -- its rows are used ones
 tried-used : (c : After-cut-tried) → c.cut-tried.result.bits < 2 ^ used_of c.args.t.now
@@ -82,57 +76,42 @@ tried-used c =
 lent-all : (xs : List ℕ) → take (length xs - 0) xs ≡ xs
 lent-all xs = take_all (length xs - 0) xs (omega arith)
 
--- what a poll of P says of it
-alone-part : (c : After-judged-part) → Judged (answers c.args.t.now c.args.q c.cut-tried.result.bits) (has c.cut-tried.result.bits) c.judged-part.result
-alone-part c = rw (lent-all c.args.t.now) at c.judged-part.ensures
-
--- and a poll of the rows that answered
-part : (c : After-judged-part) → Judged (answers c.args.t.now c.args.q c.args.answering.bits) (has c.cut-tried.result.bits) c.judged-part.result
-part c =
+-- what a poll of P says of it, and a poll of the rows that answered
+part : (c : After-cut-tried) (v : Verdict) → let a = c.args in let p = c.cut-tried.result.bits in
+    Judged (answers (take (length a.t.now - 0) a.t.now) a.q p) (has p) v → Judged (answers a.t.now a.q a.answering.bits) (has p) v
+part c v y =
     let a = c.args in
-    alone a.kind a.t.now a.q a.c a.answering.bits c.cut-tried.result.bits (tried c.before.before) _ (alone-part c)
-
--- question 6 of P, and both: is it current too?
-abbrev six : After-judged-part → Bool
-six c = let a = c.args in not (is_empty c.judged-part.result.list) && list_quorum a.kind (frame_by (take c.used-count.result a.order.now) a.sets.now) c.judged-part.result.list (has c.cut-tried.result.bits)
-
-abbrev yes : After-judged-part → Bool
-yes c = c.judged-part.result.current && six c
+    alone a.kind a.t.now a.q a.c a.answering.bits c.cut-tried.result.bits (tried c) v (rw (lent-all a.t.now) at y)
 
 -- where the list in force is the coordinator's own, P, which is the whole choice, holds a quorum of it
-sure : (c : Then-both) → yes c.before.before.before.before.before.before.before ≡ true
+sure : (c : After-cut-tried) (u : Within (used_of c.args.t.now) c.args.c) (v : Verdict) → let a = c.args in let p = c.cut-tried.result.bits in
+    Judged (answers (take (length a.t.now - 0) a.t.now) a.q p) (has p) v → v.current ≡ true → v.list ≡ c.list-own.result → p ≡ c.chosen_unless-chosen.result.bits
+    → (frame : Frame) → frame ≡ frame_of a.t.now → (not (is_empty v.list) && list_quorum a.kind frame v.list (has p)) ≡ true
 unfolding list_of list
-sure c =
+sure c u v y k same whole frame ef =
     let t = c.args.t.now in
-    let k = c.if-part.true in
-    let both = sym c.both.ensures ∙ c.if-both.true in
-    let whole : has c.cut-tried.result.bits ≡ has c.chosen_unless-chosen.result.bits = ap has (eqb-true _ _ (and_l _ _ both)) in
-    let force : c.judged-part.result.list ≡ list_of t c.args.c = c.same.ensures.0 (and_r (eqb c.cut-tried.result.bits c.chosen_unless-chosen.result.bits) _ both) ∙ own_is c.before.before.before.before.before.before.before.before.before.before.before.before in
-    and_i _ _ k
-    (rw (frame_is c.before.before.before.before.before.before.before.before.before.before.before.before.before.before, force) (sure-held c.args.kind t c.args.q c.cut-tried.result.bits _ (list_of t c.args.c) c.requires.0.formed ((formed t c.requires.0.formed).heads _ (own-used c.before.before.before.before.before.before.before.before.before.before.before.before.before.before)).only (whole ∙ chosen_is c.before.before.before.before.before.before.before.before.before.before) (sym (alone-part c.before.before.before.before.before.before.before).current ∙ k)))
+    let z : Judged (answers t c.args.q c.cut-tried.result.bits) (has c.cut-tried.result.bits) v = rw (lent-all t) at y in
+    rw (ef, same ∙ own_is c) (sure-held c.args.kind t c.args.q c.cut-tried.result.bits _ (list_of t c.args.c) c.requires.0.formed ((formed t c.requires.0.formed).heads _ u).only (ap has whole ∙ chosen_is c) (sym z.current ∙ k))
 
--- or it was counted
-counted : (c : Then-quorum_held) → yes c.before.before.before.before.before.before.before.before.before.before ≡ true
-counted c = and_i _ _ c.if-part.true (sym c.quorum_held.ensures ∙ c.if-quorum_held.true)
+-- one of two is no
+no-first : (a b : Bool) → a ≡ false → (a && b) ≡ false
+no-first a b e = rw e
 
--- otherwise one of them is no
-failed : (c : Joined-part) → yes c.before ≡ false
-failed c = ⊎_elim (λ w. no_second c.judged-part.result.current (six c.before) (sym w.6.ensures ∙ w.7.left)) (λ w. no-first c.judged-part.result.current (six c.before) w.left) c.if-part.branch
-  where
-    no-first : (a b : Bool) → a ≡ false → (a && b) ≡ false
-    no-first a b e = rw e
-
-    no_second : (a b : Bool) → b ≡ false → (a && b) ≡ false
-    no_second a b e = rw e (and-false a)
+no_second : (a b : Bool) → b ≡ false → (a && b) ≡ false
+no_second a b e = rw e (and-false a)
 
 pub used-count-requires : goal.used-count-requires
 used-count-requires c = long (sized c.requires.0.formed)
 
 pub row_of-row-requires : goal.row_of-row-requires
-row_of-row-requires c = (sized c.requires.0.formed, own-used c)
+row_of-row-requires c = (sized c.requires.0.formed, own-used (goal.at.row_of-row-requires c).After-used-count)
 
 pub chosen_unless-chosen-requires : goal.chosen_unless-chosen-requires
-chosen_unless-chosen-requires c = (listed (goal.at.chosen_unless-chosen-requires c).After-used-count, c.requires.0.grouped.apart, λ d. c.requires.4.chosen d ∙ sym (choice-is c))
+chosen_unless-chosen-requires c = (
+  listed (goal.at.chosen_unless-chosen-requires c).After-used-count,
+  c.requires.0.grouped.apart,
+  λ d. c.requires.4.chosen d ∙ sym (choice-of c.args.kind _ c.args.c _ _ c.requires.0 c.used-count.ensures c.row_of-row.ensures.0 c.list-own.ensures c.name.ensures),
+)
 
 pub judged-part-requires : goal.judged-part-requires
 judged-part-requires c = rw (lent-all c.args.t.now) (sized c.requires.0.formed, newest c.args.t.now c.requires.0.formed, c.requires.1, tried-used (goal.at.judged-part-requires c).After-cut-tried)
@@ -140,8 +119,13 @@ judged-part-requires c = rw (lent-all c.args.t.now) (sized c.requires.0.formed, 
 pub returns-then-both : goal.returns-then-both
 returns-then-both c =
     let a = c.args in
-    works-on-try a.kind a.t.now a.q a.c a.answering.bits c.cut-tried.result.bits (tried (goal.at.returns-then-both c).After-cut-tried) _ (frame_is (goal.at.returns-then-both c).After-used-count) _ (part (goal.at.returns-then-both c).After-judged-part) (yes (goal.at.returns-then-both c).After-judged-part) refl
-    (sure (goal.at.returns-then-both c).Then-both) _ c.cut-tried.result _ refl (ap (count 64) (chosen-said (goal.at.returns-then-both c).After-chosen_unless-chosen)) c.on_try.ensures
+    let u = (goal.at.returns-then-both c).After-used-count in
+    let p = (goal.at.returns-then-both c).After-cut-tried in
+    let both = sym c.both.ensures ∙ c.if-both.true in
+    let whole = eqb-true _ _ (and_l _ _ both) in
+    let same = c.same.ensures.0 (and_r (eqb c.cut-tried.result.bits c.chosen_unless-chosen.result.bits) _ both) in
+    works-on-try a.kind a.t.now a.q a.c a.answering.bits c.cut-tried.result.bits (tried p) _ (frame_is u) _ (part p _ c.judged-part.ensures) _ refl
+    (and_i _ _ c.if-part.true (sure p (own-used u) _ c.judged-part.ensures c.if-part.true same whole _ (frame_is u))) _ c.cut-tried.result _ refl (ap (count 64) (chosen-said p)) c.on_try.ensures
 
 pub quorum_held-requires : goal.quorum_held-requires
 quorum_held-requires c = (listed (goal.at.quorum_held-requires c).After-used-count, c.requires.0.grouped.apart)
@@ -149,8 +133,10 @@ quorum_held-requires c = (listed (goal.at.quorum_held-requires c).After-used-cou
 pub returns-then-quorum_held : goal.returns-then-quorum_held
 returns-then-quorum_held c =
     let a = c.args in
-    works-on-try a.kind a.t.now a.q a.c a.answering.bits c.cut-tried.result.bits (tried (goal.at.returns-then-quorum_held c).After-cut-tried) _ (frame_is (goal.at.returns-then-quorum_held c).After-used-count) _ (part (goal.at.returns-then-quorum_held c).After-judged-part) (yes (goal.at.returns-then-quorum_held c).After-judged-part) refl
-    (counted (goal.at.returns-then-quorum_held c).Then-quorum_held) _ c.cut-tried.result _ refl (ap (count 64) (chosen-said (goal.at.returns-then-quorum_held c).After-chosen_unless-chosen)) c.on_try-then-quorum_held.ensures
+    let u = (goal.at.returns-then-quorum_held c).After-used-count in
+    let p = (goal.at.returns-then-quorum_held c).After-cut-tried in
+    works-on-try a.kind a.t.now a.q a.c a.answering.bits c.cut-tried.result.bits (tried p) _ (frame_is u) _ (part p _ c.judged-part.ensures) _ refl
+    (and_i _ _ c.if-part.true (sym c.quorum_held.ensures ∙ c.if-quorum_held.true)) _ c.cut-tried.result _ refl (ap (count 64) (chosen-said p)) c.on_try-then-quorum_held.ensures
 
 pub on_all-requires : goal.on_all-requires
 on_all-requires c = (listed (goal.at.on_all-requires c).After-used-count, c.requires.0.grouped.apart)
@@ -158,9 +144,11 @@ on_all-requires c = (listed (goal.at.on_all-requires c).After-used-count, c.requ
 pub returns-then-tried-answering : goal.returns-then-tried-answering
 returns-then-tried-answering c =
     let a = c.args in
-    works-on-all a.kind a.t.now a.q a.c a.answering.bits c.cut-tried.result.bits (tried (goal.at.returns-then-tried-answering c).After-cut-tried) _ (frame_is (goal.at.returns-then-tried-answering c).After-used-count) _ (part (goal.at.returns-then-tried-answering c).After-judged-part) (yes (goal.at.returns-then-tried-answering c).After-judged-part) refl
-    (failed (goal.at.returns-then-tried-answering c).Joined-part) _ a.answering _ _ refl c.used-count.ensures
-    (subst (λ (x : ℕ). Judged (answers a.t.now a.q a.answering.bits) (has x) c.judged-part.result) c.if-tried-answering.true (part (goal.at.returns-then-tried-answering c).After-judged-part)) c.on_all.ensures
+    let u = (goal.at.returns-then-tried-answering c).After-used-count in
+    let p = (goal.at.returns-then-tried-answering c).After-cut-tried in
+    works-on-all a.kind a.t.now a.q a.c a.answering.bits c.cut-tried.result.bits (tried p) _ (frame_is u) _ (part p _ c.judged-part.ensures) _ refl
+    (elim c.if-part.branch [ then-part+else-both+else-quorum_held w ↦ no_second _ _ (sym w.quorum_held.ensures ∙ w.if-quorum_held.false) | else-part w ↦ no-first _ _ w.if-part.false ]) _ a.answering _ _ refl c.used-count.ensures
+    (subst (λ (x : ℕ). Judged (answers a.t.now a.q a.answering.bits) (has x) c.judged-part.result) c.if-tried-answering.true (part p _ c.judged-part.ensures)) c.on_all.ensures
 
 pub judged-requires : goal.judged-requires
 judged-requires c = rw (lent-all c.args.t.now) (sized c.requires.0.formed, newest c.args.t.now c.requires.0.formed, c.requires.1, c.requires.2)
@@ -171,5 +159,8 @@ on_all-requires-2 c = (listed (goal.at.on_all-requires-2 c).After-used-count, c.
 pub returns : goal.returns
 returns c =
     let a = c.args in
-    works-on-all a.kind a.t.now a.q a.c a.answering.bits c.cut-tried.result.bits (tried (goal.at.returns c).After-cut-tried) _ (frame_is (goal.at.returns c).After-used-count) _ (part (goal.at.returns c).After-judged-part) (yes (goal.at.returns c).After-judged-part) refl
-    (failed (goal.at.returns c).Joined-part) _ a.answering _ _ refl c.used-count.ensures (rw (lent-all a.t.now) at c.judged.ensures) c.on_all-2.ensures
+    let u = (goal.at.returns c).After-used-count in
+    let p = (goal.at.returns c).After-cut-tried in
+    works-on-all a.kind a.t.now a.q a.c a.answering.bits c.cut-tried.result.bits (tried p) _ (frame_is u) _ (part p _ c.judged-part.ensures) _ refl
+    (elim c.if-part.branch [ then-part+else-both+else-quorum_held w ↦ no_second _ _ (sym w.quorum_held.ensures ∙ w.if-quorum_held.false) | else-part w ↦ no-first _ _ w.if-part.false ]) _ a.answering _ _ refl c.used-count.ensures
+    (rw (lent-all a.t.now) at c.judged.ensures) c.on_all-2.ensures

@@ -1,6 +1,5 @@
 use native.Mathlib.Omega.{arith}
 use Rattle.surveys.proofs.SurveyLaws.{whole_in}
-use borrow.Author.Rules.{rules}
 use Rattle.surveys.proofs.has_whole.Goals as goal
 
 pub returns : goal.returns

@@ -1,4 +1,3 @@
-use borrow.Author.Rules.{rules}
 use Rattle.surveys.proofs.held_unless.Goals as goal
 
 pub returns : goal.returns

@@ -1,8 +1,7 @@
-use Rattle.surveys.proofs.SurveyLaws.{Seen, seen_none, seen_more, seen_all}
+use Rattle.surveys.proofs.SurveyLaws.{seen_none, seen_more, seen_all}
 use Rattle.table.proofs.WellFormedLaws.{header, long}
-use borrow.Author.Rules.{rules}
 use native.Mathlib.Omega.{arith}
-use Prim.Native.Nat.{◌-◌, ◌≤◌, ◌<◌}
+use Prim.Native.Nat.{◌<◌}
 use mathlib.Core.Path.{refl}
 use Rattle.surveys.proofs.look_through.Goals.{In-loop-k}
 use Rattle.surveys.proofs.look_through.Goals as goal

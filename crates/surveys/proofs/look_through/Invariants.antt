@@ -1,9 +1,5 @@
-use Rattle.surveys.proofs.SurveyLaws.{Seen, seen_none, seen_more, seen_all}
-use Rattle.table.proofs.WellFormedLaws.{header, long}
-use borrow.Author.Rules.{rules}
-use native.Mathlib.Omega.{arith}
-use Prim.Native.Nat.{◌-◌, ◌≤◌, ◌<◌}
-use mathlib.Core.Path.{refl}
+use Rattle.surveys.proofs.SurveyLaws.{Seen}
+use Prim.Native.Nat.{◌-◌, ◌≤◌}
 use Rattle.surveys.proofs.look_through.Given as goal
 
 abbrev pub invariant-loop-k : goal.invariant-loop-k

@@ -1,5 +1,4 @@
 use mathlib.Core.Bool.{◌&&◌}
-use borrow.Author.Rules.{rules}
 use lib.Dec.{leb}
 use Rattle.counties.specs.Counties.{counties}
 use Rattle.grid.proofs.SizeLaws.{taken-fits}

@@ -1,4 +1,3 @@
-use borrow.Author.Rules.{rules}
 use Rattle.sets.specs.Sets.{no_row}
 use Rattle.sets.proofs.SetLaws.{has-empty}
 use Rattle.tiers.proofs.chosen_there.Goals as goal

@@ -1,14 +1,9 @@
-use mathlib.Core.Path.{◌≡◌, ◌∙◌, ap, ap₂}
-use mathlib.Core.Bool.{Bool, ◌&&◌}
-use Prim.Native.Nat.{ℕ, ◌+◌, ◌-◌, ◌≤◌}
-use native.Mathlib.Nat.{mod-eq_of_lt}
-use native.Mathlib.Omega.{arith}
-use borrow.Author.Rules.{rules}
+use mathlib.Core.Path.{◌≡◌}
+use mathlib.Core.Bool.{◌&&◌}
+use Prim.Native.Nat.{ℕ, ◌-◌, ◌≤◌}
 use lib.ListN.{take}
 use Rattle.sets.specs.Upto.{some}
 use Rattle.sets.specs.Sets.{has}
-use Rattle.sets.proofs.SetLaws.{has-empty}
-use Rattle.sets.proofs.GatherLaws.{none-joined, one-joined}
 use Rattle.counties.specs.Levels.{level_choice}
 use Rattle.counties.specs.Counties.{in_county}
 use Rattle.grouping.specs.Grouped.{county_by}

@@ -1,5 +1,4 @@
 use mathlib.Core.Path.{◌∙◌}
-use borrow.Author.Rules.{rules}
 use Rattle.counties.specs.Counties.{counties}
 use Rattle.lists.proofs.SeatLaws.{level-law}
 use Rattle.sets.specs.Sets.{has}

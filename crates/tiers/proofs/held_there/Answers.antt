@@ -1,5 +1,4 @@
 use mathlib.Core.Path.{sym, ◌∙◌}
-use borrow.Author.Rules.{rules}
 use borrow.Author.Tests.{not-true}
 use Rattle.sets.specs.Sets.{has}
 use Rattle.tiers.proofs.TierLaws.{none-held}

@@ -1,16 +1,13 @@
 use mathlib.Core.Path.{◌≡◌, ◌∙◌, ap}
 use mathlib.Core.Bool.{Bool, cond}
-use Prim.Native.Nat.{ℕ, ◌+◌, ◌-◌, ◌≤◌}
+use Prim.Native.Nat.{ℕ, ◌+◌}
 use native.Mathlib.Nat.{mod-eq_of_lt}
 use native.Mathlib.Omega.{arith}
-use borrow.Author.Rules.{rules}
 use lib.ListN.{take}
 use Rattle.sets.specs.Sets.{has, gaining}
 use Rattle.sets.proofs.SetLaws.{has-empty}
-use Rattle.sets.proofs.GatherLaws.{up_to, none-gathered, one-gathered}
+use Rattle.sets.proofs.GatherLaws.{none-gathered, one-gathered}
 use Rattle.counties.specs.Levels.{level}
-use Rattle.counties.specs.Counties.{in_county}
-use Rattle.grouping.specs.Grouped.{county_by}
 use Rattle.tiers.proofs.holding.Goals as goal
 
 pub loop-k-init : goal.loop-k-init

@@ -1,13 +1,8 @@
-use mathlib.Core.Path.{◌≡◌, ◌∙◌, ap}
-use mathlib.Core.Bool.{Bool, cond}
-use Prim.Native.Nat.{ℕ, ◌+◌, ◌-◌, ◌≤◌}
-use native.Mathlib.Nat.{mod-eq_of_lt}
-use native.Mathlib.Omega.{arith}
-use borrow.Author.Rules.{rules}
+use mathlib.Core.Path.{◌≡◌}
+use Prim.Native.Nat.{◌-◌, ◌≤◌}
 use lib.ListN.{take}
-use Rattle.sets.specs.Sets.{has, gaining}
-use Rattle.sets.proofs.SetLaws.{has-empty}
-use Rattle.sets.proofs.GatherLaws.{up_to, none-gathered, one-gathered}
+use Rattle.sets.specs.Sets.{has}
+use Rattle.sets.proofs.GatherLaws.{up_to}
 use Rattle.counties.specs.Levels.{level}
 use Rattle.counties.specs.Counties.{in_county}
 use Rattle.grouping.specs.Grouped.{county_by}

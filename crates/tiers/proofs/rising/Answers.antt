@@ -1,5 +1,4 @@
 use mathlib.Core.Path.{refl}
-use borrow.Author.Rules.{rules}
 use Rattle.sets.specs.Upto.{upward}
 use Rattle.counties.specs.Counties.{counties}
 use Rattle.tiers.proofs.TierLaws.{rising-listed}

@@ -1,4 +1,3 @@
-use borrow.Author.Rules.{rules}
 use Rattle.protocol.specs.Calls.{answers}
 use Rattle.verdicts.proofs.judged.Goals as goal
 

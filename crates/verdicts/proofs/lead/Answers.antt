@@ -1,7 +1,6 @@
 use mathlib.Core.Path.{sym, ◌∙◌, ap}
 use mathlib.Core.Bool.{Bool}
 use Prim.Native.Nat.{ℕ}
-use borrow.Author.Rules.{rules}
 use Rattle.bools.proofs.BoolLaws.{and_l}
 use Rattle.sets.specs.Upto.{lowest}
 use Rattle.sets.specs.Sets.{has}

@@ -1,7 +1,6 @@
 use mathlib.Core.Path.{sym, ◌∙◌, ap}
 use Prim.Native.Nat.{ℕ, ◌≤◌}
 use native.Mathlib.Omega.{arith}
-use borrow.Author.Rules.{rules}
 use Rattle.fields.specs.Layout.{list, no_list, row_bytes, list_of}
 use Rattle.fields.proofs.FieldLaws.{no-row-no-list}
 use Rattle.sets.proofs.UptoLaws.{lowest-in}

@@ -1,4 +1,3 @@
-use borrow.Author.Rules.{rules}
 use Rattle.verdicts.proofs.quorum_held.Goals as goal
 
 pub returns-then-is_empty : goal.returns-then-is_empty

@@ -1,4 +1,3 @@
-use borrow.Author.Rules.{rules}
 use Rattle.sets.specs.Sets.{has}
 use Rattle.verdicts.proofs.TallyLaws.{tallied}
 use Rattle.verdicts.proofs.tally_of.Goals as goal

@@ -3,7 +3,6 @@ use mathlib.Core.Bool.{Bool}
 use Prim.Native.Nat.{ℕ, ◌+◌, ◌-◌, ◌*◌, ◌≤◌, ◌<◌, ◌%◌}
 use native.Mathlib.Nat.{mul-le-mul_right}
 use native.Mathlib.Omega.{arith}
-use borrow.Author.Rules.{rules}
 use Rattle.coterie.proofs.TurnLaws.{parts, low-place, high-place, one-run, two_runs}
 use Rattle.sets.specs.Sets.{joining}
 use Rattle.coterie.proofs.choices.read_choice.Goals.{After-height-low}

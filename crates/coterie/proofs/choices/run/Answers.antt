@@ -1,5 +1,4 @@
 use native.Mathlib.Omega.{arith}
-use borrow.Author.Rules.{rules}
 use Rattle.coterie.proofs.TurnLaws.{run_is}
 use Rattle.coterie.proofs.choices.run.Goals as goal
 

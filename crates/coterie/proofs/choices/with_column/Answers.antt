@@ -1,10 +1,9 @@
 use mathlib.Core.Bool.{Bool}
 use mathlib.Core.Path.{◌≡◌, sym, ap, ◌∙◌}
-use Prim.Native.Nat.{ℕ, suc, ◌+◌, ◌-◌, ◌≤◌, ◌%◌}
+use Prim.Native.Nat.{ℕ, ◌-◌, ◌%◌}
 use native.Mathlib.Omega.{arith}
 use native.Mathlib.Nat.{mod-eq_of_lt}
-use borrow.Author.Rules.{rules}
-use Rattle.coterie.proofs.TurnLaws.{column_to, column-start, column-turn, column-next, column-end}
+use Rattle.coterie.proofs.TurnLaws.{column-start, column-turn, column-next, column-end}
 use Rattle.grid.specs.Sizes.{column_of}
 use Rattle.sets.specs.Sets.{has, gaining}
 use Rattle.coterie.proofs.choices.with_column.Goals as goal

@@ -1,12 +1,8 @@
-use mathlib.Core.Bool.{Bool}
-use mathlib.Core.Path.{◌≡◌, sym, ap, ◌∙◌}
-use Prim.Native.Nat.{ℕ, suc, ◌+◌, ◌-◌, ◌≤◌, ◌%◌}
-use native.Mathlib.Omega.{arith}
-use native.Mathlib.Nat.{mod-eq_of_lt}
-use borrow.Author.Rules.{rules}
-use Rattle.coterie.proofs.TurnLaws.{column_to, column-start, column-turn, column-next, column-end}
+use mathlib.Core.Path.{◌≡◌}
+use Prim.Native.Nat.{suc, ◌+◌, ◌-◌, ◌≤◌}
+use Rattle.coterie.proofs.TurnLaws.{column_to}
 use Rattle.grid.specs.Sizes.{column_of}
-use Rattle.sets.specs.Sets.{has, gaining}
+use Rattle.sets.specs.Sets.{has}
 use Rattle.coterie.proofs.choices.with_column.Given as goal
 
 abbrev pub invariant-loop-at : goal.invariant-loop-at

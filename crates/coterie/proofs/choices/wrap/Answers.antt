@@ -1,7 +1,6 @@
 use mathlib.Core.Path.{sym, ap, ◌∙◌}
 use Prim.Native.Nat.{ℕ, ◌%◌}
 use native.Mathlib.Nat.{mod-zero}
-use borrow.Author.Rules.{rules}
 use Rattle.coterie.proofs.choices.wrap.Goals as goal
 
 pub returns-then-h-eq0 : goal.returns-then-h-eq0

@@ -1,14 +1,13 @@
 use mathlib.Core.Bool.{Bool, ◌||◌}
-use mathlib.Core.Path.{◌≡◌, sym, ap, ap₂, ◌∙◌}
-use Prim.Native.Nat.{ℕ, ◌+◌, ◌-◌, ◌≤◌, ◌%◌}
+use mathlib.Core.Path.{sym, ap, ap₂, ◌∙◌}
+use Prim.Native.Nat.{ℕ}
 use native.Mathlib.Nat.{zero-mod, add-mod_right}
 use native.Mathlib.Omega.{arith}
-use borrow.Author.Rules.{rules}
 use Rattle.coterie.proofs.TurnLaws.{row-turn, rows_end}
 use Rattle.quorums.specs.Quorums.{touches}
 use Rattle.sets.proofs.SetLaws.{empty-at, has-shift}
 use Rattle.sets.specs.Sets.{has, cut_to, joining}
-use Rattle.sets.specs.Upto.{Within, some}
+use Rattle.sets.specs.Upto.{some}
 use Rattle.coterie.proofs.holding.columns_of.Goals as goal
 
 pub loop-at-init : goal.loop-at-init

@@ -3,8 +3,6 @@ use mathlib.Core.Bool.{Bool, not, true, false}
 use mathlib.Core.Logic.{inl, inr}
 use Prim.Native.Nat.{ℕ}
 use native.Mathlib.Omega.{arith}
-use borrow.Author.Tests.{not-true, not-false}
-use borrow.Author.Rules.{rules}
 use Rattle.coterie.proofs.TurnLaws.{holds-no, holds-yes, missed-is, none-missed}
 use Rattle.quorums.specs.Quorums.{touches, is_write}
 use Rattle.sets.proofs.UptoLaws.{every-ext}
