@@ -18,11 +18,11 @@ u16_at-x-requires c = omega arith
 pub loop-i-preserved : goal.loop-i-preserved
 loop-i-preserved c =
     let l = c.loop-i in
-        let names = c.args.names.now in
+    let names = c.args.names.now in
     let x = c.u16_at-x in
     (omega arith, rise-turn (names_in names) l.i l.low l.ok l.invariant.1 x.result c.both-ok.result (omega (arith, c.requires)) (x.ensures ∙ name-at l.i names (omega (arith, c.requires))) (omega arith) c.both-ok.ensures)
 
 pub returns : goal.returns
 returns c =
     let l = c.loop-i in
-        rise-end (names_in c.args.names.now) l.i l.low l.ok l.invariant.1 (omega (arith, c.requires))
+    rise-end (names_in c.args.names.now) l.i l.low l.ok l.invariant.1 (omega (arith, c.requires))
