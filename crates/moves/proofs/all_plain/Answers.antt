@@ -33,17 +33,17 @@ plain-requires c = c.row_of.ensures.1
 pub returns-then-not-plain : goal.returns-then-not-plain
 unfolding all_plain
 returns-then-not-plain c =
-            every-not _ _ (c.loop-k.k + 1) (omega (arith, c.loop-k-test.true, c.used-used.ensures)) (found (goal.at.returns-then-not-plain c).After-plain ∙ c.if-not-plain.true)
+    every-not _ _ (c.loop-k.k + 1) (omega (arith, c.loop-k-test.true, c.used-used.ensures)) (found (goal.at.returns-then-not-plain c).After-plain ∙ c.if-not-plain.true)
 
 pub loop-k-preserved : goal.loop-k-preserved
 loop-k-preserved c =
-        let l = c.loop-k in
+    let l = c.loop-k in
     (omega (arith, c.loop-k-test.true), every_more _ l.k l.invariant.1 (found (goal.at.loop-k-preserved c).After-plain ∙ c.if-not-plain.false))
 
 pub returns : goal.returns
 unfolding all_plain
 returns c =
     let l = c.loop-k in
-        let t = c.args.t.now in
+    let t = c.args.t.now in
     let e : l.k ≡ used_of t = omega (arith, c.loop-k-test.false, c.used-used.ensures) in
     sym l.invariant.1 ∙ ap (λ (n : ℕ). every n (λ i. plain (row_bytes t i))) e

@@ -31,22 +31,22 @@ over3 : (c : After-goes_over) → goes_over (form_of c.args.t.now) c.args.form �
 over3 c = sym (c.goes_over.ensures ∙ ap (λ (f : ℕ). goes_over f c.args.form) c.form.ensures)
 
 over : (e : Else-not-goes_over) → goes_over (form_of e.args.t.now) e.args.form ≡ true
-over e = over3 e.before ∙ not-false _ e.if-not-goes_over.false
+over e = sym (e.goes_over.ensures ∙ ap (λ (f : ℕ). goes_over f e.args.form) e.form.ensures) ∙ e.if-not-goes_over.false
 
 plain : (e : Else-both) → (not (eqb e.args.form 1) || all_plain e.args.t.now) ≡ true
-plain e = plain2 e.before ∙ ap not e.if-both.false
+plain e = rough (eqb e.args.form 1) (all_plain e.args.t.now) _ _ e.all_plain-plain.ensures e.both.ensures ∙ ap not e.if-both.false
 
 pub returns-then-not-own_form : goal.returns-then-not-own_form
 returns-then-not-own_form c =
-            let no = carry-no c.args.t.now (carrying (goal.at.returns-then-not-own_form c).Start) 1 (carry-answers _ _ false _ _ (sym c.own_form.ensures ∙ c.if-not-own_form.true) refl refl) (omega arith) in
+    let no = carry-no c.args.t.now (carrying (goal.at.returns-then-not-own_form c).Start) 1 (carry-answers _ _ false _ _ (sym c.own_form.ensures ∙ c.if-not-own_form.true) refl refl) (omega arith) in
     (c.result.ensures ∙ no.0, no.1, no.2)
 
 pub all_plain-plain-requires : goal.all_plain-plain-requires
-all_plain-plain-requires c = own-sized (own1 c)
+all_plain-plain-requires c = own-sized (own1 (goal.at.all_plain-plain-requires c).Else-not-own_form)
 
 pub returns-then-both : goal.returns-then-both
 returns-then-both c =
-            let no = carry-no c.args.t.now (carrying (goal.at.returns-then-both c).Start) 15 (carry-answers _ _ true false _ (own1 (goal.at.returns-then-both c).Else-not-own_form) (plain2 (goal.at.returns-then-both c).After-both ∙ ap not c.if-both.true) refl) (omega arith) in
+    let no = carry-no c.args.t.now (carrying (goal.at.returns-then-both c).Start) 15 (carry-answers _ _ true false _ (own1 (goal.at.returns-then-both c).Else-not-own_form) (plain2 (goal.at.returns-then-both c).After-both ∙ ap not c.if-both.true) refl) (omega arith) in
     (c.result-then-both.ensures ∙ no.0, no.1, no.2)
 
 pub form-requires : goal.form-requires
@@ -54,12 +54,12 @@ form-requires c = long (own-sized (own1 (goal.at.form-requires c).Else-not-own_f
 
 pub returns-then-not-goes_over : goal.returns-then-not-goes_over
 returns-then-not-goes_over c =
-                let none : goes_over (form_of c.args.t.now) c.args.form ≡ false = over3 (goal.at.returns-then-not-goes_over c).After-goes_over ∙ c.if-not-goes_over.true in
+    let none : goes_over (form_of c.args.t.now) c.args.form ≡ false = over3 (goal.at.returns-then-not-goes_over c).After-goes_over ∙ c.if-not-goes_over.true in
     let no = carry-no c.args.t.now (carrying (goal.at.returns-then-not-goes_over c).Start) 12 (carry-answers _ _ true true false (own1 (goal.at.returns-then-not-goes_over c).Else-not-own_form) (plain (goal.at.returns-then-not-goes_over c).Else-both) (rw none)) (omega arith) in
     (c.result-then-not-goes_over.ensures ∙ no.0, no.1, no.2)
 
 pub overflow_cast-to : goal.overflow_cast-to
-overflow_cast-to c = let m = (forms-small _ _ (over c)).1 in omega (arith, m)
+overflow_cast-to c = let m = (forms-small _ _ (over (goal.at.overflow_cast-to c).Else-not-goes_over)).1 in omega (arith, m)
 
 pub file_length-requires : goal.file_length-requires
 file_length-requires c = long (own-sized (own1 (goal.at.file_length-requires c).Else-not-own_form))
@@ -78,7 +78,7 @@ overflow_add-end c = omega (arith, end-small c.args.t.now (own-sized (own1 (goal
 
 pub returns-then-dest-end : goal.returns-then-dest-end
 returns-then-dest-end c =
-                let other : eqb (length c.args.dest.now) (carried_length c.args.form c.args.t.now) ≡ false = ne_eqb _ _ (λ q. c.if-dest-end.true (q ∙ sym (end-long c.args.t.now c.args.form _ _ _ c.capacity.ensures c.size_in-width.ensures c.file_length.ensures))) in
+    let other : eqb (length c.args.dest.now) (carried_length c.args.form c.args.t.now) ≡ false = ne_eqb _ _ (λ q. c.if-dest-end.true (q ∙ sym (end-long c.args.t.now c.args.form _ _ _ c.capacity.ensures c.size_in-width.ensures c.file_length.ensures))) in
     let no = carry-no c.args.t.now (carrying (goal.at.returns-then-dest-end c).Start) 12 (carry-answers _ _ true true false (own1 (goal.at.returns-then-dest-end c).Else-not-own_form) (plain (goal.at.returns-then-dest-end c).Else-both) (rw (over (goal.at.returns-then-dest-end c).Else-not-goes_over, other))) (omega arith) in
     (c.result-then-dest-end.ensures ∙ no.0, no.1, no.2)
 
@@ -96,5 +96,5 @@ overflow_cast-used c = omega (arith, c.used.ensures, few-rows (own-sized (own1 (
 
 pub returns : goal.returns
 returns c =
-                    let yes = carry-done c.args.t.now (carrying (goal.at.returns c).Start) _ _ (carry-answers _ _ true true true (own1 (goal.at.returns c).Else-not-own_form) (plain (goal.at.returns c).Else-both) (and_i _ _ (over (goal.at.returns c).Else-not-goes_over) (eq-eqb _ _ (same_here (goal.at.returns c).Else-dest-end)))) c.used.ensures c.carry_table.ensures in
+    let yes = carry-done c.args.t.now (carrying (goal.at.returns c).Start) _ _ (carry-answers _ _ true true true (own1 (goal.at.returns c).Else-not-own_form) (plain (goal.at.returns c).Else-both) (and_i _ _ (over (goal.at.returns c).Else-not-goes_over) (eq-eqb _ _ (same_here (goal.at.returns c).Else-dest-end)))) c.used.ensures c.carry_table.ensures in
     (c.result-2.ensures ∙ yes.0, yes.1, yes.2)

@@ -16,9 +16,9 @@ use Rattle.moves.proofs.carry_table.Goals as goal
 
 -- what is known in the turn of row k + 1
 turn : (l : In-loop-k)
-    →         Turn l.args.t.now l.args.form l.loop-k.k l.row_length-size.result l.size_in-width.result (32 + l.file_length-file.result) l.loop-k.from l.loop-k.to l.loop-k.dest
+    → Turn l.args.t.now l.args.form l.loop-k.k l.row_length-size.result l.size_in-width.result (32 + l.file_length-file.result) l.loop-k.from l.loop-k.to l.loop-k.dest
 turn l =
-            let loop = l.loop-k in
+    let loop = l.loop-k in
     record {
       sized = l.requires.0;
       former = l.requires.2;
@@ -29,7 +29,7 @@ turn l =
       end_is = ap (λ (n : ℕ). 32 + n) l.file_length-file.ensures;
       from_is = loop.invariant.1;
       to_is = loop.invariant.2;
-      room = loop.invariant.3 ∙ l.carry_head.auto.0 ∙ l.requires.1;
+      room = loop.invariant.3 ∙ l.carry_head.auto.dest ∙ l.requires.1;
     }
 
 pub file_length-file-requires : goal.file_length-file-requires
@@ -56,10 +56,10 @@ unfolding rows_end in_turn
 loop-k-init c = (omega arith, omega arith, omega arith, refl, c.carry_head.ensures ∙ sym (append-nil _))
 
 pub overflow_add-to : goal.overflow_add-to
-overflow_add-to c = omega (arith, to-fits (turn c))
+overflow_add-to c = omega (arith, to-fits (turn (goal.at.overflow_add-to c).In-loop-k))
 
 pub slice_bounds-carry_row-end : goal.slice_bounds-carry_row-end
-slice_bounds-carry_row-end c = omega (arith, to-fits (turn c))
+slice_bounds-carry_row-end c = omega (arith, to-fits (turn (goal.at.slice_bounds-carry_row-end c).In-loop-k))
 
 pub overflow_add-from : goal.overflow_add-from
 overflow_add-from c = omega (arith, from-fits (turn (goal.at.overflow_add-from c).In-loop-k))
@@ -69,7 +69,7 @@ slice_bounds-carry_row-end-in-loop-k c = omega (arith, from-fits (turn (goal.at.
 
 pub carry_row-requires : goal.carry_row-requires
 carry_row-requires c =
-        let e = end_fits (turn (goal.at.carry_row-requires c).In-loop-k) in
+    let e = end_fits (turn (goal.at.carry_row-requires c).In-loop-k) in
     (e.0, omega (arith, e, from-long (turn (goal.at.carry_row-requires c).In-loop-k)), omega (arith, e, to-long (turn (goal.at.carry_row-requires c).In-loop-k)))
 
 pub overflow_add-from-in-loop-k : goal.overflow_add-from-in-loop-k
@@ -81,7 +81,7 @@ overflow_add-to-in-loop-k c = omega (arith, to-fits (turn (goal.at.overflow_add-
 pub loop-k-preserved : goal.loop-k-preserved
 unfolding rows_end
 loop-k-preserved c =
-        let row = c.carry_row in (
+    let row = c.carry_row in (
       omega (arith, c.loop-k-test.true),
       omega (arith, c.loop-k.invariant.1, (turn (goal.at.loop-k-preserved c).In-loop-k).size_is),
       omega (arith, c.loop-k.invariant.2),
@@ -90,11 +90,11 @@ loop-k-preserved c =
     )
 
 pub shape_of-dest : goal.shape_of-dest
-shape_of-dest c = c.loop-k.invariant.3 ∙ c.carry_head.auto.0
+shape_of-dest c = c.loop-k.invariant.3 ∙ c.carry_head.auto.dest
 
 pub returns : goal.returns
 returns c =
     let l = c.loop-k in
-        let e : l.k ≡ capacity_of c.args.t.now = omega (arith, l.invariant.0, c.loop-k-test.false, c.capacity-capacity.ensures) in
+    let e : l.k ≡ capacity_of c.args.t.now = omega (arith, l.invariant.0, c.loop-k-test.false, c.capacity-capacity.ensures) in
     let w = c.size_in-width.ensures ∙ ap (stride_in c.args.form 1) c.file_length-file.ensures in
-    all-carried _ _ c.args.form _ _ e (to_end c.args.t.now c.args.form _ _ _ l.dest l.invariant.2 e w (l.invariant.3 ∙ c.carry_head.auto.0 ∙ c.requires.1)) l.invariant.4
+    all-carried _ _ c.args.form _ _ e (to_end c.args.t.now c.args.form _ _ _ l.dest l.invariant.2 e w (l.invariant.3 ∙ c.carry_head.auto.dest ∙ c.requires.1)) l.invariant.4
