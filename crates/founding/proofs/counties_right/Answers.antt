@@ -18,7 +18,7 @@ as_many : (c : Else-counties-n) → let a = c.args in length a.counties.now ≡ 
 as_many c = omega (arith, c.if-counties-n.false)
 
 given : (c : In-loop-i) → c.loop-i.i < length c.args.counties.now
-given c = omega (arith, c.loop-i-test.true, as_many c.before.before)
+given c = omega (arith, c.loop-i-test.true, c.if-counties-n.false)
 
 pub returns-then-counties-n : goal.returns-then-counties-n
 returns-then-counties-n c = let a = c.args in rw (ne_eqb (length a.counties.now) a.n (λ z. omega (arith, z, c.if-counties-n.true)))
@@ -28,7 +28,7 @@ unfolding every
 loop-i-init c = (omega arith, refl)
 
 pub u8_at-requires : goal.u8_at-requires
-u8_at-requires c = omega (arith, given c)
+u8_at-requires c = omega (arith, given (goal.at.u8_at-requires c).In-loop-i)
 
 pub loop-i-preserved : goal.loop-i-preserved
 loop-i-preserved c =

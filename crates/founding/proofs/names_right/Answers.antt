@@ -21,7 +21,7 @@ two-each c = names-even c.args.names.now (omega arith)
 counted : (c : After-between) → between 1 (length (names_in c.args.names.now)) 64 ≡ c.between.result
 counted c =
     let names = c.args.names.now in
-    let half : length names / 2 ≡ length (names_in names) = omega (arith, two-each c.before) in
+    let half : length names / 2 ≡ length (names_in names) = omega (arith, names-even names (omega arith)) in
     sym (c.between.ensures ∙ ap (λ (n : ℕ). between 1 n 64) half)
 
 pub returns-then-names-ne0 : goal.returns-then-names-ne0

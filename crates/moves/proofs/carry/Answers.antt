@@ -31,10 +31,10 @@ over3 : (c : After-goes_over) → goes_over (form_of c.args.t.now) c.args.form �
 over3 c = sym (c.goes_over.ensures ∙ ap (λ (f : ℕ). goes_over f c.args.form) c.form.ensures)
 
 over : (e : Else-not-goes_over) → goes_over (form_of e.args.t.now) e.args.form ≡ true
-over e = over3 e.before ∙ not-false _ e.if-not-goes_over.false
+over e = sym (e.goes_over.ensures ∙ ap (λ (f : ℕ). goes_over f e.args.form) e.form.ensures) ∙ e.if-not-goes_over.false
 
 plain : (e : Else-both) → (not (eqb e.args.form 1) || all_plain e.args.t.now) ≡ true
-plain e = plain2 e.before ∙ ap not e.if-both.false
+plain e = rough (eqb e.args.form 1) (all_plain e.args.t.now) _ _ e.all_plain-plain.ensures e.both.ensures ∙ ap not e.if-both.false
 
 pub returns-then-not-own_form : goal.returns-then-not-own_form
 returns-then-not-own_form c =
@@ -42,7 +42,7 @@ returns-then-not-own_form c =
     (c.result.ensures ∙ no.0, no.1, no.2)
 
 pub all_plain-plain-requires : goal.all_plain-plain-requires
-all_plain-plain-requires c = own-sized (own1 c)
+all_plain-plain-requires c = own-sized (own1 (goal.at.all_plain-plain-requires c).Else-not-own_form)
 
 pub returns-then-both : goal.returns-then-both
 returns-then-both c =
@@ -59,7 +59,7 @@ returns-then-not-goes_over c =
     (c.result-then-not-goes_over.ensures ∙ no.0, no.1, no.2)
 
 pub overflow_cast-to : goal.overflow_cast-to
-overflow_cast-to c = let m = (forms-small _ _ (over c)).1 in omega (arith, m)
+overflow_cast-to c = let m = (forms-small _ _ (over (goal.at.overflow_cast-to c).Else-not-goes_over)).1 in omega (arith, m)
 
 pub file_length-requires : goal.file_length-requires
 file_length-requires c = long (own-sized (own1 (goal.at.file_length-requires c).Else-not-own_form))

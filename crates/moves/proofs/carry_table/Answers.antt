@@ -29,7 +29,7 @@ turn l =
       end_is = ap (λ (n : ℕ). 32 + n) l.file_length-file.ensures;
       from_is = loop.invariant.1;
       to_is = loop.invariant.2;
-      room = loop.invariant.3 ∙ l.carry_head.auto.0 ∙ l.requires.1;
+      room = loop.invariant.3 ∙ l.carry_head.auto.dest ∙ l.requires.1;
     }
 
 pub file_length-file-requires : goal.file_length-file-requires
@@ -56,10 +56,10 @@ unfolding rows_end in_turn
 loop-k-init c = (omega arith, omega arith, omega arith, refl, c.carry_head.ensures ∙ sym (append-nil _))
 
 pub overflow_add-to : goal.overflow_add-to
-overflow_add-to c = omega (arith, to-fits (turn c))
+overflow_add-to c = omega (arith, to-fits (turn (goal.at.overflow_add-to c).In-loop-k))
 
 pub slice_bounds-carry_row-end : goal.slice_bounds-carry_row-end
-slice_bounds-carry_row-end c = omega (arith, to-fits (turn c))
+slice_bounds-carry_row-end c = omega (arith, to-fits (turn (goal.at.slice_bounds-carry_row-end c).In-loop-k))
 
 pub overflow_add-from : goal.overflow_add-from
 overflow_add-from c = omega (arith, from-fits (turn (goal.at.overflow_add-from c).In-loop-k))
@@ -90,11 +90,11 @@ loop-k-preserved c =
     )
 
 pub shape_of-dest : goal.shape_of-dest
-shape_of-dest c = c.loop-k.invariant.3 ∙ c.carry_head.auto.0
+shape_of-dest c = c.loop-k.invariant.3 ∙ c.carry_head.auto.dest
 
 pub returns : goal.returns
 returns c =
     let l = c.loop-k in
     let e : l.k ≡ capacity_of c.args.t.now = omega (arith, l.invariant.0, c.loop-k-test.false, c.capacity-capacity.ensures) in
     let w = c.size_in-width.ensures ∙ ap (stride_in c.args.form 1) c.file_length-file.ensures in
-    all-carried _ _ c.args.form _ _ e (to_end c.args.t.now c.args.form _ _ _ l.dest l.invariant.2 e w (l.invariant.3 ∙ c.carry_head.auto.0 ∙ c.requires.1)) l.invariant.4
+    all-carried _ _ c.args.form _ _ e (to_end c.args.t.now c.args.form _ _ _ l.dest l.invariant.2 e w (l.invariant.3 ∙ c.carry_head.auto.dest ∙ c.requires.1)) l.invariant.4
