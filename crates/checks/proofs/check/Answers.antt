@@ -65,7 +65,7 @@ held c =
     (rw c.used-count.ensures (frame-by _ _ _ f.ordered f.grouped)) c.has_whole-whole.ensures c.held_unless.ensures
 
 -- and 7, of every file
-seven : (c : Else-not-found) →     every (files_of c.args.t.now) (λ q. current (answers c.args.t.now q c.args.r) (has c.args.r)) ≡ true
+seven : (c : Else-not-found) → every (files_of c.args.t.now) (λ q. current (answers c.args.t.now q c.args.r) (has c.args.r)) ≡ true
 seven c = sym c.look_through-found.ensures.current ∙ not-false _ c.if-not-found.false
 
 -- and 8

@@ -30,7 +30,7 @@ left_here : (c : In-loop-k) → let l = c.loop-k in let a = c.args in
     Left a.t.now a.name l.before (get_or a.order.now l.k 0 ∷ drop (l.k + 1) (order_of a.t.now))
 left_here c =
     let l = c.loop-k in
-        subst (Left c.args.t.now c.args.name l.before) (next-left _ c.requires.0 c.args.name c.args.order.now l.k c.requires.1 (some_left c)) l.invariant.1
+    subst (Left c.args.t.now c.args.name l.before) (next-left _ c.requires.0 c.args.name c.args.order.now l.k c.requires.1 (some_left c)) l.invariant.1
 
 pub used-used-requires : goal.used-used-requires
 used-used-requires c = long (sized c.requires.0)
@@ -52,17 +52,17 @@ name-here-requires c = c.row_of.ensures.1
 
 pub returns-then-name-here : goal.returns-then-name-here
 returns-then-name-here c =
-            let a = c.args in
+    let a = c.args in
     let name = name-here (goal.at.returns-then-name-here c).After-name-here in
     let above : a.name ≤ name_of a.t.now (get_or a.order.now c.loop-k.k 0) = omega (arith, name, c.if-name-here.true) in
     (before-is (left_here (goal.at.returns-then-name-here c).In-loop-k) above, ap (λ (x : ℕ). eqb x a.name) name ∙ taken_is (left_here (goal.at.returns-then-name-here c).In-loop-k) above (row_here (goal.at.returns-then-name-here c).In-loop-k))
 
 pub loop-k-preserved : goal.loop-k-preserved
 loop-k-preserved c =
-            (omega (arith, c.loop-k-test.true), one-passed (left_here (goal.at.loop-k-preserved c).In-loop-k) (omega (arith, name-here (goal.at.loop-k-preserved c).After-name-here, c.if-name-here.false)))
+    (omega (arith, c.loop-k-test.true), one-passed (left_here (goal.at.loop-k-preserved c).In-loop-k) (omega (arith, name-here (goal.at.loop-k-preserved c).After-name-here, c.if-name-here.false)))
 
 pub returns : goal.returns
 returns c =
     let l = c.loop-k in
-        let end = subst (Left c.args.t.now c.args.name l.before) (none_left _ c.requires.0 c.args.name l.k (omega (arith, c.loop-k-test.false, c.used-used.ensures))) l.invariant.1 in
+    let end = subst (Left c.args.t.now c.args.name l.before) (none_left _ c.requires.0 c.args.name l.k (omega (arith, c.loop-k-test.false, c.used-used.ensures))) l.invariant.1 in
     (last-is end, free-is end)

@@ -50,7 +50,7 @@ fitting c called e = five-is _ _ called _ _ c.both.ensures e ∙ c.if-not-both.f
 
 -- where it is, as with one byte lent
 with-one : (c : Else-not-both) → c.args.fits ≡ true
-with-one c =     and_r (eqb (length c.args.buffer.now) c.args.count) _ (sym c.both.ensures ∙ c.if-not-both.false)
+with-one c = and_r (eqb (length c.args.buffer.now) c.args.count) _ (sym c.both.ensures ∙ c.if-not-both.false)
 
 -- 6 and 7 are passed
 settled_here : (c : Else-s-ne0) → c.settle-s.result.refusal ≡ 0

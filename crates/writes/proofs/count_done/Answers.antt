@@ -9,7 +9,7 @@ count_one-requires c = c.requires c.if-res-lt4294967296.true
 
 pub returns-then-res-lt4294967296 : goal.returns-then-res-lt4294967296
 returns-then-res-lt4294967296 c =
-            rw (lt-ltb c.args.res (2 ^ 32) c.if-res-lt4294967296.true) c.count_one.ensures
+    rw (lt-ltb c.args.res (2 ^ 32) c.if-res-lt4294967296.true) c.count_one.ensures
 
 pub returns-else-res-lt4294967296 : goal.returns-else-res-lt4294967296
 returns-else-res-lt4294967296 c = rw (le-ltb c.args.res (2 ^ 32) (omega (arith, c.if-res-lt4294967296.false)))
