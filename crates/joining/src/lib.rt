@@ -1,3 +1,2 @@
 // A table with a row more: definitions and laws.
 #![tactic(auto)]
-

@@ -1,5 +1,4 @@
 use native.Mathlib.Omega.{arith}
-use borrow.Author.Rules.{rules}
 use Rattle.table.proofs.WellFormedLaws.{header, long, few-rows}
 use Rattle.admit.proofs.AdmitLaws.{row_fits, link_fits, admitted}
 use Rattle.admit.proofs.admit.Goals as goal
@@ -24,21 +23,21 @@ overflow_add-row c = omega (arith, c.used-used.ensures, few-rows c.requires.0)
 
 pub add_row-requires : goal.add_row-requires
 add_row-requires c =
-                row_fits c.requires.0 c.requires.1 _ _ c.row_length-size.ensures c.used-used.ensures
+    row_fits c.requires.0 c.requires.1 _ _ c.row_length-size.ensures c.used-used.ensures
 
 pub link_row-requires : goal.link_row-requires
 link_row-requires c =
-                rw c.add_row.auto.t (link_fits c.requires.0 c.requires.1 _ _ c.row_length-size.ensures c.requires.2)
+    rw c.add_row.auto.t (link_fits c.requires.0 c.requires.1 _ _ c.row_length-size.ensures c.requires.2)
 
 pub set_used-requires : goal.set_used-requires
 set_used-requires c =
-            omega (arith, c.link_row.auto.t, c.add_row.auto.t, long c.requires.0)
+    omega (arith, c.link_row.auto.t, c.add_row.auto.t, long c.requires.0)
 
 pub set_first-requires : goal.set_first-requires
 set_first-requires c =
-                omega (arith, c.set_used.auto.t, c.link_row.auto.t, c.add_row.auto.t, long c.requires.0)
+    omega (arith, c.set_used.auto.t, c.link_row.auto.t, c.add_row.auto.t, long c.requires.0)
 
 pub returns : goal.returns
 returns c =
-                                        admitted c.requires.0 c.requires.1 _ _ _ _ _ _ _ _ _ _ _ _ c.row_length-size.ensures c.used-used.ensures c.first-first.ensures c.row_behind.ensures c.front.ensures
+    admitted c.requires.0 c.requires.1 _ _ _ _ _ _ _ _ _ _ _ _ c.row_length-size.ensures c.used-used.ensures c.first-first.ensures c.row_behind.ensures c.front.ensures
     c.add_row.ensures c.link_row.ensures c.set_used.ensures c.set_first.ensures

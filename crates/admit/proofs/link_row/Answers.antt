@@ -1,7 +1,6 @@
 use mathlib.Core.Path.{◌≡◌, ◌∙◌, ap}
 use Prim.Native.Nat.{ℕ, suc, ◌+◌, ◌-◌, ◌*◌}
 use native.Mathlib.Omega.{arith}
-use borrow.Author.Rules.{rules}
 use Rattle.blocks.specs.Blocks.{with_block}
 use Rattle.fields.specs.Layout.{store, link}
 use Rattle.admit.proofs.AdmitLaws.{row_ends, block_back}
@@ -30,7 +29,7 @@ slice_bounds-set_link-end c = omega (arith, ends c, c.requires.1)
 
 pub returns : goal.returns
 returns c =
-        let a = c.args in
+    let a = c.args in
     let n = c.set_link in
     let row : suc (a.p - 1) ≡ a.p = omega (arith, c.if-p-eq0.false) in
     block_back _ _ _ (store link a.next) _ (omega (arith, ends (goal.at.returns c).Else-p-eq0, c.requires.1)) n.auto.row n.ensures
