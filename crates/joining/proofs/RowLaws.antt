@@ -3,7 +3,7 @@ use mathlib.Core.Path.{◌≡◌, refl, sym, ◌∙◌, ap, ap₂, subst}
 use mathlib.Core.Bool.{Bool, true, false, cond, ◌&&◌}
 use mathlib.Core.Logic.{◌⊎◌, ⊎_elim, inl, inr}
 use mathlib.Core.List.{List}
-use Prim.Native.Nat.{ℕ, zero, suc, ◌+◌, ◌*◌, ◌≤◌, ◌<◌}
+use Prim.Native.Nat.{ℕ, suc, ◌+◌, ◌*◌, ◌≤◌, ◌<◌}
 use native.Mathlib.Nat.{lt_of_lt_of_le}
 use native.Mathlib.Omega.{arith}
 use lib.Dec.{eqb, leb}
@@ -25,7 +25,7 @@ use Rattle.counties.proofs.AlikeLaws.{mark-same}
 use Rattle.table.specs.WellFormed.{between, limit, well_formed, header_values, length_right, unused_zero}
 use Rattle.table.proofs.FormLaws.{is-between, HeadFacts, CopyFacts, OneList, OneShape, Formed, formed, blank-facts, empty-mark}
 use Rattle.table.proofs.CountyLaws.{county-at}
-use Rattle.table.proofs.WellFormedLaws.{sized, header, linked, length-is, row-long}
+use Rattle.table.proofs.WellFormedLaws.{sized, header, length-is, row-long}
 use Rattle.table.proofs.RisingLaws.{order-within}
 use Rattle.linking.specs.Linking.{behind}
 use Rattle.joining.specs.Joining.{row_before}

@@ -1,4 +1,3 @@
-use borrow.Author.Rules.{rules}
 use Rattle.admit.proofs.AdmitLaws.{block_back}
 use Rattle.admit.proofs.add_row.Goals as goal
 

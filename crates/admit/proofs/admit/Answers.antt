@@ -1,5 +1,4 @@
 use native.Mathlib.Omega.{arith}
-use borrow.Author.Rules.{rules}
 use Rattle.table.proofs.WellFormedLaws.{header, long, few-rows}
 use Rattle.admit.proofs.AdmitLaws.{row_fits, link_fits, admitted}
 use Rattle.admit.proofs.admit.Goals as goal

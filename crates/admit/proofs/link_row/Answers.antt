@@ -1,7 +1,6 @@
 use mathlib.Core.Path.{◌≡◌, ◌∙◌, ap}
 use Prim.Native.Nat.{ℕ, suc, ◌+◌, ◌-◌, ◌*◌}
 use native.Mathlib.Omega.{arith}
-use borrow.Author.Rules.{rules}
 use Rattle.blocks.specs.Blocks.{with_block}
 use Rattle.fields.specs.Layout.{store, link}
 use Rattle.admit.proofs.AdmitLaws.{row_ends, block_back}

@@ -1,4 +1,3 @@
-use borrow.Author.Rules.{rules}
 use Rattle.joining.specs.Joining.{named_row}
 use Rattle.admit.proofs.name_row.Goals as goal
 

@@ -1,6 +1,5 @@
 use mathlib.Core.Path.{◌∙◌, ap}
 use Rattle.protocol.specs.Rows.{enrolled_row}
-use borrow.Author.Rules.{rules}
 use Rattle.enroll.proofs.check_row.Goals as goal
 
 pub returns : goal.returns

@@ -4,17 +4,15 @@ use mathlib.Core.List.{List}
 use Prim.Native.Nat.{ℕ, ◌+◌, ◌*◌}
 use Rattle.fields.specs.declared.Laid.{Laid}
 use native.Mathlib.Omega.{arith}
-use borrow.Author.Rules.{rules}
-use borrow.Author.Tests.{not-true, not-false}
-use Rattle.store.proofs.RowsLaws.{Done, none_done, turn-fits, turn-long, turn-done, done-long, done_all}
+use borrow.Author.Tests.{not-false}
+use Rattle.store.proofs.RowsLaws.{none_done, turn-fits, turn-long, turn-done, done-long, done_all}
 use Rattle.blocks.specs.Blocks.{with_blocks}
 use Rattle.protocol.specs.Rows.{enrolled_row, checked_row}
 use Rattle.table.proofs.WellFormedLaws.{long, header}
 use Rattle.fields.specs.Layout.{copy_length, in_copies, used_of, files_of, file_length_of, row_length}
 use Rattle.fields.proofs.FieldLaws.{row-newest, stride-is}
 use Rattle.fields.proofs.FieldLaws as Fields
-use Rattle.enroll.specs.Files.{by_file}
-use Rattle.sets.proofs.MemberLaws.{only, Taken, none-taken, all-taken, in-set, not_yet, fewer-left, one-taken}
+use Rattle.sets.proofs.MemberLaws.{only, none-taken, all-taken, in-set, not_yet, fewer-left, one-taken}
 use Rattle.sets.specs.Sets.{has, no_row, joining}
 use Rattle.sets.specs.Upto.{Within, some}
 use Rattle.enroll.proofs.check_rows.Goals.{After-lowest-i}

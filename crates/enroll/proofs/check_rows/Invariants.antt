@@ -1,22 +1,11 @@
-use mathlib.Core.Bool.{Bool, true, false}
-use mathlib.Core.Path.{◌≡◌, sym, ◌∙◌, ap, ap₂}
-use mathlib.Core.List.{List}
-use Prim.Native.Nat.{ℕ, ◌+◌, ◌*◌}
-use Rattle.fields.specs.declared.Laid.{Laid}
-use native.Mathlib.Omega.{arith}
-use borrow.Author.Rules.{rules}
-use borrow.Author.Tests.{not-true, not-false}
-use Rattle.store.proofs.RowsLaws.{Done, none_done, turn-fits, turn-long, turn-done, done-long, done_all}
-use Rattle.blocks.specs.Blocks.{with_blocks}
-use Rattle.protocol.specs.Rows.{enrolled_row, checked_row}
-use Rattle.table.proofs.WellFormedLaws.{long, header}
-use Rattle.fields.specs.Layout.{copy_length, in_copies, used_of, files_of, file_length_of, row_length}
-use Rattle.fields.proofs.FieldLaws.{row-newest, stride-is}
-use Rattle.fields.proofs.FieldLaws as Fields
+use mathlib.Core.Bool.{Bool}
+use Prim.Native.Nat.{ℕ}
+use Rattle.store.proofs.RowsLaws.{Done}
+use Rattle.protocol.specs.Rows.{checked_row}
+use Rattle.fields.specs.Layout.{files_of, file_length_of}
 use Rattle.enroll.specs.Files.{by_file}
-use Rattle.sets.proofs.MemberLaws.{only, Taken, none-taken, all-taken, in-set, not_yet, fewer-left, one-taken}
-use Rattle.sets.specs.Sets.{has, no_row, joining}
-use Rattle.sets.specs.Upto.{Within, some}
+use Rattle.sets.proofs.MemberLaws.{Taken}
+use Rattle.sets.specs.Sets.{has}
 use Rattle.enroll.proofs.check_rows.Given as goal
 
 -- the rows taken so far are enrolled

@@ -1,4 +1,3 @@
-use borrow.Author.Rules.{rules}
 use Rattle.protocol.specs.Rows.{enrolled_row}
 use Rattle.enroll.proofs.enroll_row.Goals as goal
 

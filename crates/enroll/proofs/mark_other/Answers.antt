@@ -2,7 +2,6 @@ use Prim.Native.Nat.{◌+◌, ◌-◌, ◌*◌, ◌≤◌}
 use native.Mathlib.Omega.{arith}
 use lib.ListN.{length}
 use Rattle.table.proofs.CopyLaws.{copy-inside, copy-back}
-use borrow.Author.Rules.{rules}
 use Rattle.enroll.proofs.mark_other.Goals.{Start}
 use Rattle.enroll.proofs.mark_other.Goals as goal
 

@@ -1,13 +1,10 @@
-use mathlib.Core.Path.{◌≡◌, refl, ◌∙◌, ap}
-use mathlib.Core.Bool.{Bool, true, false, not, cond}
+use mathlib.Core.Path.{◌≡◌}
+use mathlib.Core.Bool.{not}
 use mathlib.Core.List.{List}
-use Prim.Native.Nat.{ℕ, suc, ◌+◌, ◌-◌, ◌≤◌}
-use native.Mathlib.Nat.{mul-le-mul_right}
-use native.Mathlib.Omega.{arith}
-use borrow.Author.Rules.{rules}
-use lib.ListN.{length, get_or}
+use Prim.Native.Nat.{ℕ, ◌-◌, ◌≤◌}
+use lib.ListN.{length}
 use Rattle.sets.specs.Sets.{has}
-use Rattle.blocks.specs.Blocks.{with_block, with_blocks}
+use Rattle.blocks.specs.Blocks.{with_blocks}
 use Rattle.protocol.specs.Rows.{marked_copy}
 use Rattle.enroll.specs.Files.{by_file}
 use Rattle.enroll.proofs.mark_others.Given as goal

@@ -1,15 +1,8 @@
-use mathlib.Core.Path.{◌≡◌, refl, ◌∙◌, ap}
-use mathlib.Core.Bool.{Bool, ◌&&◌}
-use Prim.Native.Nat.{ℕ, ◌-◌, ◌≤◌, ◌<◌}
-use native.Mathlib.Omega.{arith}
-use borrow.Author.Rules.{rules}
-use borrow.Author.Tests.{eq-eqb, ne_eqb}
-use lib.ListN.{length}
+use mathlib.Core.Path.{◌≡◌}
+use Prim.Native.Nat.{◌-◌, ◌≤◌}
 use Rattle.sets.specs.Upto.{every}
 use Rattle.table.specs.WellFormed.{is_county}
 use Rattle.counties.specs.Counties.{county_at}
-use Rattle.octets.proofs.CodeLaws.{number-one}
-use Rattle.founding.proofs.FoundingLaws.{places-turn}
 use Rattle.founding.proofs.counties_right.Given as goal
 
 abbrev pub invariant-loop-i : goal.invariant-loop-i

@@ -1,10 +1,6 @@
-use mathlib.Core.Path.{◌≡◌, refl, ◌∙◌}
-use mathlib.Core.Bool.{◌&&◌}
-use Prim.Native.Nat.{◌-◌, ◌≤◌}
+use mathlib.Core.Path.{refl, ◌∙◌}
 use native.Mathlib.Omega.{arith}
-use borrow.Author.Rules.{rules}
-use lib.ListN.{drop}
-use Rattle.protocol.specs.Calls.{names_in, names_rising}
+use Rattle.protocol.specs.Calls.{names_in}
 use Rattle.laying.proofs.NameLaws.{name-at}
 use Rattle.founding.proofs.FoundingLaws.{rise-turn, rise-end}
 use Rattle.founding.proofs.names_rise.Goals as goal

@@ -1,12 +1,8 @@
-use mathlib.Core.Path.{◌≡◌, refl, ◌∙◌}
+use mathlib.Core.Path.{◌≡◌}
 use mathlib.Core.Bool.{◌&&◌}
 use Prim.Native.Nat.{◌-◌, ◌≤◌}
-use native.Mathlib.Omega.{arith}
-use borrow.Author.Rules.{rules}
 use lib.ListN.{drop}
 use Rattle.protocol.specs.Calls.{names_in, names_rising}
-use Rattle.laying.proofs.NameLaws.{name-at}
-use Rattle.founding.proofs.FoundingLaws.{rise-turn, rise-end}
 use Rattle.founding.proofs.names_rise.Given as goal
 
 abbrev pub invariant-loop-i : goal.invariant-loop-i

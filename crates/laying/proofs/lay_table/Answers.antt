@@ -1,11 +1,10 @@
 use mathlib.Core.Path.{◌≡◌, refl, sym, ◌∙◌, ap, ap₂}
-use Prim.Native.Nat.{ℕ, ◌+◌, ◌-◌, ◌*◌, ◌/◌, ◌≤◌, ◌<◌}
+use Prim.Native.Nat.{ℕ, ◌+◌, ◌*◌, ◌/◌, ◌<◌}
 use native.Mathlib.Omega.{arith}
-use borrow.Author.Rules.{rules}
 use lib.Dec.{eqb}
 use lib.ListN.{length}
 use Rattle.fields.specs.Layout.{body_length, stride}
-use Rattle.laying.proofs.LaidLaws.{LaidOut, none-laid, all_laid, Turn, laid-fits, lent-zeros, laid-long, laid-turn, all-rows}
+use Rattle.laying.proofs.LaidLaws.{none-laid, all_laid, Turn, laid-fits, lent-zeros, laid-long, laid-turn, all-rows}
 use Rattle.laying.proofs.NameLaws.{name-at, place_at}
 use Rattle.octets.proofs.ByteLaws.{length-zeros}
 use Rattle.counties.specs.Counties.{county_at}

@@ -1,16 +1,10 @@
-use mathlib.Core.Path.{◌≡◌, refl, sym, ◌∙◌, ap, ap₂}
-use Prim.Native.Nat.{ℕ, ◌+◌, ◌-◌, ◌*◌, ◌/◌, ◌≤◌, ◌<◌}
-use native.Mathlib.Omega.{arith}
-use borrow.Author.Rules.{rules}
-use lib.Dec.{eqb}
+use mathlib.Core.Path.{◌≡◌}
+use Prim.Native.Nat.{◌-◌, ◌≤◌}
 use lib.ListN.{length}
-use Rattle.fields.specs.Layout.{body_length, stride}
-use Rattle.laying.proofs.LaidLaws.{LaidOut, none-laid, all_laid, Turn, laid-fits, lent-zeros, laid-long, laid-turn, all-rows}
-use Rattle.laying.proofs.NameLaws.{name-at, place_at}
-use Rattle.octets.proofs.ByteLaws.{length-zeros}
+use Rattle.fields.specs.Layout.{body_length}
+use Rattle.laying.proofs.LaidLaws.{LaidOut}
 use Rattle.counties.specs.Counties.{county_at}
-use Rattle.counties.specs.Marks.{laid_now}
-use Rattle.protocol.specs.Calls.{names_in, founded_list}
+use Rattle.protocol.specs.Calls.{names_in}
 use Rattle.laying.proofs.lay_table.Given as goal
 
 abbrev pub invariant-loop-i : goal.invariant-loop-i

@@ -1,5 +1,4 @@
 use borrow.Author.Tests.{eq-eqb, ne_eqb}
-use borrow.Author.Rules.{rules}
 use Rattle.laying.proofs.next_row.Goals as goal
 
 pub returns-then-i-n : goal.returns-then-i-n

@@ -1,15 +1,9 @@
-use borrow.Author.Rules.{rules}
 use mathlib.Core.Bool.{true}
-use mathlib.Core.Path.{◌≡◌, refl, sym, ◌∙◌, ap}
-use Prim.Native.Nat.{ℕ, ◌+◌, ◌-◌, ◌≤◌}
-use native.Mathlib.Omega.{arith}
-use borrow.Author.Tests.{not-true, not-false}
+use mathlib.Core.Path.{◌≡◌}
+use Prim.Native.Nat.{◌-◌, ◌≤◌}
 use Rattle.sets.specs.Upto.{every}
-use Rattle.sets.proofs.TestLaws.{every_more, every-not}
-use Rattle.fields.specs.Layout.{used_of, row_bytes}
+use Rattle.fields.specs.Layout.{row_bytes}
 use Rattle.table.specs.WellFormed.{plain}
-use Rattle.table.proofs.WellFormedLaws.{long}
-use Rattle.carrying.specs.Moves.{all_plain}
 use Rattle.moves.proofs.all_plain.Given as goal
 
 abbrev pub invariant-loop-k : goal.invariant-loop-k

@@ -1,6 +1,5 @@
 use mathlib.Core.Path.{◌∙◌, ap}
 use Rattle.fields.specs.Layout.{store, former_oldest}
-use borrow.Author.Rules.{rules}
 use Rattle.moves.proofs.carry_front.Goals as goal
 
 pub returns : goal.returns

@@ -1,5 +1,4 @@
 use Rattle.moves.proofs.MoveLaws.{head-made}
-use borrow.Author.Rules.{rules}
 use Rattle.moves.proofs.carry_head.Goals as goal
 
 pub returns : goal.returns

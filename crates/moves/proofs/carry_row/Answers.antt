@@ -1,5 +1,4 @@
 use Rattle.moves.proofs.MoveLaws.{row_made}
-use borrow.Author.Rules.{rules}
 use Rattle.moves.proofs.carry_row.Goals as goal
 
 pub returns : goal.returns

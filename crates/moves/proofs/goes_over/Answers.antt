@@ -1,5 +1,4 @@
 use Rattle.carrying.specs.Moves.{goes_over}
-use borrow.Author.Rules.{rules}
 use Rattle.moves.proofs.goes_over.Goals as goal
 
 pub returns : goal.returns

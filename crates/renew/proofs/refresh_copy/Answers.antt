@@ -4,7 +4,6 @@ use Prim.Native.Nat.{ℕ, ◌-◌}
 use Rattle.window.specs.Windows.{window_of}
 use Rattle.windows.specs.Visits.{RightFor}
 use Rattle.renew.proofs.SendLaws.{all-sent}
-use borrow.Author.Rules.{rules}
 use Rattle.renew.proofs.refresh_copy.Goals as goal
 
 pub send_contents-requires : goal.send_contents-requires

@@ -5,7 +5,6 @@ use lib.ListN.{length}
 use Rattle.window.specs.Windows.{window_of}
 use Rattle.windows.specs.Visits.{RightFor}
 use Rattle.table.proofs.CopyLaws.{copy-inside, copy-long, copy-back}
-use borrow.Author.Rules.{rules}
 use Rattle.renew.proofs.refresh_row.Goals.{Start}
 use Rattle.renew.proofs.refresh_row.Goals as goal
 

@@ -1,4 +1,3 @@
-use borrow.Author.Rules.{rules}
 use Rattle.renew.proofs.renew_copy.Goals as goal
 
 pub returns : goal.returns

@@ -1,5 +1,4 @@
 use Rattle.renew.proofs.SendLaws.{records-long, both_long, right-cut, sent-in}
-use borrow.Author.Rules.{rules}
 use Rattle.renew.proofs.send_contents.Goals as goal
 
 pub sent_over-requires : goal.sent_over-requires

@@ -2,7 +2,6 @@ use mathlib.Core.Path.{◌∙◌, ap}
 use Prim.Native.Nat.{ℕ}
 use Rattle.fields.specs.Layout.{store, oldest}
 use Rattle.renew.proofs.SendLaws.{took-over}
-use borrow.Author.Rules.{rules}
 use Rattle.renew.proofs.take_window.Goals as goal
 
 pub returns : goal.returns

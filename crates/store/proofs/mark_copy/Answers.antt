@@ -1,4 +1,3 @@
-use borrow.Author.Rules.{rules}
 use Rattle.protocol.specs.Rows.{marked_copy}
 use Rattle.store.proofs.mark_copy.Goals as goal
 

@@ -3,7 +3,6 @@ use mathlib.Core.Logic.{inr}
 use mathlib.Core.List.{List}
 use Prim.Native.Nat.{ℕ, ◌+◌, ◌≤◌}
 use native.Mathlib.Omega.{arith}
-use borrow.Author.Rules.{rules}
 use lib.ListN.{length}
 use Rattle.fields.specs.Layout.{store, version, store_contents}
 use Rattle.fields.proofs.FieldLaws.{length-store, length-contents}

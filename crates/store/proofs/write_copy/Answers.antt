@@ -1,4 +1,3 @@
-use borrow.Author.Rules.{rules}
 use Rattle.store.proofs.write_copy.Goals as goal
 
 pub returns-then-good : goal.returns-then-good

@@ -1,17 +1,16 @@
-use mathlib.Core.Bool.{Bool, true, false}
+use mathlib.Core.Bool.{true, false}
 use mathlib.Core.Path.{◌≡◌, sym, ◌∙◌, ap}
 use Prim.Native.Nat.{ℕ, ◌+◌, ◌*◌}
 use native.Mathlib.Nat.{mul-le-mul_right}
 use native.Mathlib.Omega.{arith}
-use borrow.Author.Rules.{rules}
-use borrow.Author.Tests.{not-true, not-false}
-use Rattle.store.proofs.RowsLaws.{Done, none_done, turn-fits, turn-long, turn-row, turn-done, done-long, done_all}
+use borrow.Author.Tests.{not-false}
+use Rattle.store.proofs.RowsLaws.{none_done, turn-fits, turn-long, turn-row, turn-done, done-long, done_all}
 use Rattle.protocol.specs.Rows.{wrote_copy}
 use Rattle.table.proofs.WellFormedLaws.{long, header}
 use Rattle.fields.specs.Layout.{copy_length, copy_in, in_copy, used_of, files_of, file_length_of, row_length, copy_bytes}
 use Rattle.fields.proofs.FieldLaws.{row-newest, stride-is}
 use Rattle.fields.proofs.FieldLaws as Fields
-use Rattle.sets.proofs.MemberLaws.{only, Taken, none-taken, all-taken, in-set, not_yet, fewer-left, one-taken}
+use Rattle.sets.proofs.MemberLaws.{only, none-taken, all-taken, in-set, not_yet, fewer-left, one-taken}
 use Rattle.sets.specs.Sets.{has, no_row, joining}
 use Rattle.sets.specs.Upto.{Within, some}
 use Rattle.store.proofs.write_rows.Goals.{After-lowest-i}
