@@ -2,8 +2,6 @@ use mathlib.Core.Path.{◌≡◌, refl, sym, ◌∙◌, ap₂}
 use mathlib.Core.Bool.{Bool, true, ◌&&◌}
 use mathlib.Core.List.{List}
 use Prim.Native.Nat.{ℕ}
-use borrow.Author.Rules.{rules}
-use borrow.Author.Tests.{not-true, not-false}
 use Rattle.bools.proofs.BoolLaws.{and_l, and_r}
 use Rattle.table.specs.WellFormed.{well_formed}
 use Rattle.sheet.specs.Sheet.{sheet_right}
