@@ -2,16 +2,14 @@ use mathlib.Core.Path.{◌≡◌, refl, sym, ◌∙◌, ap}
 use mathlib.Core.Bool.{Bool, true, false, not, ◌&&◌}
 use Prim.Native.Nat.{ℕ, ◌<◌}
 use native.Mathlib.Omega.{arith}
-use borrow.Author.Rules.{rules}
-use borrow.Author.Tests.{not-true, not-false, lt-ltb, le-ltb}
+use borrow.Author.Tests.{lt-ltb, le-ltb}
 use lib.Dec.{eqb}
 use Rattle.sets.specs.Upto.{some}
 use Rattle.fields.specs.Layout.{capacity_of, used_of, name_of}
 use Rattle.table.specs.WellFormed.{between, is_county, well_formed}
 use Rattle.table.proofs.WellFormedLaws.{sized, long, few-rows}
 use Rattle.joining.proofs.FrameLaws.{before-used}
-use Rattle.asking.specs.Asking.{first_no}
-use Rattle.protocol.specs.Calls.{Joining, join, questions}
+use Rattle.protocol.specs.Calls.{Joining, join}
 use Rattle.protocol.proofs.QuestionLaws.{county-is}
 use Rattle.questions.proofs.QuestionLaws.{refused-is}
 use Rattle.joins.proofs.JoinLaws.{name_free, join-answers, join-done}

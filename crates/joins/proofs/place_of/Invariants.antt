@@ -1,15 +1,7 @@
-use mathlib.Core.Path.{◌≡◌, ◌∙◌, ap, subst}
-use mathlib.Core.List.{◌∷◌}
-use Prim.Native.Nat.{ℕ, ◌+◌, ◌-◌, ◌≤◌, ◌<◌}
-use native.Mathlib.Omega.{arith}
-use borrow.Author.Rules.{rules}
-use lib.Dec.{eqb}
-use lib.ListN.{get_or, drop}
-use Rattle.sets.specs.Upto.{Within}
-use Rattle.fields.specs.Layout.{get, name, used_of, name_of}
+use Prim.Native.Nat.{◌-◌, ◌≤◌}
+use lib.ListN.{drop}
 use Rattle.table.specs.Chain.{order_of}
-use Rattle.table.proofs.WellFormedLaws.{sized, long, few-rows}
-use Rattle.joins.proofs.PlaceLaws.{Left, all_left, next-left, none_left, one-passed, before-is, taken_is, last-is, free-is}
+use Rattle.joins.proofs.PlaceLaws.{Left}
 use Rattle.joins.proofs.place_of.Given as goal
 
 abbrev pub invariant-loop-k : goal.invariant-loop-k

@@ -1,6 +1,5 @@
 use mathlib.Core.Path.{ap}
 use Prim.Native.Nat.{ℕ}
-use borrow.Author.Rules.{rules}
 use Rattle.questions.specs.declared.Answered.{Answered}
 use Rattle.questions.proofs.answer_of.Goals as goal
 

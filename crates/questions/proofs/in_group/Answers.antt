@@ -1,4 +1,3 @@
-use borrow.Author.Rules.{rules}
 use Rattle.protocol.specs.Calls.{in_group}
 use Rattle.questions.proofs.in_group.Goals as goal
 

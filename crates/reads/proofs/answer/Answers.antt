@@ -5,8 +5,6 @@ use Prim.Native.Nat.{ℕ}
 use native.Mathlib.Omega.{arith}
 use lib.Dec.{eqb}
 use lib.ListN.{length}
-use borrow.Author.Rules.{rules}
-use borrow.Author.Tests.{not-true, not-false}
 use Rattle.bools.proofs.BoolLaws.{and_r}
 use Rattle.sets.specs.Upto.{Within}
 use Rattle.octets.specs.Bytes.{part}

@@ -1,6 +1,4 @@
 use mathlib.Core.Path.{refl, sym, ◌∙◌}
-use borrow.Author.Rules.{rules}
-use borrow.Author.Tests.{not-true, not-false}
 use Rattle.protocol.specs.Calls.{Reading, lent}
 use Rattle.reads.proofs.ReadLaws.{read_one}
 use Rattle.reads.proofs.read.Goals as goal

@@ -2,15 +2,13 @@ use mathlib.Core.Path.{◌≡◌, refl, sym, ◌∙◌, ap₂}
 use mathlib.Core.Bool.{Bool, true, ◌&&◌}
 use mathlib.Core.List.{List}
 use Prim.Native.Nat.{ℕ}
-use borrow.Author.Rules.{rules}
-use borrow.Author.Tests.{not-true, not-false}
 use Rattle.bools.proofs.BoolLaws.{and_l, and_r}
 use Rattle.table.specs.WellFormed.{well_formed}
 use Rattle.sheet.specs.Sheet.{sheet_right}
 use Rattle.protocol.specs.Calls.{Writing, write, outcome, result_of, noted, lent_sheet}
 use Rattle.settle.proofs.SettleLaws.{known-none}
 use Rattle.effects.proofs.WriteLaws.{one-no, may-count, counted-or-not}
-use Rattle.writes.proofs.write.Goals.{After-answer-a, Else-not-both}
+use Rattle.writes.proofs.write.Goals.{After-answer-a}
 use Rattle.writes.proofs.write.Goals as goal
 
 -- the arguments of the call
@@ -29,20 +27,19 @@ returns-then-not-both c =
     (c.result.ensures ∙ no.0.result, no.0.table, refl, c.note.ensures ∙ no.1, no.0.sheet)
 
 -- both are right
-right : (c : Else-not-both) → (sheet_right c.args.sheet.now ≡ true) × (well_formed c.args.t.now ≡ true)
-right c = let e = one _ _ _ _ _ c.both.ensures c.look-told.ensures.0 c.ordered.ensures.0 ∙ c.if-not-both.false in (and_l _ _ e, and_r (sheet_right _) _ e)
+right : (sheet t : List ℕ) (x y both : Bool) → both ≡ (x && y) → x ≡ sheet_right sheet → y ≡ well_formed t → both ≡ true → (sheet_right sheet ≡ true) × (well_formed t ≡ true)
+right sheet t x y both h ex ey e = let k = one sheet t x y both h ex ey ∙ e in (and_l _ _ k, and_r (sheet_right sheet) _ k)
 
 -- so the call answers as it does with this byte and this sheet
 answered : (c : After-answer-a) → let a = c.args in
     let o = outcome a.t.now (write (writing a.c a.r a.offset a.patch.now a.called.now a.file a.sheet.now a.club)) in
     (c.answer-a.result.result ≡ result_of o) × (c.answer-a.new.t ≡ o.table) × (noted a.called.now c.answer-a.result.called ≡ o.called)
 answered c =
-    let e = one _ _ _ _ _ c.both.ensures c.look-told.ensures.0 c.ordered.ensures.0 ∙ c.if-not-both.false in
-    let y = and_l _ _ e in
+    let y = (right _ _ _ _ _ c.both.ensures c.look-told.ensures.0 c.ordered.ensures.0 c.if-not-both.false).0 in
     c.answer-a.ensures c.args.called.now c.args.sheet.now c.args.club refl y (c.look-told.ensures.1 (c.look-told.ensures.0 ∙ y))
 
 pub answer-a-requires : goal.answer-a-requires
-answer-a-requires c = (c.ordered.ensures.1 (c.ordered.ensures.0 ∙ (right (goal.at.answer-a-requires c).Else-not-both).1), known-none _ _ _)
+answer-a-requires c = (c.ordered.ensures.1 (c.ordered.ensures.0 ∙ (right _ _ _ _ _ c.both.ensures c.look-told.ensures.0 c.ordered.ensures.0 c.if-not-both.false).1), known-none _ _ _)
 
 pub count_done-requires : goal.count_done-requires
 count_done-requires c =
