@@ -3,7 +3,7 @@ use mathlib.Core.Path.{◌≡◌, refl, sym, ◌∙◌, ap}
 use mathlib.Core.Bool.{Bool, true, false, cond}
 use mathlib.Core.Logic.{◌⊎◌, inl, inr}
 use mathlib.Core.List.{List, [], ◌∷◌}
-use Prim.Native.Nat.{ℕ, suc, ◌≤◌, ◌<◌, ◌+◌, ◌*◌, ◌^◌}
+use Prim.Native.Nat.{ℕ, suc, ◌≤◌, ◌<◌, ◌+◌}
 use native.Mathlib.Nat.{zero-add}
 use native.Mathlib.Numerals.{add-one}
 use native.Mathlib.Decide.{ℕ_discrete}
@@ -22,10 +22,6 @@ use Rattle.ordering.specs.Rounds.{writing, Round, round_from, empty_questions, n
 use Rattle.orders.specs.Turns.{Run, stepped, turn, first_questions}
 use Rattle.orders.proofs.OrderLaws.{run, same-run, step-refused, step-65, step-done, step-stop}
 
--- what stands past a list's end
-abbrev pub no_order : Order
-no_order = record { coordinator = 0; length = 0; offset = 0; bytes = []; file = 0; club = 0 }
-
 -- the orders in turn
 unfoldable pub after : ℕ → Run → List Order → Run
 after r x [] = x
@@ -36,9 +32,9 @@ unfoldable pub opened : ℕ → List ℕ → List ℕ → ℕ → Run
 opened r t s n = run (result_number (first_no (first_questions t s r n)) 0) t s
 
 -- ---- the orders from place i on still to come
-pub after-turn : (r : ℕ) (x y : Run) (ys : List Order) (i : ℕ) → i < length ys → y ≡ turn r x (get_or ys i no_order) → after r y (drop (i + 1) ys) ≡ after r x (drop i ys)
+pub after-turn : (r : ℕ) (x y : Run) (ys : List Order) (i : ℕ) (past : Order) → i < length ys → y ≡ turn r x (get_or ys i past) → after r y (drop (i + 1) ys) ≡ after r x (drop i ys)
 unfolding after
-after-turn r x y ys i h e = rw (add-one i, drop-cons ys i no_order h, e)
+after-turn r x y ys i past h e = rw (add-one i, drop-cons ys i past h, e)
 
 pub after-all : (r : ℕ) (x : Run) (ys : List Order) (i : ℕ) → i ≡ length ys → x ≡ after r x (drop i ys)
 unfolding after

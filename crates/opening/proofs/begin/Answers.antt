@@ -1,7 +1,6 @@
 use mathlib.Core.Path.{refl, ◌∙◌, ap}
 use Prim.Native.Nat.{ℕ}
 use native.Mathlib.Omega.{arith}
-use borrow.Author.Rules.{rules}
 use Rattle.asking.specs.Asking.{result_number}
 use Rattle.opening.proofs.begin.Goals as goal
 

@@ -1,11 +1,10 @@
-use mathlib.Core.Path.{◌≡◌, refl, ◌∙◌, ap}
-use Prim.Native.Nat.{ℕ, ◌≤◌, ◌<◌, ◌-◌, ◌/◌, ◌^◌}
+use mathlib.Core.Path.{refl, ◌∙◌, ap}
+use Prim.Native.Nat.{ℕ, ◌<◌, ◌/◌, ◌^◌}
 use native.Mathlib.Omega.{arith}
 use borrow.Author.Rules.{rules}
 use lib.ListN.{length}
 use Rattle.asking.specs.Asking.{result_number}
-use Rattle.orders.specs.Turns.{Ready}
-use Rattle.rounds.proofs.ByteRounds.{broken-stays, broken-no, broken-yes, Left, all_left, one_left, all_done}
+use Rattle.rounds.proofs.ByteRounds.{broken-stays, broken-no, broken-yes, all_left, one_left, all_done}
 use Rattle.rounds.proofs.round_in.Goals.{Start}
 use Rattle.rounds.proofs.round_in.Goals as goal
 
@@ -48,8 +47,8 @@ loop-k-preserved c =
     let l = c.loop-k in
     let a = c.args in (
       omega arith,
-      c.next_in-turn.auto.0 ∙ l.invariant.1,
-      c.next_in-turn.auto.1.0 ∙ l.invariant.2,
+      c.next_in-turn.auto.t ∙ l.invariant.1,
+      c.next_in-turn.auto.sheet ∙ l.invariant.2,
       c.next_in-turn.ensures.1,
       one_left a.t.now a.sheet.now a.r a.list.now (length a.list.now / 16) l.k l.sum _ l.t _ l.sheet _ c.loop-k-test.true l.invariant.4 c.next_in-turn.ensures.0,
     )

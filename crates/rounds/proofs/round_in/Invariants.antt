@@ -1,11 +1,8 @@
-use mathlib.Core.Path.{◌≡◌, refl, ◌∙◌, ap}
-use Prim.Native.Nat.{ℕ, ◌≤◌, ◌<◌, ◌-◌, ◌/◌, ◌^◌}
-use native.Mathlib.Omega.{arith}
-use borrow.Author.Rules.{rules}
+use mathlib.Core.Path.{◌≡◌}
+use Prim.Native.Nat.{◌≤◌, ◌-◌}
 use lib.ListN.{length}
-use Rattle.asking.specs.Asking.{result_number}
 use Rattle.orders.specs.Turns.{Ready}
-use Rattle.rounds.proofs.ByteRounds.{broken-stays, broken-no, broken-yes, Left, all_left, one_left, all_done}
+use Rattle.rounds.proofs.ByteRounds.{Left}
 use Rattle.rounds.proofs.round_in.Given as goal
 
 abbrev pub invariant-loop-k : goal.invariant-loop-k

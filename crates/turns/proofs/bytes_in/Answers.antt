@@ -2,7 +2,6 @@ use mathlib.Core.Bool.{Bool, true, cond}
 use mathlib.Core.Path.{◌≡◌, sym, ◌∙◌, ap}
 use native.Mathlib.Omega.{arith}
 use borrow.Author.Tests.{leb-true}
-use borrow.Author.Rules.{rules}
 use lib.Dec.{leb}
 use Rattle.table.specs.WellFormed.{between}
 use Rattle.bools.proofs.BoolLaws.{and_r}

@@ -1,19 +1,12 @@
-use mathlib.Core.List.{map}
-use mathlib.Core.Path.{◌≡◌, ◌∙◌, ap}
+use mathlib.Core.Path.{◌∙◌, ap}
 use Prim.Native.Nat.{ℕ}
 use native.Mathlib.Nat.{sub-zero}
-use native.Mathlib.Omega.{arith}
-use borrow.Author.Rules.{rules}
-use lib.ListN.{length, take, length-map}
+use lib.ListN.{take}
 use Rattle.ordering.specs.Rounds.{patch_of}
 use Rattle.orders.specs.Turns.{stepped, turn}
 use Rattle.orders.proofs.OrderLaws.{run}
 use Rattle.turns.proofs.TurnLaws.{patch-is, order-writes}
 use Rattle.turns.proofs.next.Goals as goal
-
-pub slice_bounds-step-end : goal.slice_bounds-step-end
-slice_bounds-step-end c =
-    let e : length (map (λ (v : ℕ). v) c.args.o.bytes) ≡ 8 = c.UNKNOWN-well-formed.1.1.1.0.1.1.1.1.1.0.1.0.1 in omega (arith, e, length-map c.args.o.bytes (λ (v : ℕ). v), c.bytes_in-n.ensures.1)
 
 pub returns : goal.returns
 unfolding turn patch_of

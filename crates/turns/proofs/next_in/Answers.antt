@@ -1,5 +1,4 @@
 use mathlib.Core.Path.{◌∙◌, ap}
-use borrow.Author.Rules.{rules}
 use Rattle.orders.specs.Turns.{stepped, turn}
 use Rattle.turns.proofs.TurnLaws.{bytes-write}
 use Rattle.orders.proofs.OrderLaws.{run}
