@@ -14,7 +14,7 @@ use Rattle.ordering.specs.Rounds.{writing}
 
 -- the result so far, the table and the sheet
 pub record Run : Type 0 where
-  pub result_number : ℕ
+  pub result : ℕ
   pub table : List ℕ
   pub sheet : List ℕ
 
