@@ -7,6 +7,7 @@ ghost use Rattle.ordering.specs.Rounds.{order_in};
 ghost use Rattle.orders.specs.Turns.{turn, Ready};
 
 use opening::Standing;
+pub use opening::{asked, begin};
 use ordering::Order;
 use orders::{Turn, step};
 

@@ -8,7 +8,7 @@ ghost use Rattle.protocol.specs.Calls.{result_of, outcome, write};
 
 use asking::result;
 use bools::both;
-use effects::answer;
+pub use effects::answer;
 use rows::RowSet;
 use wellformed::ordered;
 

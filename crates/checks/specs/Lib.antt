@@ -1,0 +1,1 @@
+pub use Rattle.surveys.specs.Surveyed

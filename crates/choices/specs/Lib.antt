@@ -1,0 +1,1 @@
+pub use Rattle.choosing.specs.Choosing
