@@ -144,14 +144,11 @@ fn enter(records: &mut [u8], x: usize, offset: usize, patch: &[u8])
     write_record(&mut records[at..at + WIDTH], offset, patch);
 }
 
-// The right window of a copy is emptied. Where it has no oldest record, it is empty.
+// The window of a copy is emptied.
 fn clear(copy: &mut [u8])
-    requires { (588 ≤ length copy.old) × ((file : ℕ) × RightFor file (window_of copy.old)) }
+    requires { 588 ≤ length copy.old }
     ensures { copy.new ≡ store_window emptied copy.old }
 {
-    if fields::oldest(copy) == 0 {
-        return;
-    }
     fields::set_oldest(copy, 0);
     let at = copy.len() - fields::RECORDS;
     octets::fill(&mut copy[at..], 0);
@@ -166,12 +163,15 @@ fn take_in(records: &mut [u8], youngest: usize, x: usize, offset: usize, patch: 
     enter(records, x, offset, patch);
 }
 
-// The window of a copy takes a patch.
+// The window of a copy takes a patch. Where it has no oldest record, it is empty already.
 pub fn add(copy: &mut [u8], offset: usize, patch: &[u8])
     requires { (588 ≤ length copy.old) × ((file : ℕ) × RightFor file (window_of copy.old)) }
     ensures { copy.new ≡ store_window (added (record { offset = offset; bytes = patch.now }) (window_of copy.old)) copy.old }
 {
     if 32 < patch.len() {
+        if fields::oldest(copy) == 0 {
+            return;
+        }
         return clear(copy);
     }
     let at = copy.len() - fields::RECORDS;
