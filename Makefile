@@ -10,18 +10,20 @@ needs-c = $(call needs,gcc,install a C compiler)$(call needs,g++,install a C++ c
 # Proves every crate, then walks: seven calls on four machines.
 run: check
 	@echo "The walk (step, call, refusal number, value):"
-	@target/bin/walk
+	@cd crates/walk && rt run
 
 # Proofs from nothing, edits that must be refused, programs, and the host's tests.
 test:
 	bash .ci/run
 
 check:
-	$(needs-rt)rt check
+	$(needs-rt)rt all check
 
 # target/staticlib/libdyngrid.a, declared in host/include/dyngrid.h
 lib:
-	$(needs-rt)rt staticlib dyngrid
+	$(needs-rt)cd crates/dyngrid && rt lib
+	mkdir -p target/staticlib
+	cp crates/dyngrid/out/libdyngrid.a target/staticlib/
 
 # target/dist/dyngrid-VERSION.tar.gz: archive, header, pkg-config file, pages, wrapper crate, examples, SHA-256 of each, commit.
 dist: lib

@@ -178,7 +178,7 @@ fn other_marks_are_malformed() {
     }
 }
 
-/// The lines that crates/counties computes from the definitions (`lossLines` of `Shown`): which machines the others cannot do without.
+/// The lines that crates/counties computes from the definitions (`loss_lines` of `Shown`): which machines the others cannot do without.
 #[test]
 fn losses_as_the_definitions_have_them() {
     use Kind::{Read, Write};
@@ -236,7 +236,7 @@ fn the_rule_of_the_page_tells_every_loss() {
     println!("{tried} tables");
 }
 
-/// The lines of `choiceLines`, and every choice with the coordinator is enough, and no more are called.
+/// The lines of `choice_lines`, and every choice with the coordinator is enough, and no more are called.
 #[test]
 fn choices_on_two_levels() {
     let two_of_five = [1, 2].repeat(5);

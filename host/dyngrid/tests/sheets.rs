@@ -66,7 +66,7 @@ fn write(table: &mut Table, sheet: &[u8], club: u64) -> (u64, u8, Vec<u8>) {
     (result >> 32, called[0], lent)
 }
 
-/// The lines that crates/sheet computes from the definitions (`rightLines` of `Shown`), and the rule that the wrapper names.
+/// The lines that crates/sheet computes from the definitions (`right_lines` of `Shown`), and the rule that the wrapper names.
 #[test]
 fn each_rule_of_a_sheet() {
     let three = |total| bytes(&[[5, 9, 5], [4, 4, 3], [0, 8, 2]], total);
@@ -133,7 +133,7 @@ fn wrapper_and_library_judge_alike() {
     assert!(right > 400 && wrong > 400, "{right} {wrong}");
 }
 
-/// The lines of `askedLines`: a club at its ceiling, one below its assured number, one beyond; clubs that there are not.
+/// The lines of `asked_lines`: a club at its ceiling, one below its assured number, one beyond; clubs that there are not.
 #[test]
 fn refused_by_18_and_19() {
     let three = |total| bytes(&[[5, 9, 5], [4, 4, 3], [0, 8, 2]], total);

@@ -95,7 +95,7 @@ pub fn document() -> Result<String, Refusal> {
         "\nThey come from the library. For each laying a table is founded; each machine is left out in turn, and each of the others reads, writes and\n\
          checks, all the others answering. The least layings were sought among all of fewer machines. `make pictures` makes this page and its\n\
          picture anew, and a test compares; another tries the rule on all layings of up to three counties of up to six machines, and of up to eight\n\
-         counties of one or two. What the definitions say of some of them is computed in the proofs (`lossLines` in\n\
+         counties of one or two. What the definitions say of some of them is computed in the proofs (`loss_lines` in\n\
          [`crates/counties/specs/Shown.antt`](../crates/counties/specs/Shown.antt)).\n",
     );
     Ok(text)
