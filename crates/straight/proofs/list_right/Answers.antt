@@ -8,9 +8,6 @@ use Rattle.grouping.specs.Grouped.{county_by}
 use Rattle.table.specs.WellFormed.{limit, only_rows}
 use Rattle.straight.proofs.list_right.Goals as goal
 
-pub returns-then-epoch-gt-LIMIT : goal.returns-then-epoch-gt-LIMIT
-returns-then-epoch-gt-LIMIT c = λ e. absurd (clash e)
-
 pub returns-then-not-only_rows : goal.returns-then-not-only_rows
 returns-then-not-only_rows c = λ e. absurd (clash e)
 
@@ -18,7 +15,7 @@ pub returns : goal.returns
 unfolding limit list
 returns c =
     λ e. (
-      omega (arith, c.if-epoch-gt-LIMIT.false, c.epoch.ensures),
+      omega (arith, c.epoch.ensures),
       ap (λ (x : Laid). only_rows c.args.n x.members) (sym c.list-own.ensures) ∙ sym c.only_rows.ensures ∙ c.if-not-only_rows.false,
       ap (mark_right (county_by c.args.sets.now)) (sym c.list-own.ensures) ∙ sym c.mark_right.ensures ∙ e,
     )

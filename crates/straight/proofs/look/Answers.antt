@@ -31,9 +31,6 @@ placed c =
 pub first-requires : goal.first-requires
 first-requires c = long c.requires.0
 
-pub returns-then-first-ne1 : goal.returns-then-first-ne1
-returns-then-first-ne1 c = λ e. absurd (clash e)
-
 pub files-requires : goal.files-requires
 files-requires c = long c.requires.0
 
@@ -125,4 +122,4 @@ pub returns : goal.returns
 returns c =
     let p = all-passed (goal.at.returns c).After-loop-k in
     let g = grouped c.requires.0 p in
-    λ e. (straight c.requires.0 p (sym c.first.ensures ∙ c.if-first-ne1.false) (subst (λ (y : ℕ → ℕ). Settled c.args.t.now y c.loop-k.other) g.county (c.lists_right.ensures e)), g)
+    λ e. (straight c.requires.0 p (omega (arith, c.first.ensures)) (subst (λ (y : ℕ → ℕ). Settled c.args.t.now y c.loop-k.other) g.county (c.lists_right.ensures e)), g)
