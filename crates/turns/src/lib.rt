@@ -6,10 +6,10 @@ ghost use Rattle.table.specs.WellFormed.{between};
 ghost use Rattle.ordering.specs.Rounds.{order_in};
 ghost use Rattle.orders.specs.Turns.{turn, Ready};
 
-use opening::Standing;
-pub use opening::{asked, begin};
+pub use opening::{First, Standing, asked, begin};
 use ordering::Order;
-use orders::{Turn, step};
+pub use orders::Turn;
+use orders::step;
 
 // As many bytes as an order has: none where their number is wrong.
 fn bytes_in(count: u8) -> usize

@@ -93,9 +93,10 @@ fn step(lines: usize) -> f64 {
 
 fn read(root: &Path) -> Result<Vec<Room>, Box<dyn std::error::Error>> {
     let listed = std::fs::read_to_string(root.join("crates.txt"))?;
-    // A line that begins with # is a heading.
-    let crates = listed.lines().filter(|line| !line.starts_with('#'));
-    let lines: Vec<(&str, &str)> = crates.filter_map(|line| line.split_once(':')).collect();
+    // A line that begins with # is a heading; behind a name a word may say what is built of the crate.
+    let crates = listed.lines().filter(|line| !line.starts_with('#')).filter_map(|line| line.split_once(':'));
+    let lines: Vec<(&str, &str)> =
+        crates.filter_map(|(head, needs)| Some((head.split_whitespace().next()?, needs))).collect();
     let index: BTreeMap<&str, usize> = lines.iter().enumerate().map(|(at, (name, _))| (*name, at)).collect();
     lines
         .iter()

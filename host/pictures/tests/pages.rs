@@ -105,3 +105,18 @@ fn the_first_page_is_short() {
         assert!(first.contains(limit), "the first screen should tell the limit {limit}");
     }
 }
+
+/// The picture of the crates shows each that is listed.
+#[test]
+fn rooms_are_the_crates() {
+    let root = root();
+    let listed = fs::read_to_string(root.join("crates.txt")).expect("crates.txt");
+    let picture = fs::read_to_string(root.join("docs/rooms.svg")).expect("rooms.svg");
+    let heads = listed.lines().filter(|line| !line.starts_with('#')).filter_map(|line| line.split_once(':'));
+    for name in heads.filter_map(|(head, _)| head.split_whitespace().next()) {
+        assert!(
+            picture.contains(&format!(">{name}<")),
+            "{name} is not in docs/rooms.svg: run `make pictures`"
+        );
+    }
+}
