@@ -12,7 +12,7 @@ run: check
 	@echo "The walk (step, call, refusal number, value):"
 	@cd crates/walk && rt run
 
-# Proofs from nothing, edits that must be refused, programs, and the host's tests.
+# Proofs (from nothing where this machine has not passed them yet), edits that must be refused, programs, and the host's tests.
 test:
 	bash .ci/run
 
