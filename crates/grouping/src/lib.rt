@@ -1,19 +1,21 @@
 // The rows of each county, as eight sets: the members in a county, the counties that have some, and the mark of a list.
 #![tactic(auto)]
 
-ghost use Rattle.std.specs.Prelude.{◌≡◌, true, ℕ, ◌+◌, ◌≤◌, ◌<◌, length, get_or};
+ghost use Rattle.std.specs.Prelude.{◌≡◌, true, List, ℕ, ◌+◌, ◌≤◌, ◌<◌, length, get_or, take};
 ghost use Rattle.sets.specs.Upto.{Within};
 ghost use Rattle.sets.specs.Sets.{has};
 ghost use Rattle.fields.specs.Layout.{get, county, used_of, row_length, row_bytes};
-ghost use Rattle.table.specs.Asked.{Sized, Linked};
+ghost use Rattle.table.specs.Asked.{Sized, Linked, Listed};
 ghost use Rattle.counties.specs.Counties.{county_at, in_county, has_members, several};
 ghost use Rattle.counties.specs.Marks.{mark_now, laid_now, mark_right};
 ghost use Rattle.counties.specs.Claims.{InOne};
-ghost use Rattle.grouping.specs.Grouped.{county_by, Apart, Filled, Grouped};
+ghost use Rattle.grouping.specs.Grouped.{county_by, Apart, Filled, Grouped, frame_by};
 
 use bools::{any, both};
 use fields::Laid;
 use rows::RowSet;
+use std::marker::Model;
+use table::Chain;
 
 // Row k + 1 put into the set of its county; before counties came it has none.
 pub fn put(sets: &mut [u64; 8], k: usize, county: u8)
@@ -173,4 +175,46 @@ pub fn mark_right(sets: &[u64; 8], list: Laid) -> bool
         return any(list.mark == 3, list.mark == 2);
     }
     grid::mark_fits(list.mark, members.size())
+}
+
+// The counties of rows: eight sets in an array, that of county 1 first.
+#[derive(Drop)]
+pub struct Counties<'a> {
+    sets: &'a [u64; 8],
+}
+
+impl<'a> Model for Counties<'a> {
+    ghost Value = { List ℕ };
+
+    ghost view = { λ c. c.sets.now };
+
+    ghost invariant = { λ c. Apart c.sets.now };
+}
+
+impl<'a> Counties<'a> {
+    pub fn new(sets: &'a [u64; 8]) -> Counties<'a>
+        requires { Apart sets.now }
+        ensures { result ≡ sets.now }
+    {
+        Counties { sets: sets }
+    }
+}
+
+// What is known of all rows, whether they answer or not: their chain order and their counties.
+#[derive(Drop)]
+pub struct Frame<'a> {
+    pub chain: Chain<'a>,
+    pub counties: Counties<'a>,
+}
+
+impl<'a> Frame<'a> {
+    pub fn new(order: &'a [u8; 64], n: usize, sets: &'a [u64; 8]) -> Frame<'a>
+        requires { Listed n order.now n × Apart sets.now }
+        ensures { result ≡ record { chain = take n order.now; counties = sets.now } }
+    {
+        Frame {
+            chain: Chain::new(order, n),
+            counties: Counties::new(sets),
+        }
+    }
 }

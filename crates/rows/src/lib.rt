@@ -165,10 +165,43 @@ impl RowSet {
         }
     }
 
+    // Its members, the lowest first.
+    pub fn members(self) -> Members
+        ensures { result ≡ record { left = self } }
+    {
+        Members { left: self }
+    }
+
     // Has it no member?
     pub fn is_empty(self) -> bool
         ensures { result ≡ not (some 64 (has self.bits)) }
     {
         self.bits == 0
+    }
+}
+
+// The members of a set, the lowest first.
+#[derive(Clone, Copy)]
+pub struct Members {
+    pub left: RowSet,
+}
+
+impl Iterator for Members {
+    type Item = usize;
+
+    ghost use Rattle.std.specs.Iterator.{at_most};
+    ghost use Rattle.rows.specs.Members.{TakesLowest};
+
+    ghost next_gives = { TakesLowest };
+
+    ghost remaining = { λ m. at_most m.left.bits };
+
+    fn next(&mut self) -> Option<usize> {
+        if self.left.is_empty() {
+            return None;
+        }
+        let i = self.left.lowest();
+        self.left = self.left.rest();
+        Some(i)
     }
 }
