@@ -1,5 +1,5 @@
 use mathlib.Core.Bool.{true, false, and-false}
-use mathlib.Core.Path.{◌≡◌, sym, ap, ◌∙◌}
+use mathlib.Core.Path.{◌≡◌, refl, sym, ap, ◌∙◌}
 use Prim.Native.Nat.{ℕ, ◌+◌}
 use native.Mathlib.Omega.{arith}
 use native.Mathlib.Nat.{mod-lt}
@@ -21,8 +21,8 @@ returns-then-length-gt64 c =
 pub read_choice-set-requires : goal.read_choice-set-requires
 read_choice-set-requires c = (c.requires (omega arith), omega arith, omega arith)
 
-pub overflow_add-wrap : goal.overflow_add-wrap
-overflow_add-wrap c =
+pub overflow_add-name : goal.overflow_add-name
+overflow_add-name c =
     let a = c.args in
     omega (arith, mod-lt a.name {m = a.g.cols} (omega arith))
 
@@ -31,18 +31,16 @@ with_column-requires c =
     let a = c.args in
     let h = mod-lt a.name {m = a.g.cols} (omega arith) in (omega arith, omega arith, omega arith)
 
-pub returns-then-is_write : goal.returns-then-is_write
-returns-then-is_write c =
+pub returns-in-Write : goal.returns-in-Write
+returns-in-Write c =
     let a = c.args in
-    let w = c.is_write in
-    let kind : is_write a.kind ≡ true = sym w.ensures ∙ c.if-is_write.true in
+    let kind : is_write a.kind ≡ true = ap is_write c.in-Write.is in
     rw (le-leb 1 a.g.cols (omega arith), le-leb a.length 64 (omega arith))
-    (c.with_column.ensures ∙ choice-write a.kind a.g a.length a.name kind _ _ (ap (λ (x : ℕ). x + 1) c.wrap.ensures) c.read_choice-set.ensures)
+    (c.with_column.ensures ∙ choice-write a.kind a.g a.length a.name kind _ _ refl c.read_choice-set.ensures)
 
-pub returns-else-is_write : goal.returns-else-is_write
-returns-else-is_write c =
+pub returns-in-Read : goal.returns-in-Read
+returns-in-Read c =
     let a = c.args in
-    let w = c.is_write in
-    let kind : is_write a.kind ≡ false = sym w.ensures ∙ c.if-is_write.false in
+    let kind : is_write a.kind ≡ false = ap is_write c.in-Read.is in
     rw (le-leb 1 a.g.cols (omega arith), le-leb a.length 64 (omega arith))
     (c.read_choice-set.ensures ∙ choice-read a.kind a.g a.length a.name kind)
