@@ -1,6 +1,6 @@
 use mathlib.Core.Bool.{true, false, and-false}
-use mathlib.Core.Path.{◌≡◌, refl, sym, ap, ◌∙◌}
-use Prim.Native.Nat.{ℕ, ◌+◌}
+use mathlib.Core.Logic.{inl, inr}
+use mathlib.Core.Path.{◌≡◌, refl, ap, ◌∙◌}
 use native.Mathlib.Omega.{arith}
 use native.Mathlib.Nat.{mod-lt}
 use borrow.Author.Tests.{le-leb, lt-leb}
@@ -11,12 +11,9 @@ use Rattle.sets.proofs.SetLaws.{has-empty}
 use Rattle.coterie.proofs.choices.choose.Goals as goal
 
 pub returns-then-columns-eq0 : goal.returns-then-columns-eq0
-returns-then-columns-eq0 c = rw c.if-columns-eq0.true has-empty
-
-pub returns-then-length-gt64 : goal.returns-then-length-gt64
-returns-then-length-gt64 c =
+returns-then-columns-eq0 c =
     let a = c.args in
-    rw (lt-leb a.length 64 c.if-length-gt64.true, and-false (leb 1 a.g.cols)) has-empty
+    elim c.then-columns-eq0.either [ inl e ↦ rw e has-empty | inr h ↦ rw (lt-leb a.length 64 h.1, and-false (leb 1 a.g.cols)) has-empty ]
 
 pub read_choice-set-requires : goal.read_choice-set-requires
 read_choice-set-requires c = (c.requires (omega arith), omega arith, omega arith)

@@ -1,6 +1,6 @@
 use mathlib.Core.Path.{◌≡◌, sym, ap, ◌∙◌}
 use mathlib.Core.Bool.{Bool, not, true, false}
-use mathlib.Core.Logic.{inl, inr}
+use mathlib.Core.Logic.{⊎_elim, inl, inr}
 use Prim.Native.Nat.{ℕ}
 use native.Mathlib.Omega.{arith}
 use Rattle.coterie.proofs.TurnLaws.{holds-no, holds-yes, missed-is, none-missed}
@@ -18,11 +18,7 @@ touched-is c = c.fills.ensures ∙ every-ext _ _ _ c.columns_of-touched.ensures
 
 pub returns-then-columns-eq0 : goal.returns-then-columns-eq0
 returns-then-columns-eq0 c =
-    let a = c.args in holds-no a.g a.length (has a.held.bits) a.kind (inl c.if-columns-eq0.true)
-
-pub returns-then-length-gt64 : goal.returns-then-length-gt64
-returns-then-length-gt64 c =
-    let a = c.args in holds-no a.g a.length (has a.held.bits) a.kind (inr (inl c.if-length-gt64.true))
+    let a = c.args in holds-no a.g a.length (has a.held.bits) a.kind (⊎_elim inl (λ h. inr (inl h.1)) c.then-columns-eq0.either)
 
 pub returns-then-not-fills : goal.returns-then-not-fills
 returns-then-not-fills c =
