@@ -35,7 +35,7 @@ pub fn follow(t: &[u8], order: &mut [u8; 64]) -> bool
         next = fields::link(behind) as usize;
         count += 1;
     }
-    while count < used {
+    for place in count..used {
         if next == 0 {
             return false;
         }
@@ -44,11 +44,10 @@ pub fn follow(t: &[u8], order: &mut [u8; 64]) -> bool
         if name <= low {
             return false;
         }
-        rows[count] = next as u8;
+        rows[place] = next as u8;
         seen = seen.add(next - 1, true);
         low = name;
         next = fields::link(row) as usize;
-        count += 1;
     }
     both(next == 0, seen.fills(used))
 }

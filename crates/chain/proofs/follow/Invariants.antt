@@ -23,9 +23,6 @@ abbrev pub decreases-loop-next : goal.decreases-loop-next
 decreases-loop-next l = l.used - l.count
 
 -- the walk goes on where the first loop left it, whatever array that was lent
-abbrev pub invariant-loop-count : goal.invariant-loop-count
-invariant-loop-count l =
-    (lent : List ℕ) → Walked l.t lent l.initial.rows (has l.initial.seen.bits) l.initial.low l.initial.count l.initial.next → Walked l.t lent l.rows (has l.seen.bits) l.low l.count l.next
-
-abbrev pub decreases-loop-count : goal.decreases-loop-count
-decreases-loop-count l = l.used - l.count
+abbrev pub invariant-loop-place : goal.invariant-loop-place
+invariant-loop-place l =
+    (lent : List ℕ) → Walked l.t lent l.initial.rows (has l.initial.seen.bits) l.initial.low l.initial.place l.initial.next → Walked l.t lent l.rows (has l.seen.bits) l.low l.place l.next
