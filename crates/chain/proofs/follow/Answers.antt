@@ -76,9 +76,6 @@ bounds-rows-count c =
 pub link-next-requires : goal.link-next-requires
 link-next-requires c = c.row_at-behind.ensures.1
 
-pub overflow_add-count : goal.overflow_add-count
-overflow_add-count c = omega (arith, row-behind (goal.at.overflow_add-count c).In-loop-next)
-
 pub loop-next-smaller : goal.loop-next-smaller
 loop-next-smaller c = omega (arith, row-behind (goal.at.loop-next-smaller c).In-loop-next)
 
