@@ -1,12 +1,11 @@
 use mathlib.Core.Bool.{Bool, ◌&&◌}
 use mathlib.Core.List.{List}
 use mathlib.Core.Path.{◌≡◌, refl, sym, ◌∙◌, ap}
-use Prim.Native.Nat.{ℕ, ◌+◌, ◌-◌, ◌%◌, ◌≤◌, ◌<◌}
+use Prim.Native.Nat.{ℕ, ◌+◌, ◌-◌, ◌%◌, ◌<◌}
 use native.Mathlib.Nat.{mod-eq_of_lt}
 use native.Mathlib.Omega.{arith}
 use lib.Dec.{eqb}
 use lib.ListN.{set}
-use borrow.Author.Rules.{rules}
 use Rattle.bools.proofs.BoolLaws.{clash}
 use Rattle.sets.specs.Sets.{has, gaining}
 use Rattle.sets.specs.Upto.{Within, every}
@@ -48,7 +47,7 @@ pub first-next-requires : goal.first-next-requires
 first-next-requires c = long c.requires.sized
 
 pub loop-next-init : goal.loop-next-init
-loop-next-init c = walk_start c.requires _ _ c.rows-1.given.0.1 c.first-next.ensures
+loop-next-init c = walk_start c.requires _ _ c.told-order c.first-next.ensures
 
 pub row_at-behind-requires : goal.row_at-behind-requires
 row_at-behind-requires c =
@@ -62,16 +61,16 @@ returns-then-own-low c =
     let w = c.loop-next.invariant in
     (walk-falls w (omega (arith, c.loop-next-test.true)) (omega (arith, c.if-own-low.true, name-behind (goal.at.returns-then-own-low c).After-name-own)), λ e. absurd (clash e), left-falls w (omega (arith, c.if-own-low.true, name-behind (goal.at.returns-then-own-low c).After-name-own)))
 
-pub overflow_add-rows : goal.overflow_add-rows
-overflow_add-rows c = omega (arith, row-behind (goal.at.overflow_add-rows c).In-loop-next)
+pub overflow_add-order : goal.overflow_add-order
+overflow_add-order c = omega (arith, row-behind (goal.at.overflow_add-order c).In-loop-next)
 
-pub overflow_cast-rows : goal.overflow_cast-rows
-overflow_cast-rows c =
-    omega (arith, row-behind (goal.at.overflow_cast-rows c).In-loop-next, c.loop-next-test.true, few-rows c.requires.sized)
+pub overflow_cast-order : goal.overflow_cast-order
+overflow_cast-order c =
+    omega (arith, row-behind (goal.at.overflow_cast-order c).In-loop-next, c.loop-next-test.true, few-rows c.requires.sized)
 
-pub bounds-rows-count : goal.bounds-rows-count
-bounds-rows-count c =
-    omega (arith, row-behind (goal.at.bounds-rows-count c).In-loop-next, few-rows c.requires.sized)
+pub bounds-order-count : goal.bounds-order-count
+bounds-order-count c =
+    omega (arith, row-behind (goal.at.bounds-order-count c).In-loop-next, few-rows c.requires.sized)
 
 pub link-next-requires : goal.link-next-requires
 link-next-requires c = c.row_at-behind.ensures.1
@@ -88,14 +87,14 @@ loop-next-preserved c =
     (sym c.loop-next-test.true) (sym c.loop-next-test.true) (omega (arith, row-behind (goal.at.loop-next-preserved c).In-loop-next)) c.add-seen.ensures (name-behind (goal.at.loop-next-preserved c).After-name-own) (omega (arith, c.if-own-low.false)) k
 
 -- ---- the second
-walked_here : (c : At-loop-place) → Walked c.args.t.now c.args.order.now c.loop-place.rows (has c.loop-place.seen.bits) c.loop-place.low c.loop-place.place c.loop-place.next
+walked_here : (c : At-loop-place) → Walked c.args.t.now c.args.order.now c.loop-place.order (has c.loop-place.seen.bits) c.loop-place.low c.loop-place.place c.loop-place.next
 walked_here c = c.loop-place.invariant _ c.loop-next.invariant
 
 -- not all used rows are passed yet
 some_left : (c : In-loop-place) → c.loop-place.place < used_of c.args.t.now
 some_left c = omega (arith, c.loop-place-test.true, c.used-used.ensures)
 
-row_here : (c : Else-next-eq0) → Walked c.args.t.now c.args.order.now c.loop-place.rows (has c.loop-place.seen.bits) c.loop-place.low c.loop-place.place c.loop-place.next
+row_here : (c : Else-next-eq0) → Walked c.args.t.now c.args.order.now c.loop-place.order (has c.loop-place.seen.bits) c.loop-place.low c.loop-place.place c.loop-place.next
     → Within (used_of c.args.t.now) c.loop-place.next
 row_here c w = omega (arith, w.on, c.if-next-eq0.false)
 
@@ -125,14 +124,14 @@ returns-then-name-low c =
     let name = name-here g.After-name-name in
     (walk-falls w (row_here g.Else-next-eq0 w).0 (omega (arith, c.if-name-low.true, name)), λ e. absurd (clash e), left-falls w (omega (arith, c.if-name-low.true, name)))
 
-pub overflow_cast-rows-in-loop-place : goal.overflow_cast-rows-in-loop-place
-overflow_cast-rows-in-loop-place c =
-    let g = goal.at.overflow_cast-rows-in-loop-place c in
+pub overflow_cast-order-in-loop-place : goal.overflow_cast-order-in-loop-place
+overflow_cast-order-in-loop-place c =
+    let g = goal.at.overflow_cast-order-in-loop-place c in
     omega (arith, row_here g.Else-next-eq0 (walked_here g.At-loop-place), few-rows c.requires.sized)
 
-pub bounds-rows-place : goal.bounds-rows-place
-bounds-rows-place c =
-    omega (arith, some_left (goal.at.bounds-rows-place c).In-loop-place, few-rows c.requires.sized, (walked_here (goal.at.bounds-rows-place c).At-loop-place).listed.places)
+pub bounds-order-place : goal.bounds-order-place
+bounds-order-place c =
+    omega (arith, some_left (goal.at.bounds-order-place c).In-loop-place, few-rows c.requires.sized, (walked_here (goal.at.bounds-order-place c).At-loop-place).listed.places)
 
 pub overflow_sub-next : goal.overflow_sub-next
 overflow_sub-next c = let g = goal.at.overflow_sub-next c in omega (arith, row_here g.Else-next-eq0 (walked_here g.At-loop-place))
