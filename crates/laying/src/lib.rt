@@ -7,6 +7,7 @@ ghost use Rattle.fields.specs.Layout.{store, store_list, name, link, county, str
 ghost use Rattle.protocol.specs.Calls.{names_in, founded};
 
 use fields::Laid;
+use grouping::Counties;
 use rows::RowSet;
 
 // The row behind row i in the chain of the rows 1 to n: 0 behind the last.
@@ -43,18 +44,16 @@ pub fn lay_table(
 {
     let n = names.len() / 2;
     let sets = grouping::of_places(counties);
-    let list = grouping::laid_now(choice == 1, &sets, RowSet::first(n));
+    let list = Counties::new(&sets).laid_now(choice == 1, RowSet::first(n));
     let size = table::row_size(files, file);
     // the rows stand behind the header, up to the end
     let mut at = t.len() - capacity * size;
     octets::fill(t, 0);
     header::set_header(t, capacity as u8, n as u8, file as u16, files as u8);
-    let mut i = 0;
-    while i < n {
+    for i in 0..n {
         let x = octets::u16_at(names, 2 * i);
         let place = counties[i];
-        i += 1;
-        found_row(&mut t[at..at + size], x, next_row(i, n), place, list);
+        found_row(&mut t[at..at + size], x, next_row(i + 1, n), place, list);
         at += size;
     }
 }
