@@ -17,5 +17,5 @@ returns c =
     λ e. (
       omega (arith, c.epoch.ensures),
       ap (λ (x : Laid). only_rows c.args.n x.members) (sym c.list-own.ensures) ∙ sym c.only_rows.ensures ∙ c.if-not-only_rows.false,
-      ap (mark_right (county_by c.args.sets.now)) (sym c.list-own.ensures) ∙ sym c.mark_right.ensures ∙ e,
+      ap (mark_right (county_by c.args.counties.now)) (sym c.list-own.ensures) ∙ sym c.mark_right.ensures ∙ e,
     )

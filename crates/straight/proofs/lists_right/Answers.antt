@@ -10,7 +10,7 @@ pub row_at-first-requires : goal.row_at-first-requires
 row_at-first-requires c = (c.requires.0, c.requires.1, omega (arith, (header c.requires.0.header).used))
 
 pub list_right-requires : goal.list_right-requires
-list_right-requires c = (c.requires.4, omega (arith, c.requires.2, few-rows c.requires.0), c.row_at-first.ensures.1)
+list_right-requires c = (omega (arith, c.requires.2, few-rows c.requires.0), c.row_at-first.ensures.1)
 
 pub returns-then-not-list_right : goal.returns-then-not-list_right
 returns-then-not-list_right c = λ e. absurd (clash e)
@@ -25,7 +25,7 @@ pub row_at-second-requires : goal.row_at-second-requires
 row_at-second-requires c = (c.requires.0, c.requires.1, omega (arith, c.requires.2, c.requires.3))
 
 pub list_right-requires-2 : goal.list_right-requires-2
-list_right-requires-2 c = (c.requires.4, omega (arith, c.requires.2, few-rows c.requires.0), c.row_at-second.ensures.1)
+list_right-requires-2 c = (omega (arith, c.requires.2, few-rows c.requires.0), c.row_at-second.ensures.1)
 
 pub returns-then-not-list_right-2 : goal.returns-then-not-list_right-2
 returns-then-not-list_right-2 c = λ e. absurd (clash e)

@@ -44,7 +44,7 @@ file_length-file-requires c = long c.requires.0
 
 pub loop-k-init : goal.loop-k-init
 unfolding every
-loop-k-init c = (omega arith, refl)
+loop-k-init c = refl
 
 pub row_of-row-requires : goal.row_of-row-requires
 row_of-row-requires c = (c.requires.0, within c)
@@ -71,15 +71,13 @@ returns-then-not-former_copy_right c =
 
 pub loop-k-preserved : goal.loop-k-preserved
 loop-k-preserved c =
-    let l = c.loop-k in (
-      omega (arith, c.loop-k-test.true),
-      every_more _ l.k l.invariant.1
-          (head-yes _ _ (former-is _ _ (old (goal.at.loop-k-preserved c).In-loop-k)) (head-found (goal.at.loop-k-preserved c).After-former_head_right ∙ c.if-not-former_head_right.false) ∙ copy-found (goal.at.loop-k-preserved c).After-former_copy_right ∙ c.if-not-former_copy_right.false),
-    )
+    let l = c.loop-k in
+    every_more _ l.k l.invariant
+    (head-yes _ _ (former-is _ _ (old (goal.at.loop-k-preserved c).In-loop-k)) (head-found (goal.at.loop-k-preserved c).After-former_head_right ∙ c.if-not-former_head_right.false) ∙ copy-found (goal.at.loop-k-preserved c).After-former_copy_right ∙ c.if-not-former_copy_right.false)
 
 pub returns : goal.returns
 returns c =
     let l = c.loop-k in
     let t = c.args.t.now in
     let e : l.k ≡ used_of t = omega (arith, c.loop-k-test.false, c.used-used.ensures) in
-    sym l.invariant.1 ∙ ap (λ (n : ℕ). every n (row_right t)) e
+    sym l.invariant ∙ ap (λ (n : ℕ). every n (row_right t)) e

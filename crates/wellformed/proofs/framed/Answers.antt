@@ -22,7 +22,7 @@ pub group-requires : goal.group-requires
 group-requires c = c.requires
 
 pub lists_right-requires : goal.lists_right-requires
-lists_right-requires c = (c.requires.sized, c.group.ensures)
+lists_right-requires c = (c.requires.sized, rw c.new.ensures c.group.ensures)
 
 pub returns-then-not-lists_right : goal.returns-then-not-lists_right
 returns-then-not-lists_right c =

@@ -53,7 +53,7 @@ unfolding head copies form_value
 rows-here c =
     let t = c.args.t.now in
     let e : form_of t ≡ form_value = sym c.form.ensures ∙ c.if-form-ne-FORM.false in
-    rows-by t e true _ (straight-heads t e (rw (lent-all t) at (c.look.ensures c.if-look.true).0)) (sym (rw (lent-all t) at c.every_copy.ensures))
+    rows-by t (late t e) true _ (straight-heads t e (rw (lent-all t) at (c.look.ensures c.if-look.true).0)) (sym (rw (lent-all t) at c.every_copy.ensures))
 
 linked-here : (c : Else-not-every_copy) → every (used_of c.args.t.now) (row_right c.args.t.now) ≡ c.every_copy.result → Linked c.args.t.now
 linked-here c rows = record { sized = sized-by _ (sym c.sized.ensures ∙ c.if-not-sized.false); rows = rows ∙ c.if-not-every_copy.false }
@@ -63,7 +63,7 @@ rows-asked : (c : After-every_copy-2) → every (used_of c.args.t.now) (row_righ
 unfolding head copies form_value
 rows-asked c =
     let t = c.args.t.now in
-    rows-by t (sym c.form.ensures ∙ c.if-form-ne-FORM.false) true _ (sym (rw (lent-all t) at c.every_head.ensures) ∙ c.if-not-every_head.false) (sym (rw (lent-all t) at c.every_copy-2.ensures))
+    rows-by t (late t (sym c.form.ensures ∙ c.if-form-ne-FORM.false)) true _ (sym (rw (lent-all t) at c.every_head.ensures) ∙ c.if-not-every_head.false) (sym (rw (lent-all t) at c.every_copy-2.ensures))
 
 linked-then : (c : Else-not-every_copy-2) → every (used_of c.args.t.now) (row_right c.args.t.now) ≡ c.every_copy-2.result → Linked c.args.t.now
 linked-then c rows = record { sized = sized-by _ (sym c.sized.ensures ∙ c.if-not-sized.false); rows = rows ∙ c.if-not-every_copy-2.false }
@@ -114,12 +114,12 @@ returns-then-look c =
     (y, λ z. record { formed = sym y ∙ z; ordered = rw o (numbered-order l s a.order.now c.number.ensures.0); grouped = g }, o ∙ numbered-left l s a.order.now c.number.ensures.0 ∙ left-linked _ _ l (newest-here (goal.at.returns-then-look c).Else-form-ne-FORM), inl g)
 
 pub every_head-requires : goal.every_head-requires
-every_head-requires c = rw (lent-all _) (sized-here (goal.at.every_head-requires c).Else-not-sized, newest-here (goal.at.every_head-requires c).Else-form-ne-FORM)
+every_head-requires c = rw (lent-all _) (sized-here (goal.at.every_head-requires c).Else-not-sized)
 
 pub returns-then-not-every_head : goal.returns-then-not-every_head
 unfolding head
 returns-then-not-every_head c =
-    let w = rows-by _ (newest-here (goal.at.returns-then-not-every_head c).Else-form-ne-FORM) false _ (sym (rw (lent-all _) at c.every_head.ensures) ∙ c.if-not-every_head.true) refl in
+    let w = rows-by _ (late _ (newest-here (goal.at.returns-then-not-every_head c).Else-form-ne-FORM)) false _ (sym (rw (lent-all _) at c.every_head.ensures) ∙ c.if-not-every_head.true) refl in
     (by-own _ (by_rows _ (sized-here (goal.at.returns-then-not-every_head c).Else-not-sized) w), λ z. absurd (clash z), left-wrong _ _ w, inr refl)
 
 pub every_copy-requires-2 : goal.every_copy-requires-2
