@@ -27,20 +27,13 @@ fn is_unused(records: &[u8], x: usize) -> bool
     octets::u8_at(records, at + 1) == 0
 }
 
-fn either(c: bool, a: usize, b: usize) -> usize
-    ensures { result ≡ cond c a b }
-{
-    if c { a } else { b }
-}
-
 // The records in use are the first ones, and the youngest is the one that none follows: the chain need not be followed.
 fn scan(oldest: usize, records: &[u8]) -> Tail
     requires { (length records.now ≡ 576) × ((file : ℕ) × RightFor file (window oldest records.now)) }
     ensures { (result.count ≡ length (path (window oldest records.now))) × (result.youngest ≡ youngest (window oldest records.now)) }
 {
-    let mut count = 0;
     let mut last = 0;
-    while count < PLACES {
+    for count in 0..PLACES {
         let x = count + 1;
         if is_unused(records, x) {
             return Tail {
@@ -48,11 +41,12 @@ fn scan(oldest: usize, records: &[u8]) -> Tail
                 youngest: last,
             };
         }
-        last = either(next_of(records, x) == 0, x, last);
-        count = x;
+        if next_of(records, x) == 0 {
+            last = x;
+        }
     }
     Tail {
-        count: count,
+        count: PLACES,
         youngest: last,
     }
 }
@@ -93,14 +87,14 @@ fn room_for(oldest: usize, records: &[u8]) -> Place
         return Place {
             taken: taken,
             youngest: end.youngest,
-            first: either(oldest == 0, taken, oldest),
+            first: if oldest == 0 { taken } else { oldest },
         };
     }
     let second = next_of(records, oldest);
     Place {
         taken: oldest,
         youngest: end.youngest,
-        first: either(second == 0, oldest, second),
+        first: if second == 0 { oldest } else { second },
     }
 }
 

@@ -1,7 +1,7 @@
 // Question 1 of a window: its chain, and its records.
 #![tactic(auto)]
 
-ghost use Rattle.std.specs.Prelude.{◌≡◌, true, cond, ◌+◌, ◌*◌, ◌≤◌, min, eqb, length, get_or, drop};
+ghost use Rattle.std.specs.Prelude.{◌≡◌, true, cond, ◌&&◌, Some, None, ◌+◌, ◌*◌, ◌≤◌, min, eqb, length, get_or, drop};
 ghost use Rattle.sets.specs.Upto.{Within, every, count};
 ghost use Rattle.sets.specs.Sets.{has};
 ghost use Rattle.octets.specs.Bytes.{all_zero};
@@ -28,35 +28,25 @@ pub fn next_of(records: &[u8], x: usize) -> usize
     octets::u8_at(records, at) as usize
 }
 
-// As many records as were passed, if they are records 1 to so many; else one more than there are.
-fn counted(seen: RowSet, count: usize) -> usize
-    requires { count ≤ 16 }
-    ensures { result ≡ cond (every count (has seen.bits)) count 17 }
-{
-    if seen.fills(count) { count } else { PLACES + 1 }
-}
-
-// How many records the chain has, if it visits records 1 to so many once each; else one more than there are.
-fn visited(oldest: usize, records: &[u8]) -> usize
+// How many records the chain has, if it visits records 1 to so many once each.
+fn visited(oldest: usize, records: &[u8]) -> Option<usize>
     requires { length records.now ≡ 576 }
-    ensures { result ≡ cond (visits (window oldest records.now)) (length (path (window oldest records.now))) 17 }
+    ensures { result ≡ cond (visits (window oldest records.now)) (Some (length (path (window oldest records.now)))) None }
 {
     let mut seen = RowSet::EMPTY;
-    let mut count = 0;
     let mut next = oldest;
-    while count <= PLACES {
+    for count in 0..PLACES + 1 {
         if next == 0 {
-            return counted(seen, count);
+            return if seen.fills(count) { Some(count) } else { None };
         }
         // an index is tested before it is followed
         if PLACES < next {
-            return PLACES + 1;
+            return None;
         }
         seen = seen.add(next - 1, true);
         next = next_of(records, next);
-        count += 1;
     }
-    PLACES + 1
+    None
 }
 
 // Does the head of record x name 1 to 32 bytes within the file?
@@ -71,13 +61,6 @@ fn head_right(file: usize, records: &[u8], x: usize) -> bool
     both(some, end <= file)
 }
 
-fn one_more(n: usize, more: bool) -> usize
-    requires { n ≤ 16 }
-    ensures { result ≡ n + cond more 1 0 }
-{
-    if more { n + 1 } else { n }
-}
-
 // The records before the first one whose head is not right, and how many of them the record behind them does not follow.
 #[derive(Clone, Copy)]
 struct Heads {
@@ -89,9 +72,8 @@ fn leading(file: usize, records: &[u8]) -> Heads
     requires { length records.now ≡ 576 }
     ensures { Leads (λ x. head_right file (block 0 36 x records.now)) result.count × (result.breaks ≡ count result.count (broken records.now)) }
 {
-    let mut k = 0;
     let mut breaks = 0;
-    while k < PLACES {
+    for k in 0..PLACES {
         let x = k + 1;
         if !head_right(file, records, x) {
             return Heads {
@@ -99,11 +81,12 @@ fn leading(file: usize, records: &[u8]) -> Heads
                 breaks: breaks,
             };
         }
-        breaks = one_more(breaks, next_of(records, x) != x + 1);
-        k = x;
+        if next_of(records, x) != x + 1 {
+            breaks += 1;
+        }
     }
     Heads {
-        count: k,
+        count: PLACES,
         breaks: breaks,
     }
 }
@@ -128,18 +111,12 @@ fn in_order(oldest: usize, k: usize, breaks: usize, records: &[u8]) -> bool
 // Does the chain visit records 1 to k once each? Another order than that of writes is followed.
 fn chained(oldest: usize, k: usize, breaks: usize, records: &[u8]) -> bool
     requires { (length records.now ≡ 576) × (1 ≤ oldest) × Within 16 k × (breaks ≡ count k (broken records.now)) }
-    ensures { result ≡ eqb (cond (visits (window oldest records.now)) (length (path (window oldest records.now))) 17) k }
+    ensures { result ≡ (visits (window oldest records.now) && eqb (length (path (window oldest records.now))) k) }
 {
     if in_order(oldest, k, breaks, records) {
         return true;
     }
-    visited(oldest, records) == k
-}
-
-fn smaller(a: u8, b: u8) -> u8
-    ensures { result ≡ min a b }
-{
-    if a < b { a } else { b }
+    visited(oldest, records) == Some(k)
 }
 
 // Entry n + 31 - size is how far byte n of a record is behind a patch of that size; 0 where it is one of the patch.
@@ -156,7 +133,7 @@ fn over(table: &[u8; 64], r: &[u8], at: usize, n: usize) -> u8
 {
     let byte = r[at + 3 + n];
     let size = r[at + 1] as usize;
-    smaller(byte, table[n + 31 - size])
+    byte.min(table[n + 31 - size])
 }
 
 // Are there zeros behind the patches of four records? It looks at four at once, without a branch: so it takes many bytes at a time.
@@ -165,9 +142,8 @@ fn four_zero(table: &[u8; 64], r: &[u8]) -> bool
     ensures { result ≡ every 4 (λ x. tail_zero (block 0 36 x r.now)) }
 {
     let mut bits: u8 = 0;
-    let mut n = 0;
-    while n < 32 {
-        n += 1;
+    for k in 0..32 {
+        let n = k + 1;
         let low = joined(over(table, r, 0, n), over(table, r, 36, n));
         let high = joined(over(table, r, 72, n), over(table, r, 108, n));
         bits = joined(bits, joined(low, high));
@@ -180,13 +156,11 @@ fn tails_zero(table: &[u8; 64], k: usize, records: &[u8]) -> bool
     requires { Distances table.now × (length records.now ≡ 576) × (k ≤ 16) × (all_zero (drop (k * 36) records.now) ≡ true) × Short 16 records.now }
     ensures { result ≡ every k (λ x. tail_zero (block 0 36 x records.now)) }
 {
-    let mut i = 0;
-    while i < k {
+    for i in (0..k).step_by(4) {
         let at = i * WIDTH;
         if !four_zero(table, &records[at..at + 144]) {
             return false;
         }
-        i += 4;
     }
     true
 }

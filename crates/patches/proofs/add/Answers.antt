@@ -10,7 +10,6 @@ use Rattle.window.proofs.AddLaws.{added-long}
 use Rattle.windows.specs.Visits.{RightFor}
 use Rattle.patches.specs.Places.{Placed}
 use Rattle.patches.proofs.CopyLaws.{empty-stays, cut-window, cut-long, took_in}
-use borrow.Author.Rules.{rules}
 use Rattle.patches.proofs.add.Goals as goal
 
 -- a patch that is longer than a record's empties the window

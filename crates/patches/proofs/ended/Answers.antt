@@ -1,6 +1,5 @@
 use mathlib.Core.Path.{sym, ◌∙◌}
 use native.Mathlib.Omega.{arith}
-use borrow.Author.Rules.{rules}
 use Rattle.window.specs.Windows.{width, record_of, next}
 use Rattle.windows.specs.Visits.{window}
 use Rattle.patches.proofs.EndLaws.{oldest-in, ends-ring}

@@ -2,7 +2,6 @@ use mathlib.Core.Path.{◌∙◌, ap}
 use Prim.Native.Nat.{ℕ}
 use native.Mathlib.Omega.{arith}
 use lib.Dec.{eqb}
-use borrow.Author.Rules.{rules}
 use Rattle.fields.specs.Layout.{get}
 use Rattle.window.specs.Windows.{size}
 use Rattle.windows.proofs.HeadLaws.{field_at}

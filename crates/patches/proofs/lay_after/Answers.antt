@@ -4,13 +4,12 @@ use mathlib.Core.List.{List, [], ◌∷◌}
 use native.Mathlib.Omega.{arith}
 use Prim.Native.Nat.{ℕ, ◌-◌, ◌*◌}
 use lib.Dec.{leb}
-use borrow.Author.Rules.{rules}
 use Rattle.sets.specs.Upto.{Within}
 use Rattle.octets.proofs.CodeLaws.{part_length}
 use Rattle.window.specs.Windows.{width, patch_in, record_of, next, record_right, laid}
 use Rattle.windows.specs.Visits.{window}
 use Rattle.patches.proofs.RecordLaws.{cut_record}
-use Rattle.patches.proofs.LayLaws.{Laying, laying-none, to-within, to-right, count_less, laying-more, laying-all}
+use Rattle.patches.proofs.LayLaws.{laying-none, to-within, to-right, count_less, laying-more, laying-all}
 use Rattle.patches.proofs.lay_after.Goals.{In-loop-next}
 use Rattle.patches.proofs.lay_after.Goals as goal
 

@@ -3,7 +3,6 @@ use native.Mathlib.Omega.{arith}
 use lib.ListN.{length}
 use Rattle.windows.specs.Visits.{window}
 use Rattle.patches.proofs.LayLaws.{sent-all, sent-last}
-use borrow.Author.Rules.{rules}
 use Rattle.patches.proofs.sent_over.Goals as goal
 
 pub ended-end-requires : goal.ended-end-requires

@@ -5,7 +5,6 @@ use Rattle.blocks.specs.Blocks.{block}
 use Rattle.fields.specs.Layout.{get}
 use native.Mathlib.Omega.{arith}
 use mathlib.Core.Path.{◌≡◌, ◌∙◌}
-use borrow.Author.Rules.{rules}
 use Rattle.windows.proofs.head_right.Goals as goal
 
 pub returns : goal.returns

@@ -5,7 +5,6 @@ use lib.Dec.{eqb}
 use native.Mathlib.Omega.{arith}
 use mathlib.Core.Bool.{true, ◌&&◌}
 use mathlib.Core.Path.{◌≡◌, sym, ◌∙◌}
-use borrow.Author.Rules.{rules}
 use Rattle.windows.proofs.in_order.Goals as goal
 
 pub returns-then-oldest-eq1 : goal.returns-then-oldest-eq1

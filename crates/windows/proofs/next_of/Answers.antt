@@ -5,7 +5,6 @@ use native.Mathlib.Omega.{arith}
 use Rattle.octets.specs.Bytes.{number, part}
 use Rattle.fields.specs.Layout.{get}
 use Rattle.window.specs.Windows.{younger}
-use borrow.Author.Rules.{rules}
 use Rattle.windows.proofs.next_of.Goals as goal
 
 pub returns : goal.returns

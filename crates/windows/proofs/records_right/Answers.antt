@@ -1,13 +1,11 @@
 use Rattle.windows.proofs.ZeroLaws.{short-all}
-use Rattle.windows.proofs.HeadLaws.{by-none, by-head, by-version, by_chain, by-rest, by-tails}
+use Rattle.windows.proofs.HeadLaws.{by-head, by-version, by_chain, by-rest, by-tails}
 use Rattle.octets.proofs.CodeLaws.{tail-is}
 use Rattle.octets.specs.Bytes.{all_zero}
-use borrow.Author.Tests.{not-true, not-false}
 use lib.ListN.{drop}
 use native.Mathlib.Omega.{arith}
 use Prim.Native.Nat.{◌*◌}
 use mathlib.Core.Path.{◌≡◌, refl, sym, ◌∙◌, ap}
-use borrow.Author.Rules.{rules}
 use Rattle.windows.proofs.records_right.Goals.{After-all_zero}
 use Rattle.windows.proofs.records_right.Goals as goal
 

@@ -1,11 +1,8 @@
 use mathlib.Core.Path.{◌≡◌, refl, sym, ◌∙◌, ap, subst}
-use mathlib.Core.Bool.{true}
 use mathlib.Core.List.{List}
 use lib.ListN.{length}
-use Prim.Native.Nat.{ℕ, ◌+◌, ◌-◌, ◌*◌, ◌%◌, ◌≤◌}
+use Prim.Native.Nat.{ℕ, ◌+◌, ◌*◌, ◌≤◌}
 use native.Mathlib.Omega.{arith}
-use borrow.Author.Rules.{rules}
-use borrow.Author.Tests.{not-true, not-false}
 use Rattle.sets.specs.Upto.{every}
 use Rattle.octets.proofs.CodeLaws.{part-is, part_length}
 use Rattle.blocks.specs.Blocks.{block}
@@ -22,11 +19,11 @@ turn : (c : After-four_zero) → every (c.loop-i.i + 4) (λ x. tail_zero (block 
 turn c =
     let l = c.loop-i in
     let records = c.args.records.now in
-    tails-turn records l.i c.four_zero.result l.invariant.2 (c.four_zero.ensures ∙ ap (λ (r : List ℕ). every 4 (λ x. tail_zero (block 0 36 x r))) (part-is records (l.i * 36) 144 (l.i * 36) 144 refl refl))
+    tails-turn records l.i c.four_zero.result l.invariant.1 (c.four_zero.ensures ∙ ap (λ (r : List ℕ). every 4 (λ x. tail_zero (block 0 36 x r))) (part-is records (l.i * 36) 144 (l.i * 36) 144 refl refl))
 
 pub loop-i-init : goal.loop-i-init
 unfolding every
-loop-i-init c = (refl, omega arith, refl)
+loop-i-init c = (refl, refl)
 
 pub overflow_mul-at : goal.overflow_mul-at
 overflow_mul-at c = omega (arith, c.loop-i-test.true, c.requires.1, c.requires.2)
@@ -54,9 +51,13 @@ loop-i-smaller c = omega (arith, c.loop-i-test.true, room (goal.at.loop-i-smalle
 pub loop-i-preserved : goal.loop-i-preserved
 loop-i-preserved c =
     let l = c.loop-i in
-    (omega (arith, l.invariant.0), omega (arith, l.invariant.0, c.loop-i-test.true, c.requires.1, c.requires.2), turn (goal.at.loop-i-preserved c).After-four_zero ∙ c.if-not-four_zero.false)
+    (omega (arith, l.invariant.0), turn (goal.at.loop-i-preserved c).After-four_zero ∙ c.if-not-four_zero.false)
 
 pub returns : goal.returns
 returns c =
     let l = c.loop-i in
-    sym l.invariant.2 ∙ tails-more c.args.records.now c.args.k l.i c.requires.3 (omega (arith, c.loop-i-test.false))
+    sym l.invariant.1 ∙ tails-more c.args.records.now c.args.k l.i c.requires.3 (omega (arith, c.loop-i-test.false))
+
+pub returns-else-not-four_zero : goal.returns-else-not-four_zero
+returns-else-not-four_zero c =
+    sym (turn (goal.at.returns-else-not-four_zero c).After-four_zero ∙ c.if-not-four_zero.false) ∙ tails-more c.args.records.now c.args.k (c.loop-i.i + 4) c.requires.3 (omega arith)

@@ -1,6 +1,5 @@
 use mathlib.Core.Path.{◌∙◌}
 use native.Mathlib.Omega.{arith}
-use borrow.Author.Rules.{rules}
 use Rattle.windows.proofs.HeadLaws.{by-none}
 use Rattle.windows.proofs.window_right.Goals as goal
 
