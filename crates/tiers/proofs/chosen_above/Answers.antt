@@ -18,4 +18,4 @@ returns-then-up-first c =
     (own-chosen (has a.up.bits) c.size-n.result first.0 first.1 _ (chosen-inside a.kind c.of_mark.result _ a.name (leb 1 c.of_mark.result.cols && leb c.size-n.result 64) _ c.choose.ensures))
 
 pub returns : goal.returns
-returns c = rw (← c.rising-order.ensures.1) c.choice.ensures
+returns c = rw (← c.rising-order.ensures.1, ← c.new.ensures) c.choice.ensures

@@ -13,4 +13,4 @@ returns-then-up-first c =
     (c.cut.ensures ∙ own_held (has a.up.bits) c.size-n.result first.0 first.1 (has a.held.bits))
 
 pub returns : goal.returns
-returns c = rw (← c.rising-order.ensures.1) c.quorum.ensures
+returns c = rw (← c.rising-order.ensures.1, ← c.new.ensures) c.quorum.ensures
