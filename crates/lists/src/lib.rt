@@ -76,7 +76,7 @@ fn held_straight(count: usize, members: RowSet, set: RowSet) -> RowSet
     ensures { has result.bits ≡ at_seat (seats (upward count 1) (has members.bits)) (has set.bits) }
 {
     let all = RowSet::first(count);
-    if members.bits == all.bits {
+    if members == all {
         return set.cut(all);
     }
     let mut positions = RowSet::EMPTY;

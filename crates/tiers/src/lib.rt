@@ -31,16 +31,6 @@ fn rising() -> [u8; 64]
     order
 }
 
-// Does a set hold a quorum of the members in a county? Where there are none, it does not.
-fn held_there(kind: Kind, chain: &Chain, mark: u8, there: RowSet, set: RowSet) -> bool
-    ensures { result ≡ level kind mark chain.now (has there.bits) (has set.bits) }
-{
-    if there.is_empty() {
-        return false;
-    }
-    lists::quorum(kind, chain, mark, there, set)
-}
-
 // The counties in which a set holds a quorum.
 fn holding(kind: Kind, frame: &Frame, list: Laid, set: RowSet) -> RowSet
     ensures { has result.bits ≡ (λ (j : ℕ). leb 1 j && leb j 8 && level kind list.mark frame.now.chain (in_county (county_by frame.now.counties) (has list.members) j) (has set.bits)) }
@@ -49,7 +39,8 @@ fn holding(kind: Kind, frame: &Frame, list: Laid, set: RowSet) -> RowSet
     let mut out = RowSet::EMPTY;
     for k in 0..8 {
         let there = frame.counties.inside(k, members);
-        out = out.add(k, held_there(kind, &frame.chain, list.mark, there, set));
+        let held = !there.is_empty() && lists::quorum(kind, &frame.chain, list.mark, there, set);
+        out = out.add(k, held);
     }
     out
 }
@@ -60,8 +51,7 @@ fn held_above(kind: Kind, mark: u8, up: RowSet, held: RowSet) -> bool
     ensures { result ≡ level kind mark counties (has up.bits) (has held.bits) }
 {
     let n = up.size();
-    let first = RowSet::first(n);
-    if up.bits == first.bits {
+    if up == RowSet::first(n) {
         return coterie::holds(kind, grid::of_mark(mark, n), n, held.cut(up));
     }
     let order = rising();
@@ -81,23 +71,6 @@ pub fn quorum(kind: Kind, frame: &Frame, list: Laid, set: RowSet) -> bool
     held_above(kind, list.mark, up, held)
 }
 
-// The rows that a name chooses among the members in a county, where that is wanted; none otherwise.
-fn chosen_there(
-    wanted: bool,
-    kind: Kind,
-    chain: &Chain,
-    mark: u8,
-    there: RowSet,
-    name: u16,
-) -> RowSet
-    ensures { has result.bits ≡ (λ (i : ℕ). wanted && level_choice kind mark chain.now (has there.bits) name i) }
-{
-    if wanted {
-        return lists::choice(kind, chain, mark, there, name);
-    }
-    RowSet::EMPTY
-}
-
 // The rows that a name chooses within the counties of a set.
 fn chosen_within(kind: Kind, frame: &Frame, list: Laid, up: RowSet, name: u16) -> RowSet
     ensures { has result.bits ≡ (λ (i : ℕ). some 8 (λ j. has up.bits j && level_choice kind list.mark frame.now.chain (in_county (county_by frame.now.counties) (has list.members) j) name i)) }
@@ -105,8 +78,10 @@ fn chosen_within(kind: Kind, frame: &Frame, list: Laid, up: RowSet, name: u16) -
     let members = RowSet { bits: list.members };
     let mut out = RowSet::EMPTY;
     for k in 0..8 {
-        let there = frame.counties.inside(k, members);
-        out = out.joined(chosen_there(up.at(k), kind, &frame.chain, list.mark, there, name));
+        if up.at(k) {
+            let there = frame.counties.inside(k, members);
+            out = out.joined(lists::choice(kind, &frame.chain, list.mark, there, name));
+        }
     }
     out
 }
@@ -117,8 +92,7 @@ fn chosen_above(kind: Kind, mark: u8, up: RowSet, name: u16) -> RowSet
     ensures { has result.bits ≡ level_choice kind mark counties (has up.bits) name }
 {
     let n = up.size();
-    let first = RowSet::first(n);
-    if up.bits == first.bits {
+    if up == RowSet::first(n) {
         return coterie::choose(kind, grid::of_mark(mark, n), n, name);
     }
     let order = rising();

@@ -4,6 +4,7 @@ use mathlib.Core.List.{List, [], ◌∷◌}
 use Prim.Native.Nat.{ℕ, ◌+◌, ◌-◌, ◌<◌}
 use native.Mathlib.Nat.{mod-eq_of_lt}
 use native.Mathlib.Omega.{arith}
+use borrow.Author.Tests.{eqb-true}
 use lib.ListN.{length, length-append}
 use Rattle.lists.proofs.SeatLaws.{row-place, held_more, none-held}
 use Rattle.lists.proofs.StraightLaws.{all-ahead, all-passed, at-hand, above, seats-next, seats-few, seats-cut, all_held, one-passed}
@@ -22,9 +23,9 @@ few c =
     let s = c.in-Some.ensures.steps in
     omega (arith, seats-few l.invariant.0 (has c.into_iter-i-iterator.result.left.bits), above l.invariant.1 s.0 s.1, (at-hand l.invariant.1 s.0 s.1).0, l.invariant.2)
 
-pub returns-then-members-all : goal.returns-then-members-all
-returns-then-members-all c =
-    c.cut.ensures ∙ ap (cut_to (has c.args.set.bits)) c.first-all.ensures ∙ all_held c.args.count (has c.args.members.bits) (has c.args.set.bits) c.requires (ap has c.if-members-all.true ∙ c.first-all.ensures)
+pub returns-then-eq : goal.returns-then-eq
+returns-then-eq c =
+    c.cut.ensures ∙ ap (cut_to (has c.args.set.bits)) c.first-all.ensures ∙ all_held c.args.count (has c.args.members.bits) (has c.args.set.bits) c.requires (ap has (eqb-true _ _ (sym c.eq.ensures ∙ c.if-eq.true)) ∙ c.first-all.ensures)
 
 pub loop-i-init : goal.loop-i-init
 unfolding seats keep upward
