@@ -85,9 +85,11 @@ fn told(t: &[u8], poll: &polls::Poll, s: RowSet) -> Verdict
     requires { Sized t.now × (s.bits < 2 ^ used_of t.now) }
     ensures { (q : ℕ) → Shows poll.now (answers t.now q s.bits) → Judged (answers t.now q s.bits) (has s.bits) result }
 {
+    let tally = tally_of(poll, s);
+    let force = lead(t, &poll.epochs, s.cut(poll.listed));
     Verdict {
-        tally: tally_of(poll, s),
-        force: lead(t, &poll.epochs, s.cut(poll.listed)),
+        tally: tally,
+        force: force,
     }
 }
 
@@ -96,8 +98,7 @@ pub fn judged(t: &[u8], q: usize, s: RowSet) -> Verdict
     requires { Sized t.now × (form_of t.now ≡ form_value) × Within (files_of t.now) q × (s.bits < 2 ^ used_of t.now) }
     ensures { Judged (answers t.now q s.bits) (has s.bits) result }
 {
-    let poll = polls::gather(t, q, s);
-    told(t, &poll, s)
+    told(t, &polls::gather(t, q, s), s)
 }
 
 // The same but for the list in force, which is that of any other file.
@@ -105,18 +106,14 @@ pub fn tallied(t: &[u8], q: usize, s: RowSet) -> Tally
     requires { Sized t.now × (form_of t.now ≡ form_value) × Within (files_of t.now) q × (s.bits < 2 ^ used_of t.now) }
     ensures { Tallied (answers t.now q s.bits) (has s.bits) result }
 {
-    let poll = polls::gather(t, q, s);
-    tally_of(&poll, s)
+    tally_of(&polls::gather(t, q, s), s)
 }
 
 // Question 6: does a set hold a quorum of a list? Of an empty one none does.
 pub fn quorum_held(kind: Kind, frame: &Frame, list: Laid, s: RowSet) -> bool
     ensures { result ≡ (not (is_empty list) && list_quorum kind (frame_by frame.now.chain frame.now.counties) list (has s.bits)) }
 {
-    if list.is_empty() {
-        return false;
-    }
-    tiers::quorum(kind, frame, list, s)
+    !list.is_empty() && tiers::quorum(kind, frame, list, s)
 }
 
 // Questions 6 and 7 of a set, by the list in force and by whether the set is current.
