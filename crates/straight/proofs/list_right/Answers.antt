@@ -1,15 +1,11 @@
 use mathlib.Core.Path.{sym, ◌∙◌, ap}
 use native.Mathlib.Omega.{arith}
-use Rattle.bools.proofs.BoolLaws.{clash}
 use Rattle.fields.specs.declared.Laid.{Laid}
 use Rattle.fields.specs.Layout.{list}
 use Rattle.counties.specs.Marks.{mark_right}
 use Rattle.grouping.specs.Grouped.{county_by}
 use Rattle.table.specs.WellFormed.{limit, only_rows}
 use Rattle.straight.proofs.list_right.Goals as goal
-
-pub returns-then-not-only_rows : goal.returns-then-not-only_rows
-returns-then-not-only_rows c = λ e. absurd (clash e)
 
 pub returns : goal.returns
 unfolding limit list

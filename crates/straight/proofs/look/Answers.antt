@@ -1,7 +1,6 @@
 use mathlib.Core.Path.{◌≡◌, sym, subst, ◌∙◌, ap, ap₂}
 use native.Mathlib.Omega.{arith}
 use Prim.Native.Nat.{ℕ, ◌+◌, ◌<◌}
-use Rattle.bools.proofs.BoolLaws.{clash}
 use Rattle.sets.specs.Upto.{Within}
 use Rattle.fields.specs.Layout.{get, name, epoch, list, county, stride, used_of, row_length, row_bytes, name_of, epoch_of, list_of}
 use Rattle.fields.proofs.FieldLaws.{stride-late}
@@ -49,29 +48,11 @@ used-used-requires c = long c.requires.0
 pub row_at-first-requires : goal.row_at-first-requires
 row_at-first-requires c = (c.requires.0, size_is (goal.at.row_at-first-requires c).After-row_size-size, omega (arith, (header c.requires.0.header).used))
 
-pub epoch-first_epoch-requires : goal.epoch-first_epoch-requires
-epoch-first_epoch-requires c = c.row_at-first.ensures.1
-
-pub list-first_list-requires : goal.list-first_list-requires
-list-first_list-requires c = c.row_at-first.ensures.1
-
 pub loop-k-init : goal.loop-k-init
 loop-k-init c = none_passed _ c.requires.0
 
-pub overflow_add-k : goal.overflow_add-k
-overflow_add-k c = omega (arith, (turn c).1)
-
 pub row_at-row-requires : goal.row_at-row-requires
 row_at-row-requires c = (c.requires.0, size_is (goal.at.row_at-row-requires c).After-row_size-size, (turn c).0)
-
-pub name-name-requires : goal.name-name-requires
-name-name-requires c = c.row_at-row.ensures.1
-
-pub returns-then-name-low : goal.returns-then-name-low
-returns-then-name-low c = λ e. absurd (clash e)
-
-pub overflow_add-k-in-loop-k : goal.overflow_add-k-in-loop-k
-overflow_add-k-in-loop-k c = omega (arith, (turn (goal.at.overflow_add-k-in-loop-k c).In-loop-k).1)
 
 pub county_of-requires : goal.county_of-requires
 county_of-requires c =
@@ -79,9 +60,6 @@ county_of-requires c =
 
 pub put-requires : goal.put-requires
 put-requires c = ((turn (goal.at.put-requires c).In-loop-k).1, omega (arith, (placed (goal.at.put-requires c).In-Some).0.placed, (placed (goal.at.put-requires c).In-Some).1))
-
-pub overflow_add-k-in-loop-k-2 : goal.overflow_add-k-in-loop-k-2
-overflow_add-k-in-loop-k-2 c = omega (arith, (turn (goal.at.overflow_add-k-in-loop-k-2 c).In-loop-k).1)
 
 pub other_with-requires : goal.other_with-requires
 unfolding epoch_of list_of

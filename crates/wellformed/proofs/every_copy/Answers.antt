@@ -41,9 +41,6 @@ pub loop-k-init : goal.loop-k-init
 unfolding every
 loop-k-init c = refl
 
-pub overflow_add-k : goal.overflow_add-k
-overflow_add-k c = omega (arith, c.loop-k-test.true)
-
 pub row_at-row-requires : goal.row_at-row-requires
 row_at-row-requires c = (c.requires.0, size_is (goal.at.row_at-row-requires c).After-row_size-size, within c)
 

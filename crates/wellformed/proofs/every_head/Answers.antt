@@ -32,12 +32,6 @@ pub loop-k-init : goal.loop-k-init
 unfolding every
 loop-k-init c = refl
 
-pub overflow_add-k : goal.overflow_add-k
-overflow_add-k c = omega (arith, c.loop-k-test.true)
-
-pub row_at-requires : goal.row_at-requires
-row_at-requires c = (c.requires, c.row_length-size.ensures, within c)
-
 pub head_by-requires : goal.head_by-requires
 unfolding form_value
 head_by-requires c =

@@ -82,12 +82,6 @@ returns-then-form-ne-FORM c =
     let d : form_of c.args.t.now ≡ form_value → ⊥ = λ q. c.if-form-ne-FORM.true (c.form.ensures ∙ q) in
     (by-former _ d, λ z. absurd (clash z), left-former _ _ d, inr refl)
 
-pub look-requires : goal.look-requires
-look-requires c = rw (lent-all _) (sized-here (goal.at.look-requires c).Else-not-sized, late _ (newest-here (goal.at.look-requires c).Else-form-ne-FORM))
-
-pub every_copy-requires : goal.every_copy-requires
-every_copy-requires c = rw (lent-all _) (sized-here (goal.at.every_copy-requires c).Else-not-sized, late _ (newest-here (goal.at.every_copy-requires c).Else-form-ne-FORM))
-
 pub returns-then-not-every_copy : goal.returns-then-not-every_copy
 returns-then-not-every_copy c =
     let w = rows-here (goal.at.returns-then-not-every_copy c).After-every_copy ∙ c.if-not-every_copy.true in
@@ -98,9 +92,6 @@ used-requires c = rw (lent-all _) (long (linked-here (goal.at.used-requires c).E
 
 pub number-requires : goal.number-requires
 number-requires c = let e = rw (lent-all _) at c.used.ensures in omega (arith, e, few-rows (linked-here (goal.at.number-requires c).Else-not-every_copy (rows-here (goal.at.number-requires c).After-every_copy)).sized)
-
-pub unused_zero-requires : goal.unused_zero-requires
-unused_zero-requires c = rw (lent-all _) (linked-here (goal.at.unused_zero-requires c).Else-not-every_copy (rows-here (goal.at.unused_zero-requires c).After-every_copy)).sized
 
 pub returns-then-look : goal.returns-then-look
 returns-then-look c =
@@ -113,17 +104,11 @@ returns-then-look c =
     let g = rw (lent-all t) at (c.look.ensures c.if-look.true).1 in
     (y, λ z. record { formed = sym y ∙ z; ordered = rw o (numbered-order l s a.order.now c.number.ensures.0); grouped = g }, o ∙ numbered-left l s a.order.now c.number.ensures.0 ∙ left-linked _ _ l (newest-here (goal.at.returns-then-look c).Else-form-ne-FORM), inl g)
 
-pub every_head-requires : goal.every_head-requires
-every_head-requires c = rw (lent-all _) (sized-here (goal.at.every_head-requires c).Else-not-sized)
-
 pub returns-then-not-every_head : goal.returns-then-not-every_head
 unfolding head
 returns-then-not-every_head c =
     let w = rows-by _ (late _ (newest-here (goal.at.returns-then-not-every_head c).Else-form-ne-FORM)) false _ (sym (rw (lent-all _) at c.every_head.ensures) ∙ c.if-not-every_head.true) refl in
     (by-own _ (by_rows _ (sized-here (goal.at.returns-then-not-every_head c).Else-not-sized) w), λ z. absurd (clash z), left-wrong _ _ w, inr refl)
-
-pub every_copy-requires-2 : goal.every_copy-requires-2
-every_copy-requires-2 c = rw (lent-all _) (sized-here (goal.at.every_copy-requires-2 c).Else-not-sized, late _ (newest-here (goal.at.every_copy-requires-2 c).Else-form-ne-FORM))
 
 pub returns-then-not-every_copy-2 : goal.returns-then-not-every_copy-2
 returns-then-not-every_copy-2 c =

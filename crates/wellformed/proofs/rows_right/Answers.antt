@@ -15,12 +15,6 @@ late c = omega (arith, c.form.ensures, c.if-form-lt-WITH_FILES.false)
 pub form-requires : goal.form-requires
 form-requires c = long c.requires
 
-pub former_right-requires : goal.former_right-requires
-former_right-requires c = (c.requires, omega (arith, c.form.ensures, c.if-form-lt-WITH_FILES.true))
-
-pub every_copy-requires : goal.every_copy-requires
-every_copy-requires c = (c.requires, late (goal.at.every_copy-requires c).Else-form-lt-WITH_FILES)
-
 pub returns-then-every_head : goal.returns-then-every_head
 unfolding head copies
 returns-then-every_head c = sym (rows-by _ (late (goal.at.returns-then-every_head c).Else-form-lt-WITH_FILES) true _ (sym c.every_head.ensures ∙ c.if-every_head.true) (sym c.every_copy.ensures))
