@@ -13,8 +13,5 @@ use Rattle.charts.proofs.TurnLaws.{same_block, draw-room, at_turn, list-turn}
 use Rattle.charts.proofs.draw_row.Given as goal
 
 abbrev pub invariant-loop-set : goal.invariant-loop-set
-invariant-loop-set l = (l.start ≤ l.set) × (l.set ≤ l.end) × (l.end ≡ l.start + 2 ^ l.g.cols) × (length l.list ≡ length l.initial.list)
+invariant-loop-set l = (l.end ≡ l.start + 2 ^ l.g.cols) × (length l.list ≡ length l.initial.list)
     × (l.at ≡ 2 * length (chart_to l.g l.members l.set)) × ((xs : List ℕ) → l.initial.list ≡ put 0 (in_places (chart_to l.g l.members l.start)) xs → l.list ≡ put 0 (in_places (chart_to l.g l.members l.set)) xs)
-
-abbrev pub decreases-loop-set : goal.decreases-loop-set
-decreases-loop-set l = l.end - l.set
