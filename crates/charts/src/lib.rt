@@ -48,10 +48,8 @@ fn draw(g: Grid, members: usize, list: &mut [u8]) -> usize
     let end: u64 = 1 << members;
     let step: u64 = 1 << g.cols as usize;
     let mut at = 0;
-    let mut set: u64 = 0;
-    while set < end {
-        at = draw_row(list, at, set, g, members);
-        set += step;
+    for row in 0..end / step {
+        at = draw_row(list, at, row * step, g, members);
     }
     at / 2
 }
