@@ -1,7 +1,7 @@
 // The set that a call works on: P or R.
 #![tactic(auto)]
 
-ghost use Rattle.std.specs.Prelude.{◌≡◌, true, not, cond, ◌&&◌, ◌^◌, ◌<◌, length, Ok};
+ghost use Rattle.std.specs.Prelude.{◌≡◌, true, not, cond, ◌&&◌, ◌^◌, ◌<◌, length};
 ghost use Rattle.sets.specs.Upto.{Within, count};
 ghost use Rattle.sets.specs.Sets.{has};
 ghost use Rattle.fields.specs.Layout.{is_empty, used_of, files_of};
@@ -9,7 +9,7 @@ ghost use Rattle.counties.specs.Counties.{list_quorum, list_choice};
 ghost use Rattle.grouping.specs.Grouped.{frame_by};
 ghost use Rattle.grouping.specs.Frames.{FrameOf};
 ghost use Rattle.asking.specs.Refusals.{no_number};
-ghost use Rattle.settle.specs.Works.{Works, Known};
+ghost use Rattle.settle.specs.Works.{On, Works, Known};
 
 use asking::Refusal;
 use bools::both;
@@ -30,7 +30,8 @@ pub struct Settled {
 }
 
 fn settled_on(rows: RowSet, asked: Result<(), Refusal>, found: Verdict, called: u8) -> Settled
-    ensures { result ≡ record { rows = rows; asked = asked; good = found.tally.good; version = found.tally.version; called = called } }
+    ensures on { On rows found called result }
+    ensures asked { result.asked ≡ asked }
 {
     Settled {
         rows: rows,
@@ -43,25 +44,20 @@ fn settled_on(rows: RowSet, asked: Result<(), Refusal>, found: Verdict, called: 
 
 // P is worked on: the rows that the coordinator chose were called.
 fn on_try(tried: RowSet, part: Verdict, chosen: RowSet) -> Settled
-    ensures { result ≡ record { rows = tried; asked = Ok tt; good = part.tally.good; version = part.tally.version; called = count 64 (has chosen.bits) } }
+    ensures on { On tried part (count 64 (has chosen.bits)) result }
+    ensures none { no_number result.asked ≡ 0 }
 {
     settled_on(tried, Ok(()), part, chosen.size() as u8)
 }
 
 // All rows that answered are worked on, with what questions 6 and 7 say of them: every used row was called.
 fn on_all(kind: Kind, frame: &Frame, answering: RowSet, whole: Verdict) -> Settled
-    ensures all { (result.rows ≡ answering) × (result.good ≡ whole.tally.good) × (result.version ≡ whole.tally.version) × (result.called ≡ length frame.now.chain) }
+    ensures on { On answering whole (length frame.now.chain) result }
     ensures asked { no_number result.asked ≡ cond (not (is_empty whole.force.list) && list_quorum kind (frame_by frame.now.chain frame.now.counties) whole.force.list (has answering.bits)) (cond whole.tally.current 0 7) 6 }
 {
-    let asked = asked(
-        kind,
-        frame,
-        whole.force.list,
-        answering,
-        whole.tally.current,
-    );
-    let count = frame.chain.len();
-    settled_on(answering, asked, whole, count as u8)
+    let force = whole.force;
+    let no = asked(kind, frame, force.list, answering, whole.tally.current);
+    settled_on(answering, no, whole, frame.chain.len() as u8)
 }
 
 // The rows that a name chooses over a list: those known, where there are some.
@@ -98,14 +94,14 @@ pub fn settle(
     let part = judged(lent, q, tried);
     if part.tally.current {
         // a choice that answered whole holds a quorum of the list that it was made over; otherwise one is counted
-        if both(tried.bits == chosen.bits, part.force.list.same(own)) {
+        if both(tried == chosen, part.force.list == own) {
             return on_try(tried, part, chosen);
         }
         if quorum_held(kind, frame, part.force.list, tried) {
             return on_try(tried, part, chosen);
         }
     }
-    if tried.bits == answering.bits {
+    if tried == answering {
         // P is all that answered: it is not polled again
         return on_all(kind, frame, answering, part);
     }
