@@ -8,6 +8,9 @@ use lib.Pow.{high, low}
 use borrow.Author.Tests.{eq-eqb, ne_eqb}
 use lib.Dec.{eqb}
 use Rattle.asking.specs.Asking.{Question, first_no, before, result_number}
+use Rattle.asking.specs.Refusals.{refusal_number}
+use Rattle.asking.specs.declared.Refusal.{Refusal}
+use Rattle.asking.specs.declared.Refusal.TheVariants.{NotWellFormed, UnknownRow, NotAnswering, WrongRange, WrongSpace, NoQuorum, NotCurrent, AtLimit, StaleSource, NotWaiting, WrongNames, WrongSizes, NameTaken, TableFull, NotPlain, UnknownFile, NoChart, ClubSpent, ShareSpent, WrongCounty}
 
 -- where no answer is no, the first is yes
 pub yes-first : (n : ℕ) (x : Bool) (qs : List Question) → first_no (record { ask = suc n; yes = x } ∷ qs) ≡ 0 → (x ≡ true) × (first_no qs ≡ 0)
@@ -56,3 +59,26 @@ result-refusal refusal value h = high refusal 32 h
 
 pub result_value : (refusal value : ℕ) → value < 2 ^ 32 → result_number refusal value % 2 ^ 32 ≡ value
 result_value refusal value h = low refusal 32 h
+
+-- a refusal has a number
+pub some-number : (r : Refusal) → 1 ≤ refusal_number r
+some-number NotWellFormed = omega arith
+some-number UnknownRow = omega arith
+some-number NotAnswering = omega arith
+some-number WrongRange = omega arith
+some-number WrongSpace = omega arith
+some-number NoQuorum = omega arith
+some-number NotCurrent = omega arith
+some-number AtLimit = omega arith
+some-number StaleSource = omega arith
+some-number NotWaiting = omega arith
+some-number WrongNames = omega arith
+some-number WrongSizes = omega arith
+some-number NameTaken = omega arith
+some-number TableFull = omega arith
+some-number NotPlain = omega arith
+some-number UnknownFile = omega arith
+some-number NoChart = omega arith
+some-number ClubSpent = omega arith
+some-number ShareSpent = omega arith
+some-number WrongCounty = omega arith
