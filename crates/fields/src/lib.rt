@@ -6,7 +6,7 @@ ghost use Rattle.fields.specs.Layout.{get, store, name, link, mark, version, des
 ghost use Rattle.octets.specs.Bytes.{part};
 
 // A list of rows as it was laid: bit i − 1 of `members` for row i; the mark of its grid.
-#[derive(Clone, Copy)]
+#[derive(Clone, Copy, PartialEq, Eq)]
 pub struct Laid {
     pub members: u64,
     pub mark: u8,
@@ -31,16 +31,6 @@ impl Laid {
         ensures { result ≡ is_tall self }
     {
         self.mark == 2
-    }
-
-    // Are they the same list?
-    pub fn same(self, other: Laid) -> bool
-        ensures { (result ≡ true → self ≡ other) × (self ≡ other → result ≡ true) }
-    {
-        if self.members == other.members {
-            return self.mark == other.mark;
-        }
-        false
     }
 }
 

@@ -5,7 +5,7 @@ ghost use Rattle.std.specs.Prelude.{◌≡◌, cond, not, ◌+◌, ◌-◌, ◌%
 ghost use Rattle.sets.specs.Upto.{every, some, count, lowest};
 ghost use Rattle.sets.specs.Sets.{has, first_rows, gaining, losing, cut_to, left_of, joining};
 
-#[derive(Clone, Copy)]
+#[derive(Clone, Copy, PartialEq, Eq)]
 pub struct RowSet {
     pub bits: u64,
 }
