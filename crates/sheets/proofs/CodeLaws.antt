@@ -11,6 +11,7 @@ use lib.Dec.{leb, ltb}
 use lib.ListN.{length, take, drop, take-append-drop}
 use lib.Seq.{drop-drop}
 use borrow.Author.Tests.{le-leb, lt-leb, lt-ltb, le-ltb, eq-eqb, ne_eqb}
+use Rattle.std.specs.Prelude.{Option, Some, None, SomeIff, MatchOption}
 use Rattle.bools.proofs.BoolLaws.{and_assoc}
 use Rattle.sets.specs.Upto.{Within, every}
 use Rattle.blocks.specs.Blocks.{block, with_block, with_blocks}
@@ -95,9 +96,21 @@ module _ (s : List ℕ) (long : length s ≡ 196) (lines : Bool) (m t : ℕ) (is
   unfolding remainder
   left_is = omega (arith, taken, whole ∙ total-at s)
 
-pub other_length : (s : List ℕ) → (length s ≡ 196 → ⊥) → false ≡ sheet_right s
+pub other_length : (s : List ℕ) → (length s ≡ 196 → ⊥) → sheet_right s ≡ false
 unfolding sheet_right
 other_length s d = rw (ne_eqb (length s) 196 d)
+
+pub line_wrong : (s : List ℕ) → length s ≡ 196 → every 16 (line_right s) ≡ false → sheet_right s ≡ false
+unfolding sheet_right
+line_wrong s e h = rw (eq-eqb (length s) 196 e, h)
+
+module _ (s : List ℕ) (long : length s ≡ 196) (m t : ℕ) (lines : every 16 (line_right s) ≡ true) (taken : m ≡ all_assured s + all_beyond s) (whole : t ≡ number (part 192 4 s)) where
+  pub total_over : 1_000_000 < t → sheet_right s ≡ false
+  total_over h = sym (sheet-is s long true m t (sym lines) taken whole) ∙ rw (lt-leb t 1_000_000 h)
+
+  pub total-fits : t ≤ 1_000_000 → (r : Option ℕ) → SomeIff r (m ≤ t) (t - m) → MatchOption r (sheet_right s ≡ false) (λ (left : ℕ). (sheet_right s ≡ true) × (left ≡ remainder s - all_beyond s))
+  total-fits h None f = sym (sheet-is s long true m t (sym lines) taken whole) ∙ rw (le-leb t 1_000_000 h, lt-leb m t (omega arith))
+  total-fits h (Some left) f = (sym (sheet-is s long true m t (sym lines) taken whole) ∙ rw (le-leb t 1_000_000 h, le-leb m t f.0), f.1 ∙ left_is s long true m t (sym lines) taken whole)
 
 -- ---- 18 and 19
 pub by-no-club : (s : List ℕ) (x : ℕ) → (x ≡ 0) ⊎ (16 < x) → 18 ≡ first_no (by_club s x [])

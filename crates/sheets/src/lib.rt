@@ -1,11 +1,13 @@
 // A sheet of fair use: is it right, may a club write by it; one more write counted, all counts 0.
 #![tactic(auto)]
 
-ghost use Rattle.std.specs.Prelude.{◌≡◌, true, cond, [], ◌+◌, ◌-◌, ltb, length};
+ghost use Rattle.std.specs.Prelude.{◌≡◌, true, false, cond, [], ◌+◌, ◌-◌, ltb, length, MatchOption};
 ghost use Rattle.sets.specs.Upto.{Within, every};
 ghost use Rattle.asking.specs.Asking.{first_no};
+ghost use Rattle.asking.specs.Refusals.{no_number};
 ghost use Rattle.sheet.specs.Sheet.{assured_of, count_of, all_assured, remainder, all_beyond, line_right, sheet_right, by_club, counted, cleared};
 
+use asking::Refusal;
 use bools::both;
 
 // A sheet's length, its clubs and the length of a club's line.
@@ -24,133 +26,73 @@ const TOTAL_AT: usize = 192;
 // No number of a sheet passes this.
 const LIMIT: u32 = 1_000_000;
 
-// What a club takes of the total: its count, or its assured number where that is larger.
-fn taken_by(assured: u32, count: u32) -> u32
-    ensures { result ≡ assured + (count - assured) }
-{
-    if assured < count { count } else { assured }
-}
-
-// What the lines of a sheet come to.
-#[derive(Clone, Copy)]
-struct Lines {
-    right: bool,
-    taken: u64,
-}
-
+// What the clubs take of the total: each its count, or its assured number where that is larger. None where a line is not right.
 // The 16 lines in one pass: neither assured number nor count is above the ceiling where what the club takes is not.
-fn added(s: &[u8]) -> Lines
+fn taken(s: &[u8]) -> Option<u64>
     requires { length s.now ≡ 196 }
-    ensures { (result.right ≡ every 16 (line_right s.now)) × (result.taken ≡ all_assured s.now + all_beyond s.now) }
+    ensures { MatchOption result (every 16 (line_right s.now) ≡ false) (λ taken. (every 16 (line_right s.now) ≡ true) × (taken ≡ all_assured s.now + all_beyond s.now)) }
 {
     let mut right = true;
     let mut taken: u64 = 0;
-    let mut x = 0;
-    while x < CLUBS {
+    for x in 0..CLUBS {
         let at = x * LINE;
         let ceiling = octets::u32_at(s, at + CEILING_AT);
-        let most = taken_by(octets::u32_at(s, at), octets::u32_at(s, at + COUNT_AT));
+        let most = octets::u32_at(s, at).max(octets::u32_at(s, at + COUNT_AT));
         right = both(right, both(ceiling <= LIMIT, most <= ceiling));
         taken += most as u64;
-        x += 1;
     }
-    Lines {
-        right: right,
-        taken: taken,
-    }
+    if right { Some(taken) } else { None }
 }
 
-// What of the total is not taken.
-fn left_of(total: u64, taken: u64) -> u64
-    ensures { result ≡ total - taken }
-{
-    if taken < total { total - taken } else { 0 }
-}
-
-// Is a sheet right, and what is left of its remainder?
-#[derive(Clone, Copy)]
-pub struct Sum {
-    pub right: bool,
-    pub left: u64,
-}
-
-fn summed(s: &[u8]) -> Sum
-    requires { length s.now ≡ 196 }
-    ensures { (result.right ≡ sheet_right s.now) × (result.left ≡ remainder s.now - all_beyond s.now) }
-{
-    let lines = added(s);
-    let total = octets::u32_at(s, TOTAL_AT);
-    let small = both(lines.right, total <= LIMIT);
-    Sum {
-        right: both(small, lines.taken <= total as u64),
-        left: left_of(total as u64, lines.taken),
-    }
-}
-
-// What a round begins with: question 1 of a sheet, and what is left of its remainder.
-pub fn begun(s: &[u8]) -> Sum
-    ensures { (result.right ≡ sheet_right s.now) × (result.right ≡ true → result.left ≡ remainder s.now - all_beyond s.now) }
+// What a round begins with: question 1 of a sheet, and where it is right what is left of its remainder.
+pub fn begun(s: &[u8]) -> Option<u64>
+    ensures { MatchOption result (sheet_right s.now ≡ false) (λ left. (sheet_right s.now ≡ true) × (left ≡ remainder s.now - all_beyond s.now)) }
 {
     if s.len() != SHEET {
-        return Sum {
-            right: false,
-            left: 0,
-        };
+        return None;
     }
-    summed(s)
+    let taken = taken(s)?;
+    let total = octets::u32_at(s, TOTAL_AT);
+    if total <= LIMIT {
+        (total as u64).checked_sub(taken)
+    } else {
+        None
+    }
 }
 
 // Question 1 of a sheet.
 pub fn is_right(s: &[u8]) -> bool
     ensures { result ≡ sheet_right s.now }
 {
-    begun(s).right
+    begun(s).is_some()
 }
 
-// Questions 18 and 19 of a club, by what is left of the remainder: the first no, 0 where there is none.
-pub fn share_asked(s: &[u8], club: u64, left: u64) -> u32
+// Questions 18 and 19 of a club, by what is left of the remainder.
+pub fn share_asked(s: &[u8], club: u64, left: u64) -> Result<(), Refusal>
     requires { (length s.now ≡ 196) × (left ≡ remainder s.now - all_beyond s.now) }
-    ensures { result ≡ first_no (by_club s.now club []) }
+    ensures { no_number result ≡ first_no (by_club s.now club []) }
 {
-    if club == 0 {
-        return 18;
-    }
-    if 16 < club {
-        return 18;
+    if club == 0 || 16 < club {
+        return Err(Refusal::ClubSpent);
     }
     let at = (club as usize - 1) * LINE;
     let count = octets::u32_at(s, at + COUNT_AT);
     if octets::u32_at(s, at + CEILING_AT) <= count {
-        return 18;
+        return Err(Refusal::ClubSpent);
     }
-    if count < octets::u32_at(s, at) {
-        return 0;
+    if count < octets::u32_at(s, at) || 0 < left {
+        Ok(())
+    } else {
+        Err(Refusal::ShareSpent)
     }
-    if 0 < left { 0 } else { 19 }
 }
 
-// What a sheet says to a club's write: is it right, and 18 or 19 where the club may not write, else 0.
-#[derive(Clone, Copy)]
-pub struct Told {
-    pub right: bool,
-    pub no: u32,
-}
-
-// All that a write asks of a sheet, in one pass.
-pub fn look(s: &[u8], club: u64) -> Told
-    ensures { (result.right ≡ sheet_right s.now) × (result.right ≡ true → result.no ≡ first_no (by_club s.now club [])) }
+// All that a write asks of a sheet, in one pass: 18 and 19 of a club, where the sheet is right.
+pub fn look(s: &[u8], club: u64) -> Option<Result<(), Refusal>>
+    ensures { MatchOption result (sheet_right s.now ≡ false) (λ asked. (sheet_right s.now ≡ true) × (no_number asked ≡ first_no (by_club s.now club []))) }
 {
-    if s.len() != SHEET {
-        return Told {
-            right: false,
-            no: 0,
-        };
-    }
-    let sum = summed(s);
-    Told {
-        right: sum.right,
-        no: share_asked(s, club, sum.left),
-    }
+    let left = begun(s)?;
+    Some(share_asked(s, club, left))
 }
 
 // What is left of the remainder after one more done write of a club: one less where its count is not below its assured number.
@@ -162,7 +104,7 @@ pub fn left_after(s: &[u8], club: usize, left: u64) -> u64
     if octets::u32_at(s, at + COUNT_AT) < octets::u32_at(s, at) {
         return left;
     }
-    left_of(left, 1)
+    left.saturating_sub(1)
 }
 
 // One more done write of a club.
@@ -180,9 +122,7 @@ pub fn clear(s: &mut [u8])
     requires { length s.old ≡ 196 }
     ensures { s.new ≡ cleared s.old }
 {
-    let mut x = 0;
-    while x < CLUBS {
+    for x in 0..CLUBS {
         octets::store_at(s, x * LINE + COUNT_AT, 4, 0);
-        x += 1;
     }
 }

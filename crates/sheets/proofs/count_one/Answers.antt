@@ -1,7 +1,5 @@
 use Rattle.sheets.proofs.CodeLaws.{counted_of}
-use mathlib.Core.Path.{◌≡◌, ◌∙◌}
-use native.Mathlib.Omega.{arith}
-use borrow.Author.Rules.{rules}
+use mathlib.Core.Path.{◌∙◌}
 use Rattle.sheets.proofs.count_one.Goals as goal
 
 pub returns : goal.returns

@@ -1,7 +1,6 @@
 use Rattle.sheets.proofs.CodeLaws.{assured-of, count-of}
 use native.Mathlib.Omega.{arith}
 use borrow.Author.Tests.{lt-ltb, le-ltb}
-use borrow.Author.Rules.{rules}
 use Rattle.sheet.specs.Sheet.{assured_of, count_of}
 use Rattle.sheets.proofs.left_after.Goals as goal
 
@@ -15,4 +14,4 @@ pub returns : goal.returns
 returns c =
     let a = c.args in
     rw (le-ltb (count_of a.s.now a.club) (assured_of a.s.now a.club) (omega (arith, c.if-u32_at.false, c.u32_at-2.ensures, c.u32_at.ensures, assured-of a.s.now a.club (omega arith), count-of a.s.now a.club (omega arith))))
-    c.left_of.ensures
+    c.saturating_sub.ensures

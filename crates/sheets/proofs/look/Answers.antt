@@ -1,10 +1,5 @@
-use Rattle.sheets.proofs.CodeLaws.{other_length}
-use Rattle.bools.proofs.BoolLaws.{clash}
-use borrow.Author.Rules.{rules}
+use Rattle.sheet.proofs.SheetLaws.{sheet-facts}
 use Rattle.sheets.proofs.look.Goals as goal
 
-pub returns-then-s-ne-SHEET : goal.returns-then-s-ne-SHEET
-returns-then-s-ne-SHEET c = let a = c.args in (other_length a.s.now c.if-s-ne-SHEET.true, λ e. absurd (clash e))
-
-pub returns : goal.returns
-returns c = (c.summed-sum.ensures.0, λ e. c.share_asked.ensures)
+pub share_asked-requires : goal.share_asked-requires
+share_asked-requires c = let e = c.in_ok-left.ensures in ((sheet-facts c.args.s.now e.0).long, e.1)
