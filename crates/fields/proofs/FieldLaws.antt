@@ -9,10 +9,12 @@ use native.Mathlib.Omega.{arith}
 use lib.Dec.{leb}
 use lib.ListN.{length, take, drop}
 use lib.Seq.{drop_at, drop-drop, drop-length, length-take-le}
-use borrow.Author.Tests.{le-leb, lt-leb, leb-true, leb-false}
+use borrow.Author.Tests.{eqb-true, eq-eqb, le-leb, lt-leb, leb-true, leb-false}
+use Rattle.bools.proofs.BoolLaws.{and_i, and_l, and_r}
 use Rattle.sets.specs.Upto.{Within}
 use Rattle.octets.specs.Bytes.{number, bytes_of, part, put, zeros, all_zero}
 use Rattle.fields.specs.declared.Laid.{Laid}
+use Rattle.fields.specs.contracts.LaidPartialEq.TheImpl.{ghosts}
 use Rattle.blocks.specs.Blocks.{block}
 use Rattle.blocks.proofs.BlockLaws.{length-block}
 use Rattle.fields.specs.Layout.{Field, get, store, mark, oldest, spare, version, desired, members, grid_mark, list, no_list, row_bytes, list_of, reserved, contents, store_contents, records, store_records, form_value, copy_length, copy_in, copy_of, body_in, stride_in, body_length, stride, form_of, file_length_of, files_of, file_count, row_length}
@@ -136,6 +138,15 @@ laid m g = record { members = m; mark = g }
 pub laid_same : (a b : Laid) → a.members ≡ b.members → a.mark ≡ b.mark → a ≡ b
 unfolding laid
 laid_same a b e q = ap₂ laid e q
+
+-- what `==` compares
+unfoldable pub equal : Laid → Laid → Bool
+equal = ghosts.eq
+
+-- lists are equal to the code exactly where they are the same
+pub equal-same : (a b : Laid) → (equal a b ≡ true → a ≡ b) × (a ≡ b → equal a b ≡ true)
+unfolding equal
+equal-same a b = (λ e. laid_same a b (eqb-true _ _ (and_l _ _ e)) (eqb-true _ _ (and_r _ _ e)), λ e. rw e (and_i _ _ (eq-eqb b.members b.members refl) (eq-eqb b.mark b.mark refl)))
 
 -- a row whose fields say what a list says has that list
 pub list-is : (row : List ℕ) (l : Laid) → get members row ≡ l.members → get grid_mark row ≡ l.mark → list row ≡ l

@@ -179,10 +179,10 @@ places-grouped places sets low f = (all_apart _ _ few sets f, all_told _ _ few s
     few i w = low (i - 1) (omega arith)
 
 -- ---- members
-module _ (sets : List ℕ) (A : Apart sets) (p : ℕ → Bool) (k : ℕ) (l : k < 8) where
-  pub inside_is : cut_to p (has (get_or sets k 0)) ≡ in_county (county_by sets) p (k + 1)
+module _ (sets : List ℕ) (p : ℕ → Bool) (k : ℕ) (l : k < 8) where
+  pub inside_is : Apart sets → cut_to p (has (get_or sets k 0)) ≡ in_county (county_by sets) p (k + 1)
   unfolding cut_to in_county
-  inside_is = fun_ext (λ i. ap (λ (b : Bool). p i && b) (A.rows k i l))
+  inside_is a = fun_ext (λ i. ap (λ (b : Bool). p i && b) (a.rows k i l))
 
   -- where they are all that there are
   pub all-inside : in_county (county_by sets) p (k + 1) ≡ p → InOne (county_by sets) p

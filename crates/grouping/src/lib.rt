@@ -36,11 +36,9 @@ fn all_in(t: &[u8], size: usize, used: usize, which: u8) -> bool
     ensures { result ≡ true → (i : ℕ) → Within (used_of t.now) i → which ≡ get county (row_bytes t.now i) }
 {
     let mut same = true;
-    let mut k = 0;
-    while k < used {
+    for k in 0..used {
         let own = fields::county(table::row_at(t, size, k + 1));
         same = both(same, own == which);
-        k += 1;
     }
     same
 }
@@ -71,11 +69,9 @@ pub fn group(t: &[u8], sets: &mut [u64; 8])
         return;
     }
     *sets = [0u64; 8];
-    let mut k = 0;
-    while k < used {
+    for k in 0..used {
         let county = fields::county(table::row_at(t, size, k + 1));
         put(sets, k, county);
-        k += 1;
     }
 }
 
@@ -85,63 +81,10 @@ pub fn of_places(places: &[u8]) -> [u64; 8]
     ensures { Apart result × (county_by result ≡ county_at places.now) }
 {
     let mut sets = [0u64; 8];
-    let mut k = 0;
-    while k < places.len() {
-        put(&mut sets, k, places[k]);
-        k += 1;
+    for (k, county) in places.iter().enumerate() {
+        put(&mut sets, k, *county);
     }
     sets
-}
-
-// The members in county k + 1.
-pub fn inside(sets: &[u64; 8], k: usize, members: RowSet) -> RowSet
-    requires { Apart sets.now × (k < 8) }
-    ensures { has result.bits ≡ in_county (county_by sets.now) (has members.bits) (k + 1) }
-{
-    members.cut(RowSet { bits: sets[k] })
-}
-
-// Are all members in one county? Of county 1 it takes one comparison to know.
-pub fn in_one(sets: &[u64; 8], members: RowSet) -> bool
-    requires { Apart sets.now }
-    ensures { result ≡ true → InOne (county_by sets.now) (has members.bits) }
-{
-    let mut k = 0;
-    while k < 8 {
-        let there = inside(sets, k, members);
-        if there.bits == members.bits {
-            return true;
-        }
-        k += 1;
-    }
-    false
-}
-
-// The counties that have members.
-pub fn having(sets: &[u64; 8], members: RowSet) -> RowSet
-    requires { Apart sets.now }
-    ensures { has result.bits ≡ has_members (county_by sets.now) (has members.bits) }
-{
-    let mut out = RowSet::EMPTY;
-    let mut k = 0;
-    while k < 8 {
-        let there = inside(sets, k, members);
-        out = out.add(k, !there.is_empty());
-        k += 1;
-    }
-    out
-}
-
-// Are they of more than one county?
-pub fn several(sets: &[u64; 8], members: RowSet) -> bool
-    requires { Apart sets.now }
-    ensures { result ≡ several (county_by sets.now) (has members.bits) }
-{
-    if in_one(sets, members) {
-        return false;
-    }
-    let up = having(sets, members);
-    1 < up.size()
 }
 
 // The mark of a list of `length` members that is laid now, in a tall table or in a wide one.
@@ -154,30 +97,7 @@ fn mark_now(tall: bool, many: bool, length: usize) -> u8
     grid::new_mark(tall, length)
 }
 
-// The list that a founding or a check lays of these rows, in a tall table or in a wide one.
-pub fn laid_now(tall: bool, sets: &[u64; 8], set: RowSet) -> Laid
-    requires { Apart sets.now }
-    ensures { result ≡ laid_now tall (county_by sets.now) set.bits }
-{
-    Laid {
-        members: set.bits,
-        mark: mark_now(tall, several(sets, set), set.size()),
-    }
-}
-
-// Question 1 of a list by itself: has it a mark that a list of these members can have?
-pub fn mark_right(sets: &[u64; 8], list: Laid) -> bool
-    requires { Apart sets.now }
-    ensures { result ≡ mark_right (county_by sets.now) list }
-{
-    let members = RowSet { bits: list.members };
-    if several(sets, members) {
-        return any(list.mark == 3, list.mark == 2);
-    }
-    grid::mark_fits(list.mark, members.size())
-}
-
-// The counties of rows: eight sets in an array, that of county 1 first.
+// The counties of rows: eight sets in an array, that of county 1 first. No row is in two of them.
 #[derive(Drop)]
 pub struct Counties<'a> {
     sets: &'a [u64; 8],
@@ -197,6 +117,67 @@ impl<'a> Counties<'a> {
         ensures { result ≡ sets.now }
     {
         Counties { sets: sets }
+    }
+
+    // The members in county k + 1.
+    pub fn inside(&self, k: usize, members: RowSet) -> RowSet
+        requires { k < 8 }
+        ensures { has result.bits ≡ in_county (county_by self.now) (has members.bits) (k + 1) }
+    {
+        members.cut(RowSet { bits: self.sets[k] })
+    }
+
+    // Are all members in one county? Of county 1 it takes one comparison to know.
+    pub fn in_one(&self, members: RowSet) -> bool
+        ensures { result ≡ true → InOne (county_by self.now) (has members.bits) }
+    {
+        for k in 0..8 {
+            let there = self.inside(k, members);
+            if there.bits == members.bits {
+                return true;
+            }
+        }
+        false
+    }
+
+    // The counties that have members.
+    pub fn having(&self, members: RowSet) -> RowSet
+        ensures { has result.bits ≡ has_members (county_by self.now) (has members.bits) }
+    {
+        let mut out = RowSet::EMPTY;
+        for k in 0..8 {
+            let there = self.inside(k, members);
+            out = out.add(k, !there.is_empty());
+        }
+        out
+    }
+
+    // Are they of more than one county?
+    pub fn several(&self, members: RowSet) -> bool
+        ensures { result ≡ several (county_by self.now) (has members.bits) }
+    {
+        !self.in_one(members) && 1 < self.having(members).size()
+    }
+
+    // The list that a founding or a check lays of these rows, in a tall table or in a wide one.
+    pub fn laid_now(&self, tall: bool, set: RowSet) -> Laid
+        ensures { result ≡ laid_now tall (county_by self.now) set.bits }
+    {
+        Laid {
+            members: set.bits,
+            mark: mark_now(tall, self.several(set), set.size()),
+        }
+    }
+
+    // Question 1 of a list by itself: has it a mark that a list of these members can have?
+    pub fn mark_right(&self, list: Laid) -> bool
+        ensures { result ≡ mark_right (county_by self.now) list }
+    {
+        let members = RowSet { bits: list.members };
+        if self.several(members) {
+            return list.mark == 3 || list.mark == 2;
+        }
+        grid::mark_fits(list.mark, members.size())
     }
 }
 

@@ -7,6 +7,7 @@ ghost use Rattle.fields.specs.Layout.{store, store_list, name, link, county, str
 ghost use Rattle.protocol.specs.Calls.{names_in, founded};
 
 use fields::Laid;
+use grouping::Counties;
 use rows::RowSet;
 
 // The row behind row i in the chain of the rows 1 to n: 0 behind the last.
@@ -43,7 +44,7 @@ pub fn lay_table(
 {
     let n = names.len() / 2;
     let sets = grouping::of_places(counties);
-    let list = grouping::laid_now(choice == 1, &sets, RowSet::first(n));
+    let list = Counties::new(&sets).laid_now(choice == 1, RowSet::first(n));
     let size = table::row_size(files, file);
     // the rows stand behind the header, up to the end
     let mut at = t.len() - capacity * size;

@@ -15,7 +15,7 @@ turn c =
     (w, omega (arith, w, few-rows c.requires.0))
 
 pub loop-k-init : goal.loop-k-init
-loop-k-init c = (omega arith, λ e i w. absurd (omega arith))
+loop-k-init c = λ e i w. absurd (omega arith)
 
 pub overflow_add-k : goal.overflow_add-k
 overflow_add-k c = omega (arith, (turn c).1)
@@ -26,21 +26,13 @@ row_at-requires c = (c.requires.0, c.requires.1, (turn c).0)
 pub county-own-requires : goal.county-own-requires
 county-own-requires c = c.row_at.ensures.1
 
-pub overflow_add-k-in-loop-k : goal.overflow_add-k-in-loop-k
-overflow_add-k-in-loop-k c = omega (arith, (turn (goal.at.overflow_add-k-in-loop-k c).In-loop-k).1)
-
-pub loop-k-smaller : goal.loop-k-smaller
-loop-k-smaller c = let less = c.loop-k-test.true in omega arith
-
 pub loop-k-preserved : goal.loop-k-preserved
 loop-k-preserved c =
-    let l = c.loop-k in (
-      omega (arith, c.loop-k-test.true),
-      λ e. same_more _ c.args.which l.k _ l.same l.invariant.1 (c.county-own.ensures ∙ ap (get county) c.row_at.ensures.0) (sym c.both-same.ensures ∙ e),
-    )
+    let l = c.loop-k in
+    λ e. same_more _ c.args.which l.k _ l.same l.invariant (c.county-own.ensures ∙ ap (get county) c.row_at.ensures.0) (sym c.both-same.ensures ∙ e)
 
 pub returns : goal.returns
 returns c =
     let l = c.loop-k in
     let done = c.loop-k-test.false in
-    λ e i w. l.invariant.1 e i (omega (arith, w, c.requires.2, done))
+    λ e i w. l.invariant e i (omega (arith, w, c.requires.2, done))

@@ -11,7 +11,7 @@ use Rattle.grouping.proofs.group.Goals as goal
 -- the row of this turn is a used one
 turn : (c : In-loop-k) → Within (used_of c.args.t.now) (c.loop-k.k + 1) × (c.loop-k.k < 64)
 turn c =
-    let w : Within (used_of c.args.t.now) (c.loop-k.k + 1) = omega (arith, c.loop-k.invariant.0, c.loop-k-test.true) in
+    let w : Within (used_of c.args.t.now) (c.loop-k.k + 1) = omega (arith, c.used-used.ensures, c.loop-k-test.true) in
     (w, omega (arith, w, few-rows c.requires.sized))
 
 -- and this is its county
@@ -49,7 +49,7 @@ returns-then-all_in c =
     table-grouped _ _ c.requires (filled-same _ _ _ _ (c.all_in.ensures c.if-all_in.true) (rw c.used-used.ensures at filled))
 
 pub loop-k-init : goal.loop-k-init
-loop-k-init c = (c.used-used.ensures, omega arith, none_filled _)
+loop-k-init c = none_filled _
 
 pub overflow_add-k : goal.overflow_add-k
 overflow_add-k c = omega (arith, (turn c).1)
@@ -62,21 +62,13 @@ county-county-requires c = c.row_at-in-loop-k.ensures.1
 
 pub put-requires : goal.put-requires
 put-requires c =
-    ((turn (goal.at.put-requires c).In-loop-k).1, rw (here (goal.at.put-requires c).After-county-county) (county-few c.requires (c.loop-k.k + 1) (turn (goal.at.put-requires c).In-loop-k).0))
-
-pub overflow_add-k-in-loop-k : goal.overflow_add-k-in-loop-k
-overflow_add-k-in-loop-k c = omega (arith, (turn (goal.at.overflow_add-k-in-loop-k c).In-loop-k).1)
-
-pub loop-k-smaller : goal.loop-k-smaller
-loop-k-smaller c = let less = c.loop-k-test.true in omega arith
+    let w = turn (goal.at.put-requires c).In-loop-k in
+    (w.1, rw (here (goal.at.put-requires c).After-county-county) (county-few c.requires (c.loop-k.k + 1) w.0))
 
 pub loop-k-preserved : goal.loop-k-preserved
-loop-k-preserved c =
-    let l = c.loop-k in
-    (l.invariant.0, omega (arith, c.loop-k-test.true), c.put.ensures _ (sym (here (goal.at.loop-k-preserved c).After-county-county)) l.invariant.2)
+loop-k-preserved c = c.put.ensures _ (sym (here (goal.at.loop-k-preserved c).After-county-county)) c.loop-k.invariant
 
 pub returns : goal.returns
 returns c =
-    let l = c.loop-k in
-    let e : l.k ≡ used_of c.args.t.now = omega (arith, l.invariant.0, l.invariant.1, c.loop-k-test.false) in
-    table-grouped _ _ c.requires (rw e at l.invariant.2)
+    let e : c.loop-k.k ≡ used_of c.args.t.now = omega (arith, c.used-used.ensures, c.loop-k.auto.k-end, c.loop-k-test.false) in
+    table-grouped _ _ c.requires (rw e at c.loop-k.invariant)

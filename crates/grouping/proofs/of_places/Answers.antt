@@ -6,27 +6,21 @@ use Rattle.grouping.proofs.GroupLaws.{none_filled, places-grouped}
 use Rattle.grouping.proofs.of_places.Goals as goal
 
 pub loop-k-init : goal.loop-k-init
-loop-k-init c = (omega arith, none_filled _)
+loop-k-init c = none_filled _
 
 pub put-requires : goal.put-requires
 put-requires c =
     let less = c.loop-k-test.true in
     (omega (arith, c.requires.0), c.requires.1 c.loop-k.k less)
 
-pub overflow_add-k : goal.overflow_add-k
-overflow_add-k c = let less = c.loop-k-test.true in omega (arith, c.requires.0)
-
-pub loop-k-smaller : goal.loop-k-smaller
-loop-k-smaller c = let less = c.loop-k-test.true in omega arith
-
 pub loop-k-preserved : goal.loop-k-preserved
 loop-k-preserved c =
-    let l = c.loop-k in
-    let back : l.k + 1 - 1 ≡ l.k = omega arith in
-    (omega (arith, c.loop-k-test.true), c.put.ensures _ (ap (λ (x : ℕ). get_or c.args.places.now x 0) back) l.invariant.1)
+    let k = c.loop-k.k in
+    let back : k + 1 - 1 ≡ k = omega arith in
+    c.put.ensures _ (ap (λ (x : ℕ). get_or c.args.places.now x 0) back) c.loop-k.invariant
 
 pub returns : goal.returns
 returns c =
     let l = c.loop-k in
-    let e : l.k ≡ length c.args.places.now = omega (arith, l.invariant.0, c.loop-k-test.false) in
-    places-grouped _ _ c.requires.1 (rw e at l.invariant.1)
+    let e : l.k ≡ length c.args.places.now = omega (arith, l.auto.k-end, c.loop-k-test.false) in
+    places-grouped _ _ c.requires.1 (rw e at l.invariant)

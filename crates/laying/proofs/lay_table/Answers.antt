@@ -9,6 +9,7 @@ use Rattle.laying.proofs.NameLaws.{name-at, place_at}
 use Rattle.octets.proofs.ByteLaws.{length-zeros}
 use Rattle.counties.specs.Counties.{county_at}
 use Rattle.counties.specs.Marks.{laid_now}
+use Rattle.grouping.specs.Grouped.{county_by}
 use Rattle.protocol.specs.Calls.{names_in, founded_list}
 use Rattle.laying.proofs.lay_table.Goals.{After-laid_now-list, After-row_size-size, In-loop-i}
 use Rattle.laying.proofs.lay_table.Goals as goal
@@ -22,7 +23,7 @@ list-is : (c : After-laid_now-list) → let a = c.args in c.laid_now-list.result
 unfolding founded_list
 list-is c =
     c.laid_now-list.ensures
-    ∙ ap₂ (laid_now (eqb c.args.choice 1)) c.of_places-sets.ensures.1 (all-rows (length c.args.names.now / 2) c.first.result.bits (omega (arith, c.requires.3, c.requires.4, c.requires.5)) (omega arith) c.first.ensures)
+    ∙ ap₂ (laid_now (eqb c.args.choice 1)) (ap county_by c.new.ensures ∙ c.of_places-sets.ensures.1) (all-rows (length c.args.names.now / 2) c.first.result.bits (omega (arith, c.requires.3, c.requires.4, c.requires.5)) (omega arith) c.first.ensures)
 
 turn : (l : In-loop-i) → let a = l.args in
     Turn a.capacity (length a.names.now / 2) l.laid_now-list.result a.files a.file (body_length a.files a.file) (names_in a.names.now) (county_at a.counties.now) l.loop-i.i l.loop-i.at l.row_size-size.result l.loop-i.t
@@ -38,8 +39,8 @@ given l = let p = l.requires in omega (arith, l.loop-i-test.true, p.4, p.6)
 pub of_places-sets-requires : goal.of_places-sets-requires
 of_places-sets-requires c = let p = c.requires in (omega (arith, p.3, p.5, p.6), p.7)
 
-pub laid_now-list-requires : goal.laid_now-list-requires
-laid_now-list-requires c = c.of_places-sets.ensures.0
+pub new-requires : goal.new-requires
+new-requires c = c.of_places-sets.ensures.0
 
 pub row_size-size-requires : goal.row_size-size-requires
 row_size-size-requires c = let p = c.requires in (p.1.1, p.2.1)

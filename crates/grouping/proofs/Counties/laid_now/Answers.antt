@@ -1,5 +1,5 @@
 use Rattle.counties.specs.Marks.{laid_now}
-use Rattle.grouping.proofs.laid_now.Goals as goal
+use Rattle.grouping.proofs.Counties.laid_now.Goals as goal
 
 pub returns : goal.returns
 unfolding laid_now
