@@ -1,11 +1,11 @@
 -- The sizes of the published grid, for any length.
 use mathlib.Core.Path.{◌≡◌, refl, sym, ◌∙◌, ap}
-use mathlib.Core.Logic.{◌≢◌, ⊎_elim}
-use mathlib.Core.Bool.{Bool, true, false, cond, ◌&&◌, ◌||◌}
+use mathlib.Core.Logic.{◌≢◌, ◌⊎◌, ⊎_elim, inl, inr}
+use mathlib.Core.Bool.{Bool, true, false, cond, ◌&&◌, ◌||◌, and-false}
 use Prim.Native.Nat.{ℕ, zero, suc, ◌+◌, ◌*◌, ◌^◌, ◌≤◌, ◌<◌}
 use native.Mathlib.Omega.{arith}
 use lib.Dec.{leb, ltb, eqb}
-use borrow.Author.Tests.{le-leb, leb-true, leb-false, ltb-true, ltb-false, eqb-true, eqb-false}
+use borrow.Author.Tests.{le-leb, leb-true, leb-false, ltb-true, ltb-false, eqb-true, eqb-false, ne_eqb}
 use Rattle.bools.proofs.BoolLaws.{and_l, and_r, or-e, clash}
 use Rattle.grid.specs.declared.Grid.{Grid}
 use Rattle.grid.specs.Claims.{FivesLaid}
@@ -185,14 +185,12 @@ roomy false N four = go (eqb N 5) refl
     go false e = published-roomy N four (eqb-false N 5 e)
 
 -- ---- a mark's grid as the code finds it
-pub by-five : (mark N : ℕ) → ((eqb mark 1 || eqb mark 3) && eqb N 5) ≡ true → new_five ≡ cond (leb N 64) (grid_by mark N) no_grid
+pub by-five : (mark N : ℕ) → (mark ≡ 1) ⊎ (mark ≡ 3) → N ≡ 5 → new_five ≡ cond (leb N 64) (grid_by mark N) no_grid
 unfolding grid_by
-by-five mark N e =
-    let few : leb N 64 ≡ true = ap (λ (n : ℕ). leb n 64) (eqb-true N 5 (and_r (eqb mark 1 || eqb mark 3) _ e)) in
-    let wide : eqb mark 2 ≡ false = ⊎_elim (λ f. ap (λ (m : ℕ). eqb m 2) (eqb-true mark 1 f)) (λ f. ap (λ (m : ℕ). eqb m 2) (eqb-true mark 3 f)) (or-e (eqb mark 1) _ (and_l _ _ e)) in
-    rw (few, wide, e)
+by-five mark N (inl e) five = rw (e, five)
+by-five mark N (inr e) five = rw (e, five)
 
-pub by-tall : (mark N : ℕ) → eqb mark 2 ≡ true → exchanged (cond (leb N 64) (published N) no_grid) ≡ cond (leb N 64) (grid_by mark N) no_grid
+pub by-tall : (mark N : ℕ) → mark ≡ 2 → exchanged (cond (leb N 64) (published N) no_grid) ≡ cond (leb N 64) (grid_by mark N) no_grid
 unfolding grid_by
 by-tall mark N e = rw e (go (leb N 64))
   where
@@ -200,9 +198,10 @@ by-tall mark N e = rw e (go (leb N 64))
     go true = refl
     go false = no-exchange
 
-pub by-published : (mark N : ℕ) → ((eqb mark 1 || eqb mark 3) && eqb N 5) ≡ false → eqb mark 2 ≡ false → cond (leb N 64) (published N) no_grid ≡ cond (leb N 64) (grid_by mark N) no_grid
+pub by-published : (mark N : ℕ) → mark ≢ 2 → ((mark ≢ 1) × (mark ≢ 3)) ⊎ (N ≢ 5) → cond (leb N 64) (published N) no_grid ≡ cond (leb N 64) (grid_by mark N) no_grid
 unfolding grid_by
-by-published mark N e f = rw (f, e)
+by-published mark N wide (inl d) = rw (ne_eqb mark 2 wide, ne_eqb mark 1 d.0, ne_eqb mark 3 d.1)
+by-published mark N wide (inr d) = rw (ne_eqb mark 2 wide, ne_eqb N 5 d, and-false (eqb mark 1 || eqb mark 3))
 
 -- a list of no members has no column
 no-column : (mark : ℕ) → (grid_by mark 0).cols ≡ 0

@@ -4,11 +4,9 @@
 ghost use Rattle.std.specs.Prelude.{◌≡◌, cond, leb, ◌≤◌};
 ghost use Rattle.grid.specs.Sizes.{published, no_grid, exchanged, grid_by, mark_fits, new_mark, height, Fits};
 
-use bools::{any, both};
-
 // The sizes of a grid. (The table below has one for each length of a list. Columns first: then no entry lies across two of the stores by
 // which the compiler builds the table.)
-#[derive(Clone, Copy)]
+#[derive(Clone, Copy, PartialEq, Eq)]
 pub struct Grid {
     pub cols: u8,
     pub rows: u8,
@@ -94,16 +92,14 @@ fn entry(length: usize) -> Grid
 pub fn published(length: usize) -> Grid
     ensures { result ≡ cond (leb length 64) (published length) no_grid }
 {
-    if length == 0 {
-        return Grid { rows: 0, cols: 0 };
-    }
-    if 64 < length {
+    if length == 0 || 64 < length {
         return Grid { rows: 0, cols: 0 };
     }
     entry(length)
 }
 
 // Rows and columns exchanged where the rows are one less than the columns.
+#[tactic(auto, unfolding(crate::specs::Sizes::exchanged))]
 fn exchanged(g: Grid) -> Grid
     ensures { result ≡ exchanged g }
 {
@@ -120,34 +116,33 @@ fn exchanged(g: Grid) -> Grid
 pub fn of_mark(mark: u8, length: usize) -> Grid
     ensures { result ≡ cond (leb length 64) (grid_by mark length) no_grid }
 {
-    if both(any(mark == 1, mark == 3), length == 5) {
-        return Grid { rows: 3, cols: 2 };
+    match mark {
+        2 => exchanged(published(length)),
+        1 | 3 if length == 5 => Grid { rows: 3, cols: 2 },
+        _ => published(length),
     }
-    let g = published(length);
-    if mark == 2 {
-        return exchanged(g);
-    }
-    g
 }
 
 // Can a list of `length` members within one county have the mark?
+#[tactic(auto, unfolding(crate::specs::Sizes::mark_fits))]
 pub fn mark_fits(mark: u8, length: usize) -> bool
     ensures { result ≡ mark_fits mark length }
 {
-    if mark == 0 {
-        return true;
-    }
-    any(both(mark == 1, length == 5), both(mark == 2, 1 <= length))
+    mark == 0 || mark == 1 && length == 5 || mark == 2 && 1 <= length
 }
 
 // The mark of a list of `length` members within one county that is laid now, in a tall table or in a wide one.
+#[tactic(auto, unfolding(crate::specs::Sizes::new_mark))]
 pub fn new_mark(tall: bool, length: usize) -> u8
     ensures { result ≡ new_mark tall length }
 {
     if tall {
-        return 2;
+        2
+    } else if length == 5 {
+        1
+    } else {
+        0
     }
-    if length == 5 { 1 } else { 0 }
 }
 
 // How many rows of column j are occupied, in a grid that fits the length.

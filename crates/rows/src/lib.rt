@@ -10,12 +10,6 @@ pub struct RowSet {
     pub bits: u64,
 }
 
-fn one(wanted: bool) -> u64
-    ensures { result ≡ cond wanted 1 0 }
-{
-    if wanted { 1 } else { 0 }
-}
-
 impl RowSet {
     // The empty set.
     pub const EMPTY: RowSet = RowSet { bits: 0 };
@@ -88,7 +82,7 @@ impl RowSet {
     pub fn size(self) -> usize
         ensures { result ≡ count 64 (has self.bits) }
     {
-        u64::count_ones(self.bits) as usize
+        self.bits.count_ones() as usize
     }
 
     // Its lowest member; 0 where it has none.
@@ -98,7 +92,7 @@ impl RowSet {
         if self.bits == 0 {
             return 0;
         }
-        u64::trailing_zeros(self.bits) as usize + 1
+        self.bits.trailing_zeros() as usize + 1
     }
 
     // The set with row i where `wanted` says so: a loop that gathers a set needs no branch.
@@ -161,7 +155,7 @@ impl RowSet {
         ensures { has result.bits ≡ cond wanted (gaining (has self.bits) (k % 64 + 1)) (has self.bits) }
     {
         RowSet {
-            bits: self.bits | one(wanted) << (k % 64),
+            bits: self.bits | u64::from(wanted) << (k % 64),
         }
     }
 

@@ -1,7 +1,6 @@
 use native.Mathlib.Omega.{arith}
 use native.Mathlib.Nat.{div-le_self}
 use Prim.Native.Nat.{◌-◌}
-use borrow.Author.Rules.{rules}
 use Rattle.grid.proofs.HeightLaws.{height-by-sum}
 use Rattle.grid.proofs.height.Goals as goal
 

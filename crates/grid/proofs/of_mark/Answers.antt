@@ -1,20 +1,23 @@
-use mathlib.Core.Path.{sym, ◌∙◌, ap}
-use borrow.Author.Rules.{rules}
-use borrow.Author.Tests.{eq-eqb, ne_eqb}
+use mathlib.Core.Logic.{inl, inr}
+use mathlib.Core.Path.{◌∙◌, ap}
+use native.Mathlib.Omega.{arith}
 use Rattle.grid.specs.Sizes.{new_five, exchanged}
 use Rattle.grid.proofs.SizeLaws.{by-five, by-tall, by-published}
+use Rattle.grid.proofs.of_mark.Goals.{in_default-via-in-1+else-length-eq5, in_default-via-in_default-1}
 use Rattle.grid.proofs.of_mark.Goals as goal
 
-pub returns-then-both : goal.returns-then-both
+pub returns-in-2 : goal.returns-in-2
+returns-in-2 c = let a = c.args in c.exchanged.ensures ∙ ap exchanged c.published.ensures ∙ by-tall a.mark a.length c.in-2.is
+
+pub returns-in-1 : goal.returns-in-1
 unfolding new_five
-returns-then-both c = let a = c.args in by-five a.mark a.length (rw c.any.ensures at (sym c.both.ensures ∙ c.if-both.true))
+returns-in-1 c = by-five c.args.mark c.args.length c.in-1.is c.if-length-eq5.true
 
-pub returns-then-mark-eq2 : goal.returns-then-mark-eq2
-returns-then-mark-eq2 c =
+pub returns-in_default : goal.returns-in_default
+returns-in_default c =
     let a = c.args in
-    c.exchanged.ensures ∙ ap exchanged c.published-g.ensures ∙ by-tall a.mark a.length (eq-eqb _ _ c.if-mark-eq2.true)
-
-pub returns : goal.returns
-returns c =
-    let a = c.args in
-    c.published-g.ensures ∙ by-published a.mark a.length (rw c.any.ensures at (sym c.both.ensures ∙ c.if-both.false)) (ne_eqb _ _ c.if-mark-eq2.false)
+    c.published-in_default.ensures
+    ∙ elim c.in_default.branch [
+      | in_default-via-in-1+else-length-eq5 w ↦ by-published a.mark a.length (λ e. omega arith) (inr w.if-length-eq5.false)
+      | in_default-via-in_default-1 w ↦ by-published a.mark a.length (λ e. omega arith) (inl (λ e. grind arith, λ e. grind arith))
+    ]

@@ -1,6 +1,6 @@
 use mathlib.Core.Path.{◌≡◌, sym, ap, ◌∙◌}
 use mathlib.Core.Bool.{Bool, not, true, false}
-use mathlib.Core.Logic.{inl, inr}
+use mathlib.Core.Logic.{⊎_elim, inl, inr}
 use Prim.Native.Nat.{ℕ}
 use native.Mathlib.Omega.{arith}
 use Rattle.coterie.proofs.TurnLaws.{holds-no, holds-yes, missed-is, none-missed}
@@ -18,29 +18,25 @@ touched-is c = c.fills.ensures ∙ every-ext _ _ _ c.columns_of-touched.ensures
 
 pub returns-then-columns-eq0 : goal.returns-then-columns-eq0
 returns-then-columns-eq0 c =
-    let a = c.args in holds-no a.g a.length (has a.held.bits) a.kind (inl c.if-columns-eq0.true)
-
-pub returns-then-length-gt64 : goal.returns-then-length-gt64
-returns-then-length-gt64 c =
-    let a = c.args in holds-no a.g a.length (has a.held.bits) a.kind (inr (inl c.if-length-gt64.true))
+    let a = c.args in holds-no a.g a.length (has a.held.bits) a.kind (⊎_elim inl (λ h. inr (inl h.1)) c.then-columns-eq0.either)
 
 pub returns-then-not-fills : goal.returns-then-not-fills
 returns-then-not-fills c =
     let a = c.args in
     holds-no a.g a.length (has a.held.bits) a.kind (inr (inr (sym (touched-is (goal.at.returns-then-not-fills c).After-fills) ∙ c.if-not-fills.true)))
 
-pub returns-then-is_write : goal.returns-then-is_write
-returns-then-is_write c =
+pub returns-in-Write : goal.returns-in-Write
+returns-in-Write c =
     let a = c.args in
     let held = has a.held.bits in
-    let kind : is_write a.kind ≡ true = sym c.is_write.ensures ∙ c.if-is_write.true in
+    let kind : is_write a.kind ≡ true = ap is_write c.in-Write.is in
     let outside = c.outside.ensures ∙ ap (λ (s : ℕ → Bool). left_of s held) c.first.ensures in
-    ap not c.fills-then-is_write.ensures
+    ap not c.fills-in-Write.ensures
     ∙ none-missed a.g a.length held _ (λ j u. c.columns_of-missed.ensures j u ∙ ap (λ (s : ℕ → Bool). touches a.g.cols a.length s j) outside ∙ missed-is a.g.cols a.length held j (omega arith))
-    ∙ (rw kind at (holds-yes a.g a.length held a.kind (omega arith) (omega arith) (sym (touched-is (goal.at.returns-then-is_write c).After-fills) ∙ c.if-not-fills.false)))
+    ∙ (rw kind at (holds-yes a.g a.length held a.kind (omega arith) (omega arith) (sym (touched-is (goal.at.returns-in-Write c).After-fills) ∙ c.if-not-fills.false)))
 
-pub returns : goal.returns
-returns c =
+pub returns-in-Read : goal.returns-in-Read
+returns-in-Read c =
     let a = c.args in
-    let kind : is_write a.kind ≡ false = sym c.is_write.ensures ∙ c.if-is_write.false in
-    rw kind at (holds-yes a.g a.length (has a.held.bits) a.kind (omega arith) (omega arith) (sym (touched-is (goal.at.returns c).After-fills) ∙ c.if-not-fills.false))
+    let kind : is_write a.kind ≡ false = ap is_write c.in-Read.is in
+    rw kind at (holds-yes a.g a.length (has a.held.bits) a.kind (omega arith) (omega arith) (sym (touched-is (goal.at.returns-in-Read c).After-fills) ∙ c.if-not-fills.false))

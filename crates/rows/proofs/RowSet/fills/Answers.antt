@@ -1,6 +1,5 @@
 use mathlib.Core.Path.{sym}
 use native.Mathlib.Omega.{arith}
-use borrow.Author.Rules.{rules}
 use Rattle.sets.proofs.SetLaws.{fills-is, fills-none}
 use Rattle.rows.proofs.RowSet.fills.Goals as goal
 

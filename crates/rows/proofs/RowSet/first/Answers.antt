@@ -1,6 +1,5 @@
 use mathlib.Core.Path.{◌∙◌}
 use native.Mathlib.Omega.{arith}
-use borrow.Author.Rules.{rules}
 use lib.Pow.{pow_pos}
 use Rattle.sets.proofs.SetLaws.{has_first, first-all}
 use Rattle.sets.proofs.DigitLaws.{shl_one}

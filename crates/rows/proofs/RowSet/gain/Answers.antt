@@ -1,4 +1,3 @@
-use borrow.Author.Rules.{rules}
 use Rattle.rows.proofs.RowSet.gain.Goals as goal
 
 pub returns-then-wanted : goal.returns-then-wanted

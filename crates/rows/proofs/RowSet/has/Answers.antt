@@ -1,6 +1,5 @@
 use mathlib.Core.Path.{sym}
 use native.Mathlib.Omega.{arith}
-use borrow.Author.Rules.{rules}
 use Rattle.sets.proofs.SetLaws.{has-row, has_above}
 use Rattle.sets.specs.Sets.{has}
 use Rattle.rows.proofs.RowSet.has.Goals as goal

@@ -1,7 +1,6 @@
 use mathlib.Core.Logic.{inl, inr}
 use Prim.Native.Nat.{◌-◌}
 use native.Mathlib.Omega.{arith}
-use borrow.Author.Rules.{rules}
 use Rattle.sets.proofs.SetLaws.{has-gain, gain-none}
 use Rattle.sets.proofs.DigitLaws.{shl_one}
 use Rattle.sets.specs.Sets.{has}

@@ -1,6 +1,5 @@
 use Prim.Native.Nat.{◌-◌}
 use native.Mathlib.Omega.{arith}
-use borrow.Author.Rules.{rules}
 use Rattle.sets.proofs.SetLaws.{has-lose, lose-none, has_above}
 use Rattle.sets.proofs.DigitLaws.{shl_one}
 use Rattle.sets.specs.Sets.{has}
