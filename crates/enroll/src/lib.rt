@@ -13,6 +13,13 @@ ghost use Rattle.enroll.specs.Files.{by_file};
 use fields::Laid;
 use rows::RowSet;
 
+// What a check finds of a file: its good rows, and their version.
+#[derive(Clone, Copy)]
+pub struct FileState {
+    pub good: RowSet,
+    pub version: u32,
+}
+
 // A row gets an epoch number and its list.
 fn enroll_row(row: &mut [u8], epoch: u32, list: Laid)
     requires { 32 ≤ length row.old }
@@ -35,73 +42,34 @@ fn mark_other(row: &mut [u8], size: usize, q: usize, good: bool, desired: u32)
 }
 
 // That in each file, by its own good rows and version.
-fn mark_others(
-    row: &mut [u8],
-    i: usize,
-    size: usize,
-    files: usize,
-    goods: &[u64; 8],
-    versions: &[u32; 8],
-)
-    requires { (files ≤ 8) × (32 + files * size ≤ length row.old) × (12 ≤ size) }
-    ensures { row.new ≡ with_blocks 32 size (λ q. not (has (by_file goods.now q) i)) (λ q. marked_copy (by_file versions.now q)) files row.old }
+fn mark_others(row: &mut [u8], i: usize, size: usize, files: &[FileState])
+    requires { (length files.now ≤ 8) × (32 + length files.now * size ≤ length row.old) × (12 ≤ size) }
+    ensures { row.new ≡ with_blocks 32 size (λ q. not (has (by_file files.now q).good.bits i)) (λ q. marked_copy (by_file files.now q).version) (length files.now) row.old }
 {
-    let mut k = 0;
-    while k < files {
-        let good = RowSet { bits: goods[k] };
-        let version = versions[k];
-        k += 1;
-        mark_other(row, size, k, good.has(i), version);
+    for (k, file) in files.iter().enumerate() {
+        mark_other(row, size, k + 1, file.good.has(i), file.version);
     }
 }
 
 // What an epoch check makes of row i, one of the new list.
-fn check_row(
-    row: &mut [u8],
-    i: usize,
-    size: usize,
-    files: usize,
-    goods: &[u64; 8],
-    versions: &[u32; 8],
-    epoch: u32,
-    list: Laid,
-)
-    requires { (files ≤ 8) × (32 + files * size ≤ length row.old) × (12 ≤ size) }
-    ensures { row.new ≡ enrolled_row epoch list (with_blocks 32 size (λ q. not (has (by_file goods.now q) i)) (λ q. marked_copy (by_file versions.now q)) files row.old) }
+fn check_row(row: &mut [u8], i: usize, size: usize, files: &[FileState], epoch: u32, list: Laid)
+    requires { (length files.now ≤ 8) × (32 + length files.now * size ≤ length row.old) × (12 ≤ size) }
+    ensures { row.new ≡ enrolled_row epoch list (with_blocks 32 size (λ q. not (has (by_file files.now q).good.bits i)) (λ q. marked_copy (by_file files.now q).version) (length files.now) row.old) }
 {
-    mark_others(row, i, size, files, goods, versions);
+    mark_others(row, i, size, files);
     enroll_row(row, epoch, list);
 }
 
-// What an epoch check makes of the rows of the new list: `goods` and `versions` have for each file the good rows and their version.
-pub fn check_rows(
-    t: &mut [u8],
-    set: RowSet,
-    goods: &[u64; 8],
-    versions: &[u32; 8],
-    epoch: u32,
-    list: Laid,
-)
+// What an epoch check makes of the rows of the new list, by the state of each file: place q - 1 is for file q.
+pub fn check_rows(t: &mut [u8], set: RowSet, files: &[FileState; 8], epoch: u32, list: Laid)
     requires { Sized t.old × (form_of t.old ≡ form_value) × ((i : ℕ) → has set.bits i ≡ true → Within (used_of t.old) i) }
-    ensures { t.new ≡ with_rows t.old (has set.bits) (checked_row (files_of t.old) (file_length_of t.old) (λ q. has (by_file goods.now q)) (by_file versions.now) epoch list) (used_of t.old) }
+    ensures { t.new ≡ with_rows t.old (has set.bits) (checked_row (files_of t.old) (file_length_of t.old) (λ q. has (by_file files.now q).good.bits) (λ q. (by_file files.now q).version) epoch list) (used_of t.old) }
 {
     let size = table::row_length(t);
-    let files = header::files(t);
+    let used = &files[..header::files(t)];
     let copy = table::copy_size(header::file_length(t));
-    let mut left = set;
-    while !left.is_empty() {
-        let i = left.lowest();
+    for i in set.members() {
         let at = header::HEADER + (i - 1) * size;
-        check_row(
-            &mut t[at..at + size],
-            i,
-            copy,
-            files,
-            goods,
-            versions,
-            epoch,
-            list,
-        );
-        left = left.rest();
+        check_row(&mut t[at..at + size], i, copy, used, epoch, list);
     }
 }

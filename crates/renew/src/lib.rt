@@ -10,12 +10,7 @@ ghost use Rattle.windows.specs.Visits.{RightFor};
 ghost use Rattle.table.specs.Asked.{Sized};
 ghost use Rattle.protocol.specs.Rows.{refreshed_copy};
 
-// What is left of a when b is taken away; nothing where b is more.
-fn minus(a: u32, b: u32) -> usize
-    ensures { result ≡ a - b }
-{
-    if b < a { (a - b) as usize } else { 0 }
-}
+use windows::Window;
 
 // A copy is unmarked, has a version and desires none.
 fn renew_copy(copy: &mut [u8], v: u32)
@@ -33,12 +28,14 @@ fn send_contents(copy: &mut [u8], source: &[u8], missing: usize)
     ensures { copy.new ≡ store_contents 0 (sent missing (window_of source.now) (contents source.now) (contents copy.old)) copy.old }
 {
     let at = copy.len() - fields::RECORDS;
-    let oldest = fields::oldest(source) as usize;
+    let w = Window {
+        oldest: fields::oldest(source) as usize,
+        records: &source[at..],
+    };
     patches::sent_over(
         &mut copy[fields::LEAD..at],
         &source[fields::LEAD..at],
-        oldest,
-        &source[at..],
+        w,
         missing,
     );
 }
@@ -60,7 +57,7 @@ fn refresh_copy(copy: &mut [u8], source: &[u8])
     ensures { copy.new ≡ refreshed_copy source.now copy.old }
 {
     let version = fields::version(source);
-    let missing = minus(version, fields::version(copy));
+    let missing = version.saturating_sub(fields::version(copy)) as usize;
     renew_copy(copy, version);
     send_contents(copy, source, missing);
     take_window(copy, source);
@@ -87,24 +84,16 @@ fn refresh_by(t: &mut [u8], q: usize, from: usize, to: usize, page: &mut [u8])
     refresh_row(&mut t[at..at + size], copy, q, &page[0..copy]);
 }
 
-// A page for a copy of a small file, and one for any copy.
-fn small_page() -> [u8; 1024] {
-    [0u8; 1024]
-}
-
-fn large_page() -> [u8; 4684] {
-    [0u8; 4684]
-}
-
 // Row `to` takes the contents, the version and the window of row `from` in file q.
 pub fn refresh(t: &mut [u8], q: usize, from: usize, to: usize)
     requires { Sized t.old × (form_of t.old ≡ form_value) × Within (files_of t.old) q × Within (used_of t.old) from × Within (used_of t.old) to × RightFor (file_length_of t.old) (window_of (copy_bytes t.old q from)) }
     ensures { t.new ≡ with_row t.old to (in_copy (file_length_of t.old) q (refreshed_copy (copy_bytes t.old q from))) }
 {
+    // a copy of a small file needs no page for any
     if table::copy_size(header::file_length(t)) <= 1_024 {
-        let mut page = small_page();
+        let mut page = [0u8; 1_024];
         return refresh_by(t, q, from, to, &mut page);
     }
-    let mut page = large_page();
+    let mut page = [0u8; 4_684];
     refresh_by(t, q, from, to, &mut page);
 }

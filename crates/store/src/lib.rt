@@ -76,9 +76,7 @@ pub fn write_rows(
 {
     let size = table::row_length(t);
     let copy = table::copy_size(header::file_length(t));
-    let mut left = works;
-    while !left.is_empty() {
-        let i = left.lowest();
+    for i in works.members() {
         let at = header::HEADER + (i - 1) * size;
         write_row(
             &mut t[at..at + size],
@@ -89,6 +87,5 @@ pub fn write_rows(
             offset,
             patch,
         );
-        left = left.rest();
     }
 }

@@ -78,7 +78,7 @@ module _ (file version oldest k : ℕ) (records : List ℕ) (long : length recor
   pub by-version : version < k → false ≡ window_right file version (window oldest records)
   by-version h = refuted _ (λ e. omega (arith, count-is e, (r e).young))
 
-  pub by_chain : eqb (cond (visits (window oldest records)) (length (path (window oldest records))) 17) k ≡ false → false ≡ window_right file version (window oldest records)
+  pub by_chain : (visits (window oldest records) && eqb (length (path (window oldest records))) k) ≡ false → false ≡ window_right file version (window oldest records)
   unfolding visits
   by_chain z = refuted _ (λ e.
       let v : (leb (length (path (window oldest records))) 16 && every (length (path (window oldest records))) (among (path (window oldest records)))) ≡ true = and_i (leb (length (path (window oldest records))) 16) _ (le-leb _ 16 (r e).few) (every_of _ _ (r e).each) in
@@ -89,17 +89,13 @@ module _ (file version oldest k : ℕ) (records : List ℕ) (long : length recor
   by-rest z = refuted _ (λ e. clash (sym z ∙ ap (λ (n : ℕ). all_zero (drop (n * 36) records)) (sym (count-is e)) ∙ (r e).rest))
 
   -- all but the zeros behind the patches
-  pub by-tails : eqb (cond (visits (window oldest records)) (length (path (window oldest records))) 17) k ≡ true → k ≤ version → all_zero (drop (k * 36) records) ≡ true
+  pub by-tails : (visits (window oldest records) && eqb (length (path (window oldest records))) k) ≡ true → k ≤ version → all_zero (drop (k * 36) records) ≡ true
       → every k (λ x. tail_zero (block 0 36 x records)) ≡ window_right file version (window oldest records)
   unfolding visits window record_of width
   by-tails c v z = same_test _ _ (λ t. is_right file version (window oldest records) (made t)) (λ e. every_of k _ (λ x u. and_r (head_right file (block 0 36 x records)) _ (sym (record_is file (block 0 36 x records)) ∙ (r e).used x (rw (count-is e) u))))
     where
-      found : (b : Bool) → visits (window oldest records) ≡ b → cond b (length (path (window oldest records))) 17 ≡ k → (visits (window oldest records) ≡ true) × (length (path (window oldest records)) ≡ k)
-      found true q e = (q, e)
-      found false q e = absurd (omega (arith, e, lead.few))
-
       f : (visits (window oldest records) ≡ true) × (length (path (window oldest records)) ≡ k)
-      f = found (visits (window oldest records)) refl (eqb-true _ k c)
+      f = (and_l _ (eqb (length (path (window oldest records))) k) c, eqb-true _ k (and_r (visits (window oldest records)) _ c))
 
       made : every k (λ x. tail_zero (block 0 36 x records)) ≡ true → Right file version (window oldest records)
       made t = record {

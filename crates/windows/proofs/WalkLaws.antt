@@ -1,4 +1,5 @@
 -- The walk along a window's chain.
+use Rattle.std.proofs.Common.{Some, None}
 use mathlib.Core.Path.{◌≡◌, refl, sym, ◌∙◌, ap, ap₂, fun_ext}
 use mathlib.Core.Bool.{Bool, true, false, cond, ◌&&◌, ◌||◌}
 use mathlib.Core.List.{List, [], ◌∷◌, ◌++◌, append-nil, append_assoc}
@@ -18,7 +19,7 @@ use Rattle.linking.specs.Linking.{chain}
 use Rattle.linking.proofs.PathLaws.{chain-zero, chain-suc}
 use Rattle.sets.proofs.EachLaws.{only-those}
 use Rattle.window.specs.Windows.{Window, next, path}
-use Rattle.windows.specs.Visits.{window, visits}
+use Rattle.windows.specs.Visits.{visits}
 
 among-append : (xs : List ℕ) (x j : ℕ) → among (xs ++ (x ∷ [])) j ≡ (among xs j || eqb x j)
 unfolding among
@@ -67,7 +68,7 @@ module _ {w : Window} {seen : ℕ → Bool} {count to : ℕ} (p : Passed w seen 
   ended : to ≡ 0 → path w ≡ p.before
   ended z = sym p.whole ∙ ap (λ (k : ℕ). p.before ++ chain (next w) (17 - count) k) z ∙ ap (λ (l : List ℕ). p.before ++ l) (chain-zero (next w) (17 - count)) ∙ append-nil p.before
 
-  pub at-end : to ≡ 0 → count ≤ 16 → cond (every count seen) count 17 ≡ cond (visits w) (length (path w)) 17
+  pub at-end : to ≡ 0 → count ≤ 16 → cond (every count seen) (Some count) None ≡ cond (visits w) (Some (length (path w))) None
   unfolding visits
   at-end z h =
       let n : length (path w) ≡ count = ap length (ended z) ∙ p.long in
@@ -75,21 +76,21 @@ module _ {w : Window} {seen : ℕ → Bool} {count to : ℕ} (p : Passed w seen 
       rw (n, m, le-leb count 16 h)
 
   -- an index that is none of the 16
-  pub at_none : 16 < to → count ≤ 16 → ◌≡◌ {A = ℕ} 17 (cond (visits w) (length (path w)) 17)
+  pub at_none : 16 < to → count ≤ 16 → None ≡ cond (visits w) (Some (length (path w))) None
   unfolding visits
   at_none h g = go (leb (length (path w)) 16 && every (length (path w)) (among (path w))) refl
     where
       there : among (path w) to ≡ true
       there = rw (← p.whole, goes_on g (omega arith)) (among-mid p.before to (chain (next w) (17 - (count + 1)) (next w to)))
 
-      go : (b : Bool) → (leb (length (path w)) 16 && every (length (path w)) (among (path w))) ≡ b → ◌≡◌ {A = ℕ} 17 (cond b (length (path w)) 17)
+      go : (b : Bool) → (leb (length (path w)) 16 && every (length (path w)) (among (path w))) ≡ b → None ≡ cond b (Some (length (path w))) None
       go false e = refl
       go true e =
           let v = only-those (length (path w)) (path w) refl (every-at (length (path w)) _ (and_r (leb (length (path w)) 16) _ e)) to there in
           absurd (omega (arith, v, leb-true (length (path w)) 16 (and_l _ _ e)))
 
   -- more than there are
-  pub at_most : 17 ≤ count → ◌≡◌ {A = ℕ} 17 (cond (visits w) (length (path w)) 17)
+  pub at_most : 17 ≤ count → None ≡ cond (visits w) (Some (length (path w))) None
   unfolding visits
   at_most h =
       let n : 16 < length (path w) = omega (arith, p.long, ap length p.whole, length-append p.before (chain (next w) (17 - count) to)) in

@@ -9,8 +9,5 @@ use Rattle.sets.specs.Sets.{has}
 use Rattle.enroll.proofs.check_rows.Given as goal
 
 -- the rows taken so far are enrolled
-abbrev pub invariant-loop-list : goal.invariant-loop-list
-invariant-loop-list l = (p : ℕ → Bool) × Taken l.initial.left.bits l.left.bits p × Done l.initial.t (checked_row (files_of l.initial.t) (file_length_of l.initial.t) (λ q. has (by_file l.goods q)) (by_file l.versions) l.epoch l.list) l.size p l.t
-
-abbrev pub decreases-loop-list : goal.decreases-loop-list
-decreases-loop-list l = l.left.bits
+abbrev pub invariant-loop-i : goal.invariant-loop-i
+invariant-loop-i l = (p : ℕ → Bool) × Taken l.fn.set.bits l.i-iterator.left.bits p × Done l.initial.t (checked_row (files_of l.initial.t) (file_length_of l.initial.t) (λ q. has (by_file l.files q).good.bits) (λ q. (by_file l.files q).version) l.epoch l.list) l.size p l.t

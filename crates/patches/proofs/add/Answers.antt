@@ -9,8 +9,7 @@ use Rattle.window.specs.Windows.{Window, emptied, added, window_of, store_window
 use Rattle.window.proofs.AddLaws.{added-long}
 use Rattle.windows.specs.Visits.{RightFor}
 use Rattle.patches.specs.Places.{Placed}
-use Rattle.patches.proofs.CopyLaws.{empty-stays, cut-window, cut-long, took_in}
-use borrow.Author.Rules.{rules}
+use Rattle.patches.proofs.CopyLaws.{empty-stays, cut-window, took_in}
 use Rattle.patches.proofs.add.Goals as goal
 
 -- a patch that is longer than a record's empties the window
@@ -26,7 +25,7 @@ returns-then-patch-gt32 c = c.clear.ensures ∙ long c.args.copy.now c.args.offs
 
 pub room_for-place-requires : goal.room_for-place-requires
 room_for-place-requires c =
-    (cut-long c.args.copy.now c.requires.0, subst (λ (w : Window). (file : ℕ) × RightFor file w) (sym (cut-window c.args.copy.now _ _ c.oldest-2.ensures (tail-is c.args.copy.now (length c.args.copy.now - 576) (length c.args.copy.now - 576) refl))) c.requires.1)
+    subst (λ (w : Window). (file : ℕ) × RightFor file w) (sym (cut-window c.args.copy.now _ _ c.oldest-2.ensures (tail-is c.args.copy.now (length c.args.copy.now - 576) (length c.args.copy.now - 576) refl))) c.requires.1
 
 pub returns : goal.returns
 returns c =

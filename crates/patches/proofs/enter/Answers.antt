@@ -6,7 +6,6 @@ use Rattle.octets.proofs.CodeLaws.{part_length}
 use Rattle.window.specs.Windows.{width, record_with}
 use Rattle.window.proofs.PatchLaws.{record-long}
 use Rattle.patches.proofs.RecordLaws.{lent-record}
-use borrow.Author.Rules.{rules}
 use Rattle.patches.proofs.enter.Goals as goal
 
 pub write_record-requires : goal.write_record-requires

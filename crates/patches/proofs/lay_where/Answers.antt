@@ -3,14 +3,12 @@ use mathlib.Core.Bool.{true, false}
 use native.Mathlib.Omega.{arith}
 use Prim.Native.Nat.{ℕ, ◌+◌, ◌≤◌}
 use lib.ListN.{length}
-use borrow.Author.Tests.{not-true, not-false}
 use Rattle.octets.specs.Bytes.{part, put}
 use Rattle.octets.proofs.ByteLaws.{length_part}
 use Rattle.octets.proofs.CodeLaws.{part-back, part-is}
 use Rattle.fields.specs.Layout.{get}
 use Rattle.window.specs.Windows.{size, start, patch_in, laid}
 use Rattle.patches.proofs.LayLaws.{patch-bounds}
-use borrow.Author.Rules.{rules}
 use Rattle.patches.proofs.lay_where.Goals.{After-u16_at-start, After-u8_at-size}
 use Rattle.patches.proofs.lay_where.Goals as goal
 

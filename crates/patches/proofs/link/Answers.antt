@@ -7,7 +7,6 @@ use Rattle.fields.specs.Layout.{store}
 use Rattle.window.specs.Windows.{width, younger}
 use Rattle.window.proofs.PatchLaws.{relinked-long}
 use Rattle.patches.proofs.RecordLaws.{with_none, lent-record}
-use borrow.Author.Rules.{rules}
 use Rattle.patches.proofs.link.Goals as goal
 
 pub returns-then-l-eq0 : goal.returns-then-l-eq0

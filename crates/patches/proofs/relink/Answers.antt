@@ -1,6 +1,5 @@
 use Rattle.fields.specs.Layout.{store}
 use Rattle.window.specs.Windows.{younger}
-use borrow.Author.Rules.{rules}
 use Rattle.patches.proofs.relink.Goals as goal
 
 pub returns : goal.returns

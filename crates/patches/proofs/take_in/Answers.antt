@@ -1,7 +1,6 @@
 use mathlib.Core.Path.{◌∙◌, ap}
 use Rattle.blocks.specs.Blocks.{with_block}
 use Rattle.window.specs.Windows.{record_with}
-use borrow.Author.Rules.{rules}
 use Rattle.patches.proofs.take_in.Goals as goal
 
 pub returns : goal.returns

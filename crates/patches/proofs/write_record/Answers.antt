@@ -4,7 +4,6 @@ use lib.ListN.{length}
 use Rattle.octets.specs.Bytes.{bytes_of, put}
 use Rattle.octets.proofs.CodeLaws.{part-back}
 use Rattle.patches.proofs.RecordLaws.{record-made}
-use borrow.Author.Rules.{rules}
 use Rattle.patches.proofs.write_record.Goals as goal
 
 pub returns : goal.returns

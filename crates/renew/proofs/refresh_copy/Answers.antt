@@ -14,4 +14,4 @@ send_contents-requires c =
 pub returns : goal.returns
 returns c =
     all-sent c.args.copy.now c.args.source.now c.requires.0 c.requires.1 c.version-version.result _ _ _ _ c.version-version.ensures
-    (c.minus-missing.ensures ∙ ap (λ (n : ℕ). c.version-version.result - n) c.version.ensures) c.renew_copy.ensures c.send_contents.ensures c.take_window.ensures
+    (c.saturating_sub-missing.ensures ∙ ap (λ (n : ℕ). c.version-version.result - n) c.version.ensures) c.renew_copy.ensures c.send_contents.ensures c.take_window.ensures

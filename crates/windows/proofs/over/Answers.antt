@@ -1,6 +1,5 @@
 use mathlib.Core.Path.{◌∙◌, ap}
 use Prim.Native.Nat.{min}
-use borrow.Author.Rules.{rules}
 use Rattle.windows.specs.Visits.{over}
 use Rattle.windows.proofs.ZeroLaws.{far}
 use Rattle.windows.proofs.over.Goals as goal
@@ -8,4 +7,4 @@ use Rattle.windows.proofs.over.Goals as goal
 pub returns : goal.returns
 unfolding over
 returns c =
-    c.smaller.ensures ∙ ap (min _) (far _ c.args.n _ c.requires.0 c.requires.3 c.requires.4)
+    c.min.ensures ∙ ap (min _) (far _ c.args.n _ c.requires.0 c.requires.3 c.requires.4)

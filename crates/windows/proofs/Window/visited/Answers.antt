@@ -1,25 +1,27 @@
-use mathlib.Core.Path.{◌≡◌, ◌∙◌, ap}
+use mathlib.Core.Path.{◌≡◌, sym, ◌∙◌, ap}
+use mathlib.Core.Bool.{Bool, cond}
+use Rattle.std.proofs.Common.{Some, None}
 use Prim.Native.Nat.{◌+◌, ◌-◌, ◌%◌}
 use native.Mathlib.Nat.{mod-eq_of_lt}
 use native.Mathlib.Omega.{arith}
-use borrow.Author.Rules.{rules}
 use Rattle.sets.specs.Sets.{has, gaining}
 use Rattle.sets.specs.Upto.{Within}
 use Rattle.window.specs.Windows.{width, record_of, next}
 use Rattle.windows.specs.Visits.{window}
-use Rattle.windows.proofs.WalkLaws.{Passed, passed_none, passed-more, at-end, at_none, at_most}
-use Rattle.windows.proofs.visited.Goals as goal
+use Rattle.windows.proofs.WalkLaws.{passed_none, passed-more, at-end, at_none, at_most}
+use Rattle.windows.proofs.Window.visited.Goals as goal
 
 pub loop-count-init : goal.loop-count-init
 unfolding window
 loop-count-init c = passed_none (window _ _)
 
-pub counted-requires : goal.counted-requires
-counted-requires c = omega (arith, c.loop-count-test.true)
+pub returns-then-fills : goal.returns-then-fills
+returns-then-fills c =
+    ap (λ (b : Bool). cond b (Some c.loop-count.count) None) (sym c.if-fills.true ∙ c.fills.ensures) ∙ at-end c.loop-count.invariant c.if-next-eq0.true (omega (arith, c.loop-count-test.true))
 
-pub returns-then-next-eq0 : goal.returns-then-next-eq0
-returns-then-next-eq0 c =
-    c.counted.ensures ∙ at-end c.loop-count.invariant c.if-next-eq0.true (omega (arith, c.loop-count-test.true))
+pub returns-else-fills : goal.returns-else-fills
+returns-else-fills c =
+    ap (λ (b : Bool). cond b (Some c.loop-count.count) None) (sym c.if-fills.false ∙ c.fills.ensures) ∙ at-end c.loop-count.invariant c.if-next-eq0.true (omega (arith, c.loop-count-test.true))
 
 pub returns-then-next-gt-PLACES : goal.returns-then-next-gt-PLACES
 returns-then-next-gt-PLACES c =
@@ -29,10 +31,7 @@ pub overflow_sub-next : goal.overflow_sub-next
 overflow_sub-next c = omega (arith, c.if-next-eq0.false)
 
 pub next_of-next-requires : goal.next_of-next-requires
-next_of-next-requires c = (c.requires, omega (arith, c.if-next-eq0.false, c.if-next-gt-PLACES.false))
-
-pub overflow_add-count : goal.overflow_add-count
-overflow_add-count c = omega (arith, c.loop-count-test.true)
+next_of-next-requires c = omega (arith, c.if-next-eq0.false, c.if-next-gt-PLACES.false)
 
 pub loop-count-preserved : goal.loop-count-preserved
 unfolding next record_of width window
