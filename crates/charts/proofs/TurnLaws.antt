@@ -5,7 +5,6 @@ use mathlib.Core.List.{List, [], ◌∷◌, ◌++◌}
 use Prim.Native.Nat.{ℕ, zero, suc, ◌+◌, ◌-◌, ◌*◌, ◌/◌, ◌%◌, ◌^◌, ◌≤◌, ◌<◌}
 use native.Mathlib.Nat.{zero-add, suc-add, mul-mod_left, mul-le-mul_right, div-add-mod'}
 use native.Mathlib.Numerals.{add-one}
-use native.Mathlib.Decide.{dec_lt}
 use native.Mathlib.Omega.{arith}
 use borrow.Author.Tests.{le-leb, lt-leb}
 use lib.Dec.{leb}
@@ -32,13 +31,12 @@ same_block m start x e l h =
     let z : x ≡ start / m * m + (x - start) = omega (arith, div-add-mod' start m) in
     let q : x - start < m = omega arith in ap (λ (y : ℕ). y / m) z ∙ digits_div (start / m) q
 
--- the next multiple of m
-pub next-block : (m x y : ℕ) → x % m ≡ 0 → y % m ≡ 0 → x < y → x + m ≤ y
-next-block m x y e f h = go (dec_lt (x / m) (y / m))
-  where
-    go : Dec (x / m < y / m) → x + m ≤ y
-    go (yes l) = omega (arith, div-add-mod' x m, div-add-mod' y m, mul-le-mul_right {m = suc (x / m)} {n = y / m} m l)
-    go (no l) = let q : y / m ≤ x / m = omega arith in absurd (omega (arith, div-add-mod' x m, div-add-mod' y m, mul-le-mul_right {m = y / m} {n = x / m} m q))
+-- n in blocks of m: each is within, and together they are all where n is a multiple of m
+pub block-fits : (m n row : ℕ) → row < n / m → row * m + m ≤ n
+block-fits m n row h = omega (arith, div-add-mod' n m, mul-le-mul_right {m = suc row} {n = n / m} m h)
+
+pub blocks-end : (m n row : ℕ) → n % m ≡ 0 → row ≡ n / m → row * m ≡ n
+blocks-end m n row e q = ap (λ (k : ℕ). k * m) q ∙ omega (arith, div-add-mod' n m, e)
 
 pub power-multiple : (n N : ℕ) → n ≤ N → 2 ^ N % 2 ^ n ≡ 0
 power-multiple n N h =

@@ -4,11 +4,12 @@
 ghost use Rattle.std.specs.Prelude.{◌≡◌, true, cond, List, ℕ, ◌+◌, ◌-◌, ◌*◌, ◌/◌, ◌%◌, ◌^◌, ◌≤◌, length};
 ghost use Rattle.octets.specs.Bytes.{bytes_of, put};
 ghost use Rattle.asking.specs.Asking.{result_number};
+ghost use Rattle.asking.specs.Refusals.{answer_number};
 ghost use Rattle.grid.specs.Sizes.{Fits};
 ghost use Rattle.charting.specs.Charts.{chart, in_places, has_chart, charted};
 ghost use Rattle.charts.specs.Drawn.{chart_to};
 
-use asking::result;
+use asking::Refusal;
 use grid::Grid;
 use rows::RowSet;
 
@@ -32,11 +33,9 @@ fn draw_row(list: &mut [u8], from: usize, start: u64, g: Grid, members: usize) -
     let above = columns::columns_above(g, members, start);
     let end = start + (1 << g.cols as usize);
     let mut at = from;
-    let mut set = start;
-    while set < end {
+    for set in start..end {
         let wanted = columns::is_smallest(g, members, RowSet { bits: set }, above);
         at = enter(list, at, set, wanted);
-        set += 1;
     }
     at
 }
@@ -49,10 +48,8 @@ fn draw(g: Grid, members: usize, list: &mut [u8]) -> usize
     let end: u64 = 1 << members;
     let step: u64 = 1 << g.cols as usize;
     let mut at = 0;
-    let mut set: u64 = 0;
-    while set < end {
-        at = draw_row(list, at, set, g, members);
-        set += step;
+    for row in 0..end / step {
+        at = draw_row(list, at, row * step, g, members);
     }
     at / 2
 }
@@ -74,16 +71,16 @@ fn has_chart(length: u64, mark: u64) -> bool
 }
 
 // The chart of a list of `length` members with a grid mark, two bytes for each set. Value: how many.
-pub fn chart(length: u64, mark: u64, list: &mut [u8]) -> u64
-    ensures { (let o = charted length mark list.old in (result ≡ result_number o.refusal o.value) × (list.new ≡ o.list)) }
+pub fn chart(length: u64, mark: u64, list: &mut [u8]) -> Result<u32, Refusal>
+    ensures { (let o = charted length mark list.old in (answer_number result ≡ result_number o.refusal o.value) × (list.new ≡ o.list)) }
 {
     if !has_chart(length, mark) {
-        return result(17, 0);
+        return Err(Refusal::NoChart);
     }
     if list.len() < 128 {
-        return result(5, 0);
+        return Err(Refusal::WrongSpace);
     }
     let members = length as usize;
     let g = grid::of_mark(mark as u8, members);
-    result(0, draw(g, members, list) as u32)
+    Ok(draw(g, members, list) as u32)
 }

@@ -43,9 +43,8 @@ pub fn columns_above(g: Grid, length: usize, set: u64) -> Columns
         twice: RowSet::EMPTY,
         whole: RowSet::first(columns),
     };
-    let mut at = g.rows as usize * columns;
-    while columns < at {
-        at -= columns;
+    for row in (1..g.rows as usize).rev() {
+        let at = row * columns;
         c = with_first(c, columns, length - at, RowSet { bits: set >> at });
     }
     c

@@ -1,12 +1,10 @@
 -- A joining, as the code goes through it.
 use mathlib.Core.Path.{◌≡◌, refl, sym, ◌∙◌, ap}
-use mathlib.Core.Bool.{Bool, not, cond, ◌&&◌, ◌||◌}
+use mathlib.Core.Bool.{Bool, not, cond, ◌&&◌}
 use mathlib.Core.List.{List}
-use Prim.Native.Nat.{ℕ, zero, suc, ◌+◌, ◌*◌, ◌^◌, ◌≤◌}
+use Prim.Native.Nat.{ℕ, suc, ◌+◌, ◌*◌, ◌^◌}
 use native.Mathlib.Numerals.{add-one}
-use native.Mathlib.Omega.{arith}
 use lib.Dec.{eqb, ltb}
-use borrow.Author.Tests.{ne_eqb, le-leb}
 use Rattle.sets.specs.Upto.{some}
 use Rattle.fields.specs.Layout.{capacity_of, used_of, name_of}
 use Rattle.table.specs.WellFormed.{between, is_county, well_formed}
@@ -14,12 +12,6 @@ use Rattle.asking.specs.Asking.{first_no}
 use Rattle.joining.specs.Joining.{row_before, joined_behind, joined}
 use Rattle.protocol.specs.Calls.{Joining, Outcome, join, questions, done, outcome, result_of}
 use Rattle.protocol.proofs.QuestionLaws.{refusal_is, when-done}
-
--- question 13 of a name of two bytes
-pub name_free : (x : ℕ) (taken : Bool) → x ≤ 65_535 → (between 1 x 65_535 && not taken) ≡ not (eqb x 0 || taken)
-unfolding between
-name_free zero taken h = refl
-name_free (suc k) taken h = rw (ne_eqb (suc k) 0 (λ z. omega arith), le-leb 1 (suc k) (omega arith), le-leb (suc k) 65_535 h)
 
 module _ (t : List ℕ) (a : Joining) where
   -- the questions by their answers

@@ -9,14 +9,14 @@ use native.Mathlib.Omega.{arith}
 use lib.Dec.{eqb, ltb}
 use lib.ListN.{get_or, drop, drop_of_length-le}
 use lib.Seq.{drop-cons, get_or-take}
-use borrow.Author.Tests.{eqb-true, eq-eqb, ne_eqb, lt-ltb, le-ltb}
+use borrow.Author.Tests.{eqb-true, eq-eqb, ne_eqb, lt-ltb, le-ltb, le-leb}
 use Rattle.bools.proofs.BoolLaws.{clash, same_test}
 use Rattle.sets.specs.Upto.{Within, some, among, rises_from}
 use Rattle.sets.proofs.UptoLaws.{some_at, some_of, some-none}
 use Rattle.sets.proofs.RisingLaws.{among-e, rises-tail, rises-above}
 use Rattle.fields.specs.Layout.{used_of, name_of}
 use Rattle.table.specs.Chain.{order_of}
-use Rattle.table.specs.WellFormed.{well_formed}
+use Rattle.table.specs.WellFormed.{between, well_formed}
 use Rattle.table.specs.Asked.{Ordered}
 use Rattle.table.proofs.ChainLaws.{order-length, order-each, order-rises}
 use Rattle.linking.specs.Linking.{last_of}
@@ -87,3 +87,8 @@ module _ {t : List ℕ} {x before : ℕ} (l : Left t x before []) where
   pub free-is : false ≡ some (used_of t) (λ j. eqb (name_of t j) x)
   unfolding among
   free-is = sym (some-none (used_of t) _ (λ j w. ne_eqb (name_of t j) x (λ q. clash (l.names j w q))))
+
+-- a name of two bytes that is not 0
+pub is-name : (x : ℕ) → (x ≡ 0 → ⊥) → x ≤ 65_535 → between 1 x 65_535 ≡ true
+unfolding between
+is-name x d h = rw (le-leb 1 x (omega arith), le-leb x 65_535 h)

@@ -5,20 +5,22 @@ ghost use Rattle.std.specs.Prelude.{◌≡◌, ◌++◌, ◌+◌, ◌-◌, ◌*�
 ghost use Rattle.octets.specs.Bytes.{bytes_of, part, zeros};
 ghost use Rattle.fields.specs.Layout.{store, former_oldest, form_of};
 ghost use Rattle.table.specs.Asked.{Sized};
+ghost use Rattle.asking.specs.Refusals.{answer_number};
 ghost use Rattle.carrying.specs.Moves.{goes_over, all_plain, carried, carried_length};
 ghost use Rattle.protocol.specs.Calls.{result_of, outcome, carry};
 
-use asking::result;
-use bools::{any, both};
+use asking::Refusal;
+use bools::both;
 use values::between;
 
 // Do tables of the one form move to the other?
+#[tactic(auto, unfolding(carrying::specs::Moves::goes_over))]
 fn goes_over(from: usize, to: usize) -> bool
     ensures { result ≡ goes_over from to }
 {
-    let up = both(between(1, from, 2), to == 3);
-    let down = both(from == 3, between(1, to, 2));
-    any(up, down)
+    let up = between(1, from, 2) && to == 3;
+    let down = from == 3 && between(1, to, 2);
+    up || down
 }
 
 // Has each used row a list, and none a grid mark?
@@ -26,11 +28,8 @@ fn all_plain(t: &[u8]) -> bool
     requires { Sized t.now }
     ensures { result ≡ all_plain t.now }
 {
-    let used = header::used(t);
-    let mut k = 0;
-    while k < used {
-        k += 1;
-        if !values::plain(table::row_of(t, k)) {
+    for k in 0..header::used(t) {
+        if !values::plain(table::row_of(t, k + 1)) {
             return false;
         }
     }
@@ -70,42 +69,37 @@ fn carry_table(dest: &mut [u8], t: &[u8], form: u8)
     ensures { dest.new ≡ carried form t.now }
 {
     let file = header::file_length(t);
-    let capacity = header::capacity(t);
     let size = table::row_length(t);
     let width = table::size_in(form, 1, file);
     let end = fields::HEAD + file;
     carry_head(dest, t, form);
-    let mut from = header::HEADER;
-    let mut to = header::HEADER;
-    let mut k = 0;
-    while k < capacity {
+    for k in 0..header::capacity(t) {
+        let from = header::HEADER + k * size;
+        let to = header::HEADER + k * width;
         carry_row(&mut dest[to..to + width], &t[from..from + size], end);
-        from += size;
-        to += width;
-        k += 1;
     }
 }
 
 // A move. Value: the rows used.
-pub fn carry(t: &[u8], form: u64, dest: &mut [u8]) -> u64
-    ensures { let o = outcome t.now (carry (record { form = form; dest = dest.old })) in (result ≡ result_of o) × (t.now ≡ o.table) × (dest.new ≡ o.buffer) }
+pub fn carry(t: &[u8], form: u64, dest: &mut [u8]) -> Result<u32, Refusal>
+    ensures { let o = outcome t.now (carry (record { form = form; dest = dest.old })) in (answer_number result ≡ result_of o) × (t.now ≡ o.table) × (dest.new ≡ o.buffer) }
 {
     if !wellformed::own_form(t) {
-        return result(1, 0);
+        return Err(Refusal::NotWellFormed);
     }
     let plain = all_plain(t);
     if both(form == 1, !plain) {
-        return result(15, 0);
+        return Err(Refusal::NotPlain);
     }
     if !goes_over(header::form(t) as usize, form as usize) {
-        return result(12, 0);
+        return Err(Refusal::WrongSizes);
     }
     let to = form as u8;
     let width = table::size_in(to, 1, header::file_length(t));
     let end = header::HEADER + header::capacity(t) * width;
     if dest.len() != end {
-        return result(12, 0);
+        return Err(Refusal::WrongSizes);
     }
     carry_table(dest, t, to);
-    result(0, header::used(t) as u32)
+    Ok(header::used(t) as u32)
 }

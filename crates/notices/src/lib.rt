@@ -4,23 +4,21 @@
 ghost use Rattle.std.specs.Prelude.{◌≡◌, List, ℕ, ◌+◌, ◌≤◌, length};
 ghost use Rattle.octets.specs.Bytes.{put};
 ghost use Rattle.asking.specs.Asking.{result_number};
+ghost use Rattle.asking.specs.Refusals.{answer_number};
 ghost use Rattle.telling.specs.Text.{decimal, padded, last_of};
 ghost use Rattle.telling.specs.Notices.{shown_name, heading, sentence, noticed};
 ghost use Rattle.notices.specs.Ends.{Ends};
 
-use asking::result;
-use bools::both;
+use asking::Refusal;
 
 // Where a text ends that has spaces behind it.
 fn end_of(text: &[u8]) -> usize
     ensures { Ends text.now result }
 {
-    let mut n = text.len();
-    while 0 < n {
-        if text[n - 1] != b' ' {
-            return n;
+    for n in (0..text.len()).rev() {
+        if text[n] != b' ' {
+            return n + 1;
         }
-        n -= 1;
     }
     0
 }
@@ -41,9 +39,7 @@ fn figures(s: &mut [u8], v: u64)
     ensures { s.new ≡ decimal (length s.old) v }
 {
     let mut left = v;
-    let mut i = s.len();
-    while 0 < i {
-        i -= 1;
+    for i in (0..s.len()).rev() {
         s[i] = (48 + left % 10) as u8;
         left = left / 10;
     }
@@ -94,14 +90,14 @@ fn tell(buffer: &mut [u8], call: u64, name: u16, number: u32) -> usize
 }
 
 // The refusal of a call by a number, told in a lent buffer of 160 bytes. Value: the sentence's length.
-pub fn notice(call: u64, name: u16, number: u32, buffer: &mut [u8]) -> u64
-    ensures { (let o = noticed call name number buffer.old in (result ≡ result_number o.refusal o.value) × (buffer.new ≡ o.buffer)) }
+pub fn notice(call: u64, name: u16, number: u32, buffer: &mut [u8]) -> Result<u32, Refusal>
+    ensures { (let o = noticed call name number buffer.old in (answer_number result ≡ result_number o.refusal o.value) × (buffer.new ≡ o.buffer)) }
 {
-    if !both(1 <= call, call <= 10) {
-        return result(4, 0);
+    if call == 0 || 10 < call {
+        return Err(Refusal::WrongRange);
     }
     if buffer.len() != 160 {
-        return result(5, 0);
+        return Err(Refusal::WrongSpace);
     }
-    result(0, tell(buffer, call, name, number) as u32)
+    Ok(tell(buffer, call, name, number) as u32)
 }

@@ -1,9 +1,8 @@
-use mathlib.Core.Path.{◌≡◌, sym, ◌∙◌, ap}
+use mathlib.Core.Path.{◌≡◌, refl, sym, ◌∙◌, ap}
 use mathlib.Core.Bool.{true}
 use Prim.Native.Nat.{ℕ, ◌≤◌}
 use native.Mathlib.Omega.{arith}
-use borrow.Author.Rules.{rules}
-use borrow.Author.Tests.{not-true, not-false, le-leb}
+use borrow.Author.Tests.{le-leb}
 use lib.ListN.{length}
 use Rattle.grid.specs.declared.Grid.{Grid}
 use Rattle.grid.specs.Sizes.{grid_by}
@@ -38,12 +37,12 @@ few c there = let a = c.args in rw (the-grid c there) (places-suffice a.length a
 pub returns-then-not-has_chart : goal.returns-then-not-has_chart
 returns-then-not-has_chart c =
     let a = c.args in
-    leaves (charted-17 a.length a.mark a.list.now (sym c.has_chart.ensures ∙ c.if-not-has_chart.true)) c.result.ensures
+    leaves (charted-17 a.length a.mark a.list.now (sym c.has_chart.ensures ∙ c.if-not-has_chart.true)) refl
 
 pub returns-then-list-lt128 : goal.returns-then-list-lt128
 returns-then-list-lt128 c =
     let a = c.args in
-    leaves (charted-5 a.length a.mark a.list.now (there-is (goal.at.returns-then-list-lt128 c).Else-not-has_chart) (omega arith)) c.result-then-list-lt128.ensures
+    leaves (charted-5 a.length a.mark a.list.now (there-is (goal.at.returns-then-list-lt128 c).Else-not-has_chart) (omega arith)) refl
 
 pub overflow_cast-mark : goal.overflow_cast-mark
 overflow_cast-mark c = let a = c.args in omega (arith, chart-mark a.length a.mark (there-is (goal.at.overflow_cast-mark c).Else-not-has_chart))
@@ -56,8 +55,8 @@ draw-requires c =
     let l = chart-length a.length a.mark there in
     (rw (the-grid s.After-of_mark-g there) (laid-fits a.mark a.length l.0), l.1, few s.After-of_mark-g there, omega arith)
 
-pub overflow_cast-draw : goal.overflow_cast-draw
-overflow_cast-draw c = let s = goal.at.overflow_cast-draw c in omega (arith, c.draw.ensures.0, few s.After-of_mark-g (there-is s.Else-not-has_chart))
+pub overflow_cast-result : goal.overflow_cast-result
+overflow_cast-result c = let s = goal.at.overflow_cast-result c in omega (arith, c.draw.ensures.0, few s.After-of_mark-g (there-is s.Else-not-has_chart))
 
 pub returns : goal.returns
 returns c =
@@ -67,5 +66,5 @@ returns c =
     let g = the-grid s.After-of_mark-g there in
     let a = c.args in
     let t = leaves (charted-done a.length a.mark a.list.now there (omega arith))
-    (c.result-2.ensures ∙ ap (result_number 0) (d.ensures.0 ∙ ap (λ (x : Grid). length (chart x a.length)) g)) in
+    (ap (result_number 0) (d.ensures.0 ∙ ap (λ (x : Grid). length (chart x a.length)) g)) in
     (t.0, d.ensures.1 ∙ ap (λ (x : Grid). put 0 (in_places (chart x a.length)) a.list.now) g ∙ t.1)

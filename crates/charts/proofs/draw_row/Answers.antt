@@ -1,14 +1,8 @@
 use mathlib.Core.Path.{◌≡◌, refl, sym, ◌∙◌, ap}
-use mathlib.Core.List.{List}
-use Prim.Native.Nat.{ℕ, ◌+◌, ◌-◌, ◌*◌, ◌/◌, ◌%◌, ◌^◌, ◌≤◌}
+use Prim.Native.Nat.{ℕ, ◌+◌, ◌*◌, ◌/◌, ◌%◌, ◌^◌, ◌≤◌}
 use native.Mathlib.Omega.{arith}
-use borrow.Author.Rules.{rules}
-use lib.ListN.{length}
 use lib.Pow.{pow_mono}
 use Rattle.sets.proofs.DigitLaws.{shl_one}
-use Rattle.octets.specs.Bytes.{put}
-use Rattle.charting.specs.Charts.{in_places}
-use Rattle.charts.specs.Drawn.{chart_to}
 use Rattle.charts.proofs.TurnLaws.{same_block, draw-room, at_turn, list-turn}
 use Rattle.charts.proofs.draw_row.Goals.{After-struct_known-1}
 use Rattle.charts.proofs.draw_row.Goals as goal
@@ -27,22 +21,18 @@ pub overflow_add-end : goal.overflow_add-end
 overflow_add-end c = omega (arith, step c, few c, c.requires.5)
 
 pub loop-set-init : goal.loop-set-init
-loop-set-init c = (omega arith, omega arith, ap (λ (m : ℕ). c.args.start + m) (step c), refl, c.requires.6, λ xs e. e)
+loop-set-init c = (ap (λ (m : ℕ). c.args.start + m) (step c), refl, c.requires.6, λ xs e. e)
 
 pub is_smallest-wanted-requires : goal.is_smallest-wanted-requires
 is_smallest-wanted-requires c =
     let l = c.loop-set in
-    let e : l.set / 2 ^ c.args.g.cols ≡ c.args.start / 2 ^ c.args.g.cols = same_block _ _ l.set c.requires.4 l.invariant.0 (omega arith) in
+    let e : l.set / 2 ^ c.args.g.cols ≡ c.args.start / 2 ^ c.args.g.cols = same_block _ _ l.set c.requires.4 (omega arith) (omega arith) in
     (c.requires.0, omega arith, rw e c.columns_above-above.ensures)
 
 pub enter-at-requires : goal.enter-at-requires
 enter-at-requires c w =
     let l = c.loop-set in
-    omega (arith, draw-room c.args.g c.args.members l.set l.at l.invariant.4 c.requires.2 (omega (arith, c.requires.5)) (sym c.is_smallest-wanted.ensures ∙ w))
-
-pub overflow_add-set : goal.overflow_add-set
-overflow_add-set c =
-    omega (arith, few (goal.at.overflow_add-set c).After-struct_known-1, c.requires.5)
+    omega (arith, draw-room c.args.g c.args.members l.set l.at l.invariant.2 c.requires.2 (omega (arith, c.requires.5)) (sym c.is_smallest-wanted.ensures ∙ w))
 
 pub loop-set-preserved : goal.loop-set-preserved
 loop-set-preserved c =
@@ -50,17 +40,15 @@ loop-set-preserved c =
     let w = c.is_smallest-wanted.ensures in
     let l = c.loop-set in
     let a = c.args in (
-      omega arith,
-      omega arith,
-      l.invariant.2,
-      e.auto.list ∙ l.invariant.3,
-      e.ensures.0 ∙ at_turn a.g a.members l.set l.at l.invariant.4 _ w,
-      λ xs q. e.ensures.1 ∙ list-turn a.g a.members l.set l.at l.invariant.4 _ w xs l.list (l.invariant.5 xs q),
+      l.invariant.0,
+      e.auto.list ∙ l.invariant.1,
+      e.ensures.0 ∙ at_turn a.g a.members l.set l.at l.invariant.2 _ w,
+      λ xs q. e.ensures.1 ∙ list-turn a.g a.members l.set l.at l.invariant.2 _ w xs l.list (l.invariant.3 xs q),
     )
 
 pub returns : goal.returns
 returns c =
     let l = c.loop-set in
     let a = c.args in
-    let e : l.set ≡ a.start + 2 ^ a.g.cols = omega (arith, l.invariant.2) in
-    (rw e at l.invariant.4, λ xs q. rw e at (l.invariant.5 xs q))
+    let e : l.set ≡ a.start + 2 ^ a.g.cols = omega (arith, l.invariant.0) in
+    (rw e at l.invariant.2, λ xs q. rw e at (l.invariant.3 xs q))

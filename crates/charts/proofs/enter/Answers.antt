@@ -1,5 +1,4 @@
 use native.Mathlib.Omega.{arith}
-use borrow.Author.Rules.{rules}
 use Rattle.charts.proofs.enter.Goals as goal
 
 pub store_at-requires : goal.store_at-requires

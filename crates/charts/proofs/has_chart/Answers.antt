@@ -1,5 +1,4 @@
 use mathlib.Core.Path.{◌∙◌}
-use borrow.Author.Rules.{rules}
 use native.Mathlib.Omega.{arith}
 use Rattle.charts.proofs.TurnLaws.{no-members, too_many, no-mark, by-mark}
 use Rattle.charts.proofs.has_chart.Goals as goal

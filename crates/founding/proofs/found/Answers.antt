@@ -1,7 +1,9 @@
 use mathlib.Core.Path.{◌≡◌, refl, sym, ◌∙◌, ap}
 use mathlib.Core.List.{List}
 use mathlib.Core.Bool.{Bool, true, false, ◌&&◌}
-use Prim.Native.Nat.{ℕ, ◌+◌, ◌*◌, ◌/◌, ◌^◌}
+use Prim.Native.Nat.{ℕ, ◌+◌, ◌*◌, ◌/◌, ◌^◌, ◌≤◌, ◌<◌}
+use mathlib.Core.Logic.{◌⊎◌, inl, inr}
+use borrow.Author.Tests.{le-leb, lt-leb}
 use native.Mathlib.Omega.{arith}
 use lib.Dec.{eqb, leb}
 use lib.ListN.{length}
@@ -20,9 +22,13 @@ abbrev asked : Start → Founding
 asked s = record { capacity = s.args.capacity; file_length = s.args.file; names = s.args.names.now; choice = s.args.choice; files = s.args.files; counties = s.args.counties.now }
 
 module _ (t : List ℕ) (a : Founding) where
-  -- question 11 by its answer
-  named : (x r : Bool) → x ≡ NamesRight t a → r ≡ (x && leb a.choice 1) → Eleven t a ≡ r
-  named x r e d = sym (d ∙ ap (λ (b : Bool). b && leb a.choice 1) e)
+  -- question 11 by its answers
+  named : NamesRight t a ≡ true → a.choice ≤ 1 → Eleven t a ≡ true
+  named e h = rw (e, le-leb a.choice 1 h)
+
+  unnamed : (r : Bool) → r ≡ NamesRight t a → (r ≡ true × 1 < a.choice) ⊎ (r ≡ false) → Eleven t a ≡ false
+  unnamed r e (inl w) = rw (← e, w.0, lt-leb a.choice 1 w.1)
+  unnamed r e (inr w) = rw (← e, w)
 
   half : Eleven t a ≡ true → length a.names / 2 ≡ length (names_in a.names)
   half h = omega (arith, two-each t a h)
@@ -38,47 +44,47 @@ module _ (t : List ℕ) (a : Founding) where
   placed : (r : Bool) → Eleven t a ≡ true → r ≡ (eqb (length a.counties) (length a.names / 2) && every (length a.names / 2) (λ i. is_county (county_at a.counties i))) → Twenty t a ≡ r
   placed r h e = sym (e ∙ ap (λ (n : ℕ). eqb (length a.counties) n && every n (λ i. is_county (county_at a.counties i))) (half h))
 
-pub returns-then-not-both : goal.returns-then-not-both
-returns-then-not-both c =
+pub returns-then-not-choice : goal.returns-then-not-choice
+returns-then-not-choice c =
     let t = c.args.t.now in
-    let a = asked (goal.at.returns-then-not-both c).Start in
-    let eleven = named t a _ _ c.names_right.ensures c.both.ensures ∙ c.if-not-both.true in
+    let a = asked (goal.at.returns-then-not-choice c).Start in
+    let eleven = unnamed t a _ c.names_right.ensures c.if-not-choice.either in
     let no = refused-is t (founding a) 11 (sym (found-answers t a false _ _ eleven refl refl)) (omega arith) in
-    (c.result.ensures ∙ no.result, no.table, refl, refl)
+    (no.result, no.table, refl, refl)
 
 pub returns-then-not-sizes_right : goal.returns-then-not-sizes_right
 returns-then-not-sizes_right c =
     let t = c.args.t.now in
     let a = asked (goal.at.returns-then-not-sizes_right c).Start in
-    let eleven = named t a _ _ c.names_right.ensures c.both.ensures ∙ c.if-not-both.false in
+    let eleven = named t a (sym c.names_right.ensures ∙ c.if-not-choice.false.0) c.if-not-choice.false.1 in
     let twelve = sized t a _ eleven c.sizes_right.ensures ∙ c.if-not-sizes_right.true in
     let no = refused-is t (founding a) 12 (sym (found-answers t a true false _ eleven twelve refl)) (omega arith) in
-    (c.result-then-not-sizes_right.ensures ∙ no.result, no.table, refl, refl)
+    (no.result, no.table, refl, refl)
 
 pub returns-then-not-counties_right : goal.returns-then-not-counties_right
 returns-then-not-counties_right c =
     let t = c.args.t.now in
     let a = asked (goal.at.returns-then-not-counties_right c).Start in
-    let eleven = named t a _ _ c.names_right.ensures c.both.ensures ∙ c.if-not-both.false in
+    let eleven = named t a (sym c.names_right.ensures ∙ c.if-not-choice.false.0) c.if-not-choice.false.1 in
     let twelve = sized t a _ eleven c.sizes_right.ensures ∙ c.if-not-sizes_right.false in
     let twenty = placed t a _ eleven c.counties_right.ensures ∙ c.if-not-counties_right.true in
     let no = refused-is t (founding a) 20 (sym (found-answers t a true true false eleven twelve twenty)) (omega arith) in
-    (c.result-then-not-counties_right.ensures ∙ no.result, no.table, refl, refl)
+    (no.result, no.table, refl, refl)
 
 pub lay_table-requires : goal.lay_table-requires
 lay_table-requires c =
     let t = c.args.t.now in
     let a = asked (goal.at.lay_table-requires c).Start in
-    let eleven = named t a _ _ c.names_right.ensures c.both.ensures ∙ c.if-not-both.false in
+    let eleven = named t a (sym c.names_right.ensures ∙ c.if-not-choice.false.0) c.if-not-choice.false.1 in
     let twelve = sized t a _ eleven c.sizes_right.ensures ∙ c.if-not-sizes_right.false in
     let twenty = placed t a _ eleven c.counties_right.ensures ∙ c.if-not-counties_right.false in
     found-fits t a eleven twelve twenty
 
-pub overflow_cast-n : goal.overflow_cast-n
-overflow_cast-n c =
+pub overflow_cast-result : goal.overflow_cast-result
+overflow_cast-result c =
     let t = c.args.t.now in
-    let a = asked (goal.at.overflow_cast-n c).Start in
-    let eleven = named t a _ _ c.names_right.ensures c.both.ensures ∙ c.if-not-both.false in
+    let a = asked (goal.at.overflow_cast-result c).Start in
+    let eleven = named t a (sym c.names_right.ensures ∙ c.if-not-choice.false.0) c.if-not-choice.false.1 in
     let twelve = sized t a _ eleven c.sizes_right.ensures ∙ c.if-not-sizes_right.false in
     let twenty = placed t a _ eleven c.counties_right.ensures ∙ c.if-not-counties_right.false in
     let f = found-fits t a eleven twelve twenty in
@@ -88,8 +94,8 @@ pub returns : goal.returns
 returns c =
     let t = c.args.t.now in
     let a = asked (goal.at.returns c).Start in
-    let eleven = named t a _ _ c.names_right.ensures c.both.ensures ∙ c.if-not-both.false in
+    let eleven = named t a (sym c.names_right.ensures ∙ c.if-not-choice.false.0) c.if-not-choice.false.1 in
     let twelve = sized t a _ eleven c.sizes_right.ensures ∙ c.if-not-sizes_right.false in
     let twenty = placed t a _ eleven c.counties_right.ensures ∙ c.if-not-counties_right.false in
     let yes = found-done t a eleven twelve twenty in
-    (c.result-2.ensures ∙ ap (λ (n : ℕ). 0 * 2 ^ 32 + n) (half t a eleven) ∙ yes.0, c.lay_table.ensures ∙ yes.1, refl, refl)
+    (ap (λ (n : ℕ). 0 * 2 ^ 32 + n) (half t a eleven) ∙ yes.0, c.lay_table.ensures ∙ yes.1, refl, refl)

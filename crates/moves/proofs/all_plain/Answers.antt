@@ -14,15 +14,15 @@ use Rattle.moves.proofs.all_plain.Goals as goal
 found : (c : After-plain) → let t = c.args.t.now in plain (row_bytes t (c.loop-k.k + 1)) ≡ c.plain.result
 found c = sym (c.plain.ensures ∙ ap plain c.row_of.ensures.0)
 
-pub used-used-requires : goal.used-used-requires
-used-used-requires c = long c.requires
+pub used-k-end-requires : goal.used-k-end-requires
+used-k-end-requires c = long c.requires
 
 pub loop-k-init : goal.loop-k-init
 unfolding every
-loop-k-init c = (omega arith, refl)
+loop-k-init c = refl
 
 pub row_of-requires : goal.row_of-requires
-row_of-requires c = (c.requires, omega (arith, c.used-used.ensures))
+row_of-requires c = (c.requires, omega (arith, c.used-k-end.ensures))
 
 pub plain-requires : goal.plain-requires
 plain-requires c = c.row_of.ensures.1
@@ -30,17 +30,17 @@ plain-requires c = c.row_of.ensures.1
 pub returns-then-not-plain : goal.returns-then-not-plain
 unfolding all_plain
 returns-then-not-plain c =
-    every-not _ _ (c.loop-k.k + 1) (omega (arith, c.loop-k-test.true, c.used-used.ensures)) (found (goal.at.returns-then-not-plain c).After-plain ∙ c.if-not-plain.true)
+    every-not _ _ (c.loop-k.k + 1) (omega (arith, c.loop-k-test.true, c.used-k-end.ensures)) (found (goal.at.returns-then-not-plain c).After-plain ∙ c.if-not-plain.true)
 
 pub loop-k-preserved : goal.loop-k-preserved
 loop-k-preserved c =
     let l = c.loop-k in
-    (omega (arith, c.loop-k-test.true), every_more _ l.k l.invariant.1 (found (goal.at.loop-k-preserved c).After-plain ∙ c.if-not-plain.false))
+    every_more _ l.k l.invariant (found (goal.at.loop-k-preserved c).After-plain ∙ c.if-not-plain.false)
 
 pub returns : goal.returns
 unfolding all_plain
 returns c =
     let l = c.loop-k in
     let t = c.args.t.now in
-    let e : l.k ≡ used_of t = omega (arith, c.loop-k-test.false, c.used-used.ensures) in
-    sym l.invariant.1 ∙ ap (λ (n : ℕ). every n (λ i. plain (row_bytes t i))) e
+    let e : l.k ≡ used_of t = omega (arith, c.loop-k-test.false, c.used-k-end.ensures) in
+    sym l.invariant ∙ ap (λ (n : ℕ). every n (λ i. plain (row_bytes t i))) e

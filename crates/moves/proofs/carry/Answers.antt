@@ -38,7 +38,7 @@ plain e = rough (eqb e.args.form 1) (all_plain e.args.t.now) _ _ e.all_plain-pla
 pub returns-then-not-own_form : goal.returns-then-not-own_form
 returns-then-not-own_form c =
     let no = carry-no c.args.t.now (carrying (goal.at.returns-then-not-own_form c).Start) 1 (carry-answers _ _ false _ _ (sym c.own_form.ensures ∙ c.if-not-own_form.true) refl refl) (omega arith) in
-    (c.result.ensures ∙ no.0, no.1, no.2)
+    (no.0, no.1, no.2)
 
 pub all_plain-plain-requires : goal.all_plain-plain-requires
 all_plain-plain-requires c = own-sized (own1 (goal.at.all_plain-plain-requires c).Else-not-own_form)
@@ -46,7 +46,7 @@ all_plain-plain-requires c = own-sized (own1 (goal.at.all_plain-plain-requires c
 pub returns-then-both : goal.returns-then-both
 returns-then-both c =
     let no = carry-no c.args.t.now (carrying (goal.at.returns-then-both c).Start) 15 (carry-answers _ _ true false _ (own1 (goal.at.returns-then-both c).Else-not-own_form) (plain2 (goal.at.returns-then-both c).After-both ∙ ap not c.if-both.true) refl) (omega arith) in
-    (c.result-then-both.ensures ∙ no.0, no.1, no.2)
+    (no.0, no.1, no.2)
 
 pub form-requires : goal.form-requires
 form-requires c = long (own-sized (own1 (goal.at.form-requires c).Else-not-own_form))
@@ -55,7 +55,7 @@ pub returns-then-not-goes_over : goal.returns-then-not-goes_over
 returns-then-not-goes_over c =
     let none : goes_over (form_of c.args.t.now) c.args.form ≡ false = over3 (goal.at.returns-then-not-goes_over c).After-goes_over ∙ c.if-not-goes_over.true in
     let no = carry-no c.args.t.now (carrying (goal.at.returns-then-not-goes_over c).Start) 12 (carry-answers _ _ true true false (own1 (goal.at.returns-then-not-goes_over c).Else-not-own_form) (plain (goal.at.returns-then-not-goes_over c).Else-both) (rw none)) (omega arith) in
-    (c.result-then-not-goes_over.ensures ∙ no.0, no.1, no.2)
+    (no.0, no.1, no.2)
 
 pub overflow_cast-to : goal.overflow_cast-to
 overflow_cast-to c = let m = (forms-small _ _ (over (goal.at.overflow_cast-to c).Else-not-goes_over)).1 in omega (arith, m)
@@ -79,7 +79,7 @@ pub returns-then-dest-end : goal.returns-then-dest-end
 returns-then-dest-end c =
     let other : eqb (length c.args.dest.now) (carried_length c.args.form c.args.t.now) ≡ false = ne_eqb _ _ (λ q. c.if-dest-end.true (q ∙ sym (end-long c.args.t.now c.args.form _ _ _ c.capacity.ensures c.size_in-width.ensures c.file_length.ensures))) in
     let no = carry-no c.args.t.now (carrying (goal.at.returns-then-dest-end c).Start) 12 (carry-answers _ _ true true false (own1 (goal.at.returns-then-dest-end c).Else-not-own_form) (plain (goal.at.returns-then-dest-end c).Else-both) (rw (over (goal.at.returns-then-dest-end c).Else-not-goes_over, other))) (omega arith) in
-    (c.result-then-dest-end.ensures ∙ no.0, no.1, no.2)
+    (no.0, no.1, no.2)
 
 same_here : (c : Else-dest-end) → length c.args.dest.now ≡ carried_length c.args.form c.args.t.now
 same_here c = c.if-dest-end.false ∙ end-long c.args.t.now c.args.form _ _ _ c.capacity.ensures c.size_in-width.ensures c.file_length.ensures
@@ -90,10 +90,10 @@ carry_table-requires c = let f = forms-small _ _ (over (goal.at.carry_table-requ
 pub used-requires : goal.used-requires
 used-requires c = long (own-sized (own1 (goal.at.used-requires c).Else-not-own_form))
 
-pub overflow_cast-used : goal.overflow_cast-used
-overflow_cast-used c = omega (arith, c.used.ensures, few-rows (own-sized (own1 (goal.at.overflow_cast-used c).Else-not-own_form)))
+pub overflow_cast-result : goal.overflow_cast-result
+overflow_cast-result c = omega (arith, c.used.ensures, few-rows (own-sized (own1 (goal.at.overflow_cast-result c).Else-not-own_form)))
 
 pub returns : goal.returns
 returns c =
     let yes = carry-done c.args.t.now (carrying (goal.at.returns c).Start) _ _ (carry-answers _ _ true true true (own1 (goal.at.returns c).Else-not-own_form) (plain (goal.at.returns c).Else-both) (and_i _ _ (over (goal.at.returns c).Else-not-goes_over) (eq-eqb _ _ (same_here (goal.at.returns c).Else-dest-end)))) c.used.ensures c.carry_table.ensures in
-    (c.result-2.ensures ∙ yes.0, yes.1, yes.2)
+    (yes.0, yes.1, yes.2)

@@ -1,6 +1,6 @@
 use mathlib.Core.Path.{◌≡◌, refl, sym, ◌∙◌, ap}
 use mathlib.Core.List.{◌++◌, append-nil}
-use Prim.Native.Nat.{ℕ, ◌+◌}
+use Prim.Native.Nat.{ℕ, ◌+◌, ◌*◌}
 use native.Mathlib.Omega.{arith}
 use Rattle.octets.specs.Bytes.{bytes_of, part}
 use Rattle.fields.specs.Layout.{stride_in, capacity_of, rows_end}
@@ -13,27 +13,28 @@ use Rattle.moves.proofs.carry_table.Goals as goal
 
 -- what is known in the turn of row k + 1
 turn : (l : In-loop-k)
-    → Turn l.args.t.now l.args.form l.loop-k.k l.row_length-size.result l.size_in-width.result (32 + l.file_length-file.result) l.loop-k.from l.loop-k.to l.loop-k.dest
+    → Turn l.args.t.now l.args.form l.loop-k.k l.row_length-size.result l.size_in-width.result (32 + l.file_length-file.result) (16 + l.loop-k.k * l.row_length-size.result) (16 + l.loop-k.k * l.size_in-width.result) l.loop-k.dest
+unfolding rows_end
 turn l =
     let loop = l.loop-k in
     record {
       sized = l.requires.0;
       former = l.requires.2;
       low = l.requires.3;
-      below = omega (arith, l.loop-k-test.true, l.capacity-capacity.ensures);
+      below = omega (arith, l.loop-k-test.true, l.capacity-k-end.ensures);
       size_is = l.row_length-size.ensures;
       width_is = l.size_in-width.ensures ∙ ap (stride_in l.args.form 1) l.file_length-file.ensures;
       end_is = ap (λ (n : ℕ). 32 + n) l.file_length-file.ensures;
-      from_is = loop.invariant.1;
-      to_is = loop.invariant.2;
-      room = loop.invariant.3 ∙ l.carry_head.auto.dest ∙ l.requires.1;
+      from_is = ap (λ (n : ℕ). 16 + loop.k * n) l.row_length-size.ensures;
+      to_is = refl;
+      room = loop.invariant.0 ∙ l.carry_head.auto.dest ∙ l.requires.1;
     }
 
 pub file_length-file-requires : goal.file_length-file-requires
 file_length-file-requires c = long c.requires.0
 
-pub capacity-capacity-requires : goal.capacity-capacity-requires
-capacity-capacity-requires c = long c.requires.0
+pub capacity-k-end-requires : goal.capacity-k-end-requires
+capacity-k-end-requires c = long c.requires.0
 
 pub row_length-size-requires : goal.row_length-size-requires
 row_length-size-requires c = let p = c.requires.0 in (long p, p.header)
@@ -50,7 +51,13 @@ carry_head-requires c = (omega (arith, c.requires.1), long c.requires.0)
 
 pub loop-k-init : goal.loop-k-init
 unfolding rows_end in_turn
-loop-k-init c = (omega arith, omega arith, omega arith, refl, c.carry_head.ensures ∙ sym (append-nil _))
+loop-k-init c = let z : 16 + 0 * c.size_in-width.result ≡ 16 = omega arith in (refl, rw z (c.carry_head.ensures ∙ sym (append-nil _)))
+
+pub overflow_mul-from : goal.overflow_mul-from
+overflow_mul-from c = omega (arith, from-fits (turn c))
+
+pub overflow_mul-to : goal.overflow_mul-to
+overflow_mul-to c = omega (arith, to-fits (turn c))
 
 pub overflow_add-to : goal.overflow_add-to
 overflow_add-to c = omega (arith, to-fits (turn (goal.at.overflow_add-to c).In-loop-k))
@@ -78,20 +85,17 @@ overflow_add-to-in-loop-k c = omega (arith, to-fits (turn (goal.at.overflow_add-
 pub loop-k-preserved : goal.loop-k-preserved
 unfolding rows_end
 loop-k-preserved c =
-    let row = c.carry_row in (
-      omega (arith, c.loop-k-test.true),
-      omega (arith, c.loop-k.invariant.1, (turn (goal.at.loop-k-preserved c).In-loop-k).size_is),
-      omega (arith, c.loop-k.invariant.2),
-      turn-long (turn (goal.at.loop-k-preserved c).In-loop-k) _ row.ensures ∙ c.loop-k.invariant.3,
-      row-turn (turn (goal.at.loop-k-preserved c).In-loop-k) _ row.ensures (bytes_of 1 c.args.form ++ part 1 15 c.args.t.now) c.loop-k.invariant.4,
-    )
+    let row = c.carry_row in
+    let x = turn (goal.at.loop-k-preserved c).In-loop-k in
+    let e : 16 + (c.loop-k.k + 1) * c.size_in-width.result ≡ 16 + c.loop-k.k * c.size_in-width.result + c.size_in-width.result = omega arith in
+    (turn-long x _ row.ensures ∙ c.loop-k.invariant.0, rw e (row-turn x _ row.ensures (bytes_of 1 c.args.form ++ part 1 15 c.args.t.now) c.loop-k.invariant.1))
 
 pub shape_of-dest : goal.shape_of-dest
-shape_of-dest c = c.loop-k.invariant.3 ∙ c.carry_head.auto.dest
+shape_of-dest c = c.loop-k.invariant.0 ∙ c.carry_head.auto.dest
 
 pub returns : goal.returns
 returns c =
     let l = c.loop-k in
-    let e : l.k ≡ capacity_of c.args.t.now = omega (arith, l.invariant.0, c.loop-k-test.false, c.capacity-capacity.ensures) in
+    let e : l.k ≡ capacity_of c.args.t.now = omega (arith, c.loop-k-test.false, c.capacity-k-end.ensures) in
     let w = c.size_in-width.ensures ∙ ap (stride_in c.args.form 1) c.file_length-file.ensures in
-    all-carried _ _ c.args.form _ _ e (to_end c.args.t.now c.args.form _ _ _ l.dest l.invariant.2 e w (l.invariant.3 ∙ c.carry_head.auto.dest ∙ c.requires.1)) l.invariant.4
+    all-carried _ _ c.args.form _ _ e (to_end c.args.t.now c.args.form _ _ _ l.dest refl e w (l.invariant.0 ∙ c.carry_head.auto.dest ∙ c.requires.1)) l.invariant.1

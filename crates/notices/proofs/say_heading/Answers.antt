@@ -1,7 +1,6 @@
 use Rattle.octets.specs.Bytes.{put}
 use Rattle.telling.specs.Text.{in_bytes}
 use Rattle.notices.proofs.SaidLaws.{heading-is}
-use borrow.Author.Rules.{rules}
 use Rattle.notices.proofs.say_heading.Goals as goal
 
 pub returns : goal.returns

@@ -4,7 +4,6 @@ use native.Mathlib.Omega.{arith}
 use Rattle.octets.proofs.CodeLaws.{part-back, part_length}
 use Rattle.telling.specs.Text.{decimal}
 use Rattle.telling.proofs.TextLaws.{length-decimal}
-use borrow.Author.Rules.{rules}
 use Rattle.notices.proofs.say_number.Goals as goal
 
 pub returns : goal.returns
