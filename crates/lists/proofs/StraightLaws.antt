@@ -66,8 +66,9 @@ straight-is order (suc n) few each =
     take-suc order n 0 (omega arith) ∙ ap₂ (λ (xs : List ℕ) (x : ℕ). xs ++ (x ∷ [])) (straight-is order n (omega arith) (λ k h. each k (omega arith))) (each n (omega arith) ∙ omega arith)
     ∙ sym (upward-more n 1)
 
-pub listed-straight : {order : List ℕ} {n : ℕ} → Listed 64 order n → ((k : ℕ) → k < 64 → 1 ≤ get_or order k 0 → get_or order k 0 ≡ k + 1) → take n order ≡ upward n 1
-listed-straight {order = order} {n = n} l each = straight-is order n (omega (arith, l.places, l.few)) (λ k h. each k (omega (arith, l.few)) (l.each k h).0)
+pub straight_chain : {rows chain : List ℕ} → Listed (length chain) rows (length chain) × (take (length chain) rows ≡ chain) → ((k : ℕ) → k < 64 → 1 ≤ get_or rows k 0 → get_or rows k 0 ≡ k + 1) → chain ≡ upward (length chain) 1
+straight_chain {rows = rows} {chain = chain} l each =
+    sym l.1 ∙ straight-is rows (length chain) (omega (arith, l.0.places, l.0.few)) (λ k h. each k (omega (arith, l.0.few)) (l.0.each k h).0)
 
 -- ---- those of rows 1 to m that pass
 -- one row more

@@ -1,5 +1,4 @@
 // A level: members in chain order, laid in one grid; the quorum that a set holds of it, and the choice that a name makes over it.
-// The chain order is the first `count` of an array of 64 rows.
 #![tactic(auto)]
 
 ghost use Rattle.std.specs.Prelude.{◌≡◌, true, ◌&&◌, cond, ℕ, ◌+◌, ◌*◌, ◌/◌, ◌^◌, ◌≤◌, ◌<◌, min, eqb, leb, length, get_or, take};
@@ -12,14 +11,7 @@ use bools::both;
 use octets::joined;
 use quorums::Kind;
 use rows::RowSet;
-
-// The place, from 0, of the row that stands at j in the order.
-fn place_at(order: &[u8; 64], j: usize) -> usize
-    requires { (length order.now ≡ 64) × (j < 64) × Within 64 (get_or order.now j 0) }
-    ensures { result + 1 ≡ get_or order.now j 0 }
-{
-    order[j] as usize - 1
-}
+use table::Chain;
 
 // Where `counts` holds, a set of positions, each moved up by one, with position 1 in it where b holds; the set as it is otherwise.
 fn pushed(set: RowSet, counts: bool, b: bool) -> RowSet
@@ -45,12 +37,6 @@ fn popped(set: RowSet, counts: bool) -> RowSet
     set
 }
 
-fn smaller(a: u8, b: u8) -> u8
-    ensures { result ≡ min a b }
-{
-    if a < b { a } else { b }
-}
-
 // Rows 1 to 64.
 fn rows_in_turn() -> [u8; 64]
     ensures { result ≡ upward 64 1 }
@@ -65,25 +51,20 @@ fn straight(order: &[u8; 64]) -> bool
 {
     let rows = rows_in_turn();
     let mut bits: u8 = 0;
-    let mut k = 0;
-    while k < 64 {
+    for k in 0..64 {
         let row = order[k];
-        bits = joined(bits, smaller(row, row ^ rows[k]));
-        k += 1;
+        bits = joined(bits, row.min(row ^ rows[k]));
     }
     bits == 0
 }
 
 // The positions of a list at which a set of rows sits, by any order; the last row of the chain is looked at first.
-fn held(order: &[u8; 64], count: usize, members: RowSet, set: RowSet) -> RowSet
-    requires { Listed 64 order.now count }
-    ensures { has result.bits ≡ at_seat (seats (take count order.now) (has members.bits)) (has set.bits) }
+fn held(chain: &Chain, members: RowSet, set: RowSet) -> RowSet
+    ensures { has result.bits ≡ at_seat (seats chain.now (has members.bits)) (has set.bits) }
 {
     let mut positions = RowSet::EMPTY;
-    let mut j = count;
-    while 0 < j {
-        j -= 1;
-        let place = place_at(order, j);
+    for j in (0..chain.len()).rev() {
+        let place = chain.place_at(j);
         positions = pushed(positions, members.at(place), set.at(place));
     }
     positions
@@ -95,62 +76,53 @@ fn held_straight(count: usize, members: RowSet, set: RowSet) -> RowSet
     ensures { has result.bits ≡ at_seat (seats (upward count 1) (has members.bits)) (has set.bits) }
 {
     let all = RowSet::first(count);
-    if members.bits == all.bits {
+    if members == all {
         return set.cut(all);
     }
     let mut positions = RowSet::EMPTY;
-    let mut left = members.cut(all);
     let mut k = 0;
-    while !left.is_empty() {
-        positions = positions.add(k, set.at(left.lowest() - 1));
-        left = left.rest();
+    for i in members.cut(all).members() {
+        positions = positions.add(k, set.at(i - 1));
         k += 1;
     }
     positions
 }
 
 // The positions of a list at which a set of rows sits. From 16 rows on it is asked how the order goes.
-fn held_positions(order: &[u8; 64], count: usize, members: RowSet, set: RowSet) -> RowSet
-    requires { Listed 64 order.now count }
-    ensures { has result.bits ≡ at_seat (seats (take count order.now) (has members.bits)) (has set.bits) }
+fn held_positions(chain: &Chain, members: RowSet, set: RowSet) -> RowSet
+    ensures { has result.bits ≡ at_seat (seats chain.now (has members.bits)) (has set.bits) }
 {
-    if 16 <= count {
-        if straight(order) {
-            return held_straight(count, members, set);
+    if 16 <= chain.len() {
+        if straight(chain.rows()) {
+            return held_straight(chain.len(), members, set);
         }
     }
-    held(order, count, members, set)
+    held(chain, members, set)
 }
 
 // The rows at some positions of the chain.
-fn standing(rows: &[u8; 64], count: usize, positions: RowSet) -> RowSet
-    requires { Listed 64 rows.now count }
-    ensures { has result.bits ≡ (λ (i : ℕ). some 64 (λ k. has positions.bits k && at_seat (take count rows.now) (eqb i) k)) }
+fn standing(chain: &Chain, positions: RowSet) -> RowSet
+    ensures { has result.bits ≡ (λ (i : ℕ). some 64 (λ k. has positions.bits k && at_seat chain.now (eqb i) k)) }
 {
     let mut set = RowSet::EMPTY;
-    let mut left = positions.cut(RowSet::first(count));
-    while !left.is_empty() {
-        set = set.add(place_at(rows, left.lowest() - 1), true);
-        left = left.rest();
+    for i in positions.cut(RowSet::first(chain.len())).members() {
+        set = set.add(chain.place_at(i - 1), true);
     }
     set
 }
 
 // The members of a list at some positions of it, by any order.
-fn seated(order: &[u8; 64], count: usize, members: RowSet, positions: RowSet) -> RowSet
-    requires { Listed 64 order.now count }
-    ensures { has result.bits ≡ (λ (i : ℕ). some 64 (λ k. has positions.bits k && at_seat (seats (take count order.now) (has members.bits)) (eqb i) k)) }
+fn seated(chain: &Chain, members: RowSet, positions: RowSet) -> RowSet
+    ensures { has result.bits ≡ (λ (i : ℕ). some 64 (λ k. has positions.bits k && at_seat (seats chain.now (has members.bits)) (eqb i) k)) }
 {
     let mut set = RowSet::EMPTY;
     // the positions ahead, the next one first
     let mut left = positions;
-    let mut j = 0;
-    while j < count {
-        let place = place_at(order, j);
+    for j in 0..chain.len() {
+        let place = chain.place_at(j);
         let member = members.at(place);
         set = set.add(place, both(member, left.at(0)));
         left = popped(left, member);
-        j += 1;
     }
     set
 }
@@ -163,87 +135,65 @@ fn seated_straight(count: usize, members: RowSet, positions: RowSet) -> RowSet
     let mut set = RowSet::EMPTY;
     // the positions ahead, the next one first
     let mut ahead = positions;
-    let mut left = members.cut(RowSet::first(count));
-    while !left.is_empty() {
-        set = set.add(left.lowest() - 1, ahead.at(0));
+    for i in members.cut(RowSet::first(count)).members() {
+        set = set.add(i - 1, ahead.at(0));
         ahead = popped(ahead, true);
-        left = left.rest();
     }
     set
 }
 
 // The members of a list at some positions of it. From 16 rows on it is asked how the order goes.
-fn seated_members(order: &[u8; 64], count: usize, members: RowSet, positions: RowSet) -> RowSet
-    requires { Listed 64 order.now count }
-    ensures { has result.bits ≡ (λ (i : ℕ). some 64 (λ k. has positions.bits k && at_seat (seats (take count order.now) (has members.bits)) (eqb i) k)) }
+fn seated_members(chain: &Chain, members: RowSet, positions: RowSet) -> RowSet
+    ensures { has result.bits ≡ (λ (i : ℕ). some 64 (λ k. has positions.bits k && at_seat (seats chain.now (has members.bits)) (eqb i) k)) }
 {
-    if 16 <= count {
-        if straight(order) {
-            return seated_straight(count, members, positions);
+    if 16 <= chain.len() {
+        if straight(chain.rows()) {
+            return seated_straight(chain.len(), members, positions);
         }
     }
-    seated(order, count, members, positions)
+    seated(chain, members, positions)
 }
 
 // The members, if one of them stands in the order; none otherwise.
-fn lone(order: &[u8; 64], count: usize, members: RowSet) -> RowSet
-    requires { Listed 64 order.now count }
-    ensures { has result.bits ≡ (λ (i : ℕ). has members.bits i && leb 1 (length (seats (take count order.now) (has members.bits)))) }
+fn lone(chain: &Chain, members: RowSet) -> RowSet
+    ensures { has result.bits ≡ (λ (i : ℕ). has members.bits i && leb 1 (length (seats chain.now (has members.bits)))) }
 {
-    let mut j = 0;
-    while j < count {
-        if members.at(place_at(order, j)) {
+    for j in 0..chain.len() {
+        if members.at(chain.place_at(j)) {
             return members;
         }
-        j += 1;
     }
     RowSet::EMPTY
 }
 
 // Does a set hold a quorum of the members, laid by the mark? One member needs no grid.
-pub fn quorum(
-    kind: Kind,
-    order: &[u8; 64],
-    count: usize,
-    mark: u8,
-    members: RowSet,
-    set: RowSet,
-) -> bool
-    requires { Listed count order.now count }
-    ensures { result ≡ level kind mark (take count order.now) (has members.bits) (has set.bits) }
+pub fn quorum(kind: Kind, chain: &Chain, mark: u8, members: RowSet, set: RowSet) -> bool
+    ensures { result ≡ level kind mark chain.now (has members.bits) (has set.bits) }
 {
     if members.rest().is_empty() {
-        return !lone(order, count, members).cut(set).is_empty();
+        return !lone(chain, members).cut(set).is_empty();
     }
     let length = members.size();
     coterie::holds(
         kind,
         grid::of_mark(mark, length),
         length,
-        held_positions(order, count, members, set),
+        held_positions(chain, members, set),
     )
 }
 
 // The members that a name chooses, laid by the mark. One member needs no grid.
-pub fn choice(
-    kind: Kind,
-    order: &[u8; 64],
-    count: usize,
-    mark: u8,
-    members: RowSet,
-    name: u16,
-) -> RowSet
-    requires { Listed count order.now count }
-    ensures { has result.bits ≡ level_choice kind mark (take count order.now) (has members.bits) name }
+pub fn choice(kind: Kind, chain: &Chain, mark: u8, members: RowSet, name: u16) -> RowSet
+    ensures { has result.bits ≡ level_choice kind mark chain.now (has members.bits) name }
 {
     if members.rest().is_empty() {
-        return lone(order, count, members);
+        return lone(chain, members);
     }
     let length = members.size();
     let chosen = coterie::choose(kind, grid::of_mark(mark, length), length, name);
-    if members.fills(count) {
+    if members.fills(chain.len()) {
         // members that are rows 1 to `count` have the order of the chain
-        return standing(order, count, chosen);
+        return standing(chain, chosen);
     }
-    seated_members(order, count, members, chosen)
+    seated_members(chain, members, chosen)
 }

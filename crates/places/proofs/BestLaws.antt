@@ -2,16 +2,17 @@
 use mathlib.Core.Path.{◌≡◌, refl, sym, ◌∙◌, ap, fun_ext}
 use mathlib.Core.Bool.{Bool, true, false, not, cond, ◌&&◌, ◌||◌, and-false, or-false, or-true}
 use mathlib.Core.Logic.{◌⊎◌, inl, inr}
-use Prim.Native.Nat.{ℕ, ◌-◌, ◌≤◌, ◌<◌, max}
+use Prim.Native.Nat.{ℕ, ◌+◌, ◌-◌, ◌%◌, ◌≤◌, ◌<◌, max}
+use native.Mathlib.Nat.{mod-eq_of_lt}
 use native.Mathlib.Decide.{ℕ_discrete}
 use native.Mathlib.Omega.{arith}
 use lib.Dec.{eqb, ltb}
 use borrow.Author.Tests.{eq-eqb, ne_eqb, eqb-true, ltb-true, ltb-false, lt-ltb, not-true}
 use Rattle.bools.proofs.BoolLaws.{and_l, and_r, and_i, or_l, or_r, or-e, clash, same_test}
 use Rattle.sets.specs.Upto.{Within, some, most}
-use Rattle.sets.specs.Sets.{has, no_row, losing, left_of, joining}
+use Rattle.sets.specs.Sets.{has, no_row, gaining, losing, left_of, joining}
 use Rattle.sets.proofs.UptoLaws.{some_at, some_of, most-le, most-under, most-at}
-use Rattle.sets.proofs.SetLaws.{has-empty}
+use Rattle.sets.proofs.SetLaws.{has-empty, gain-where}
 use Rattle.sets.proofs.MemberLaws.{only, Taken}
 use Rattle.places.specs.declared.Top.{Top}
 use Rattle.places.specs.Places.{Tops, Better, Behind}
@@ -75,6 +76,13 @@ module _ (p : ℕ → Bool) (f : ℕ → ℕ) (rows : (j : ℕ) → p j ≡ true
         value = value ∙ ap (λ (m : ℕ). max m (f i)) t.value ∙ sym more;
         rows = e.rows ∙ rw (ev, eo, t.rows, value) (fun_ext (having b.value t.value));
       }
+
+-- the set of row i alone, by its place
+pub row-alone : (k i : ℕ) → k + 1 ≡ i → Within 64 i → gaining (has 0) (k % 64 + 1) ≡ only i
+unfolding no_row
+row-alone k i e w =
+    let inside : k < 64 = omega arith in
+    ap (gaining (has 0)) (ap (λ (x : ℕ). x + 1) (mod-eq_of_lt inside) ∙ e) ∙ gain-where (has 0) i true w ∙ fun_ext (λ j. ap (λ (f : ℕ → Bool). f j || eqb j i) has-empty)
 
 -- ---- the rows of q, and those of p taken since
 pub joined-none : (q : ℕ → Bool) → joining q no_row ≡ q

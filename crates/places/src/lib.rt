@@ -42,7 +42,7 @@ fn better(b: Top, v: u32, one: RowSet) -> Top
     b
 }
 
-// What is left of some rows behind the first of them that have v.
+// What is left of some rows behind the first of them that have v. It returns the set that the walk has left, which an iterator would keep to itself.
 fn behind(values: &[u32; 64], s: RowSet, v: u32) -> RowSet
     ensures { Behind (placed values.now) v s.bits result.bits }
 {
@@ -65,15 +65,14 @@ pub fn best(values: &[u32; 64], s: RowSet) -> Top
         return Top::NONE;
     }
     let first = values[s.lowest() - 1];
-    let mut left = behind(values, s.rest(), first);
+    let left = behind(values, s.rest(), first);
     let mut b = Top {
         value: first,
         rows: s.outside(left),
     };
-    while !left.is_empty() {
-        let rest = left.rest();
-        b = better(b, values[left.lowest() - 1], left.outside(rest));
-        left = rest;
+    for i in left.members() {
+        let k = i - 1;
+        b = better(b, values[k], RowSet::EMPTY.add(k, true));
     }
     b
 }

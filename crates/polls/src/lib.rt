@@ -35,9 +35,7 @@ pub fn gather(t: &[u8], q: usize, answering: RowSet) -> Poll
     };
     let mut stale = RowSet::EMPTY;
     let mut listed = RowSet::EMPTY;
-    let mut left = answering;
-    while !left.is_empty() {
-        let i = left.lowest();
+    for i in answering.members() {
         let row = table::row_of(t, i);
         let copy = table::copy_of(t, i, q);
         let list = fields::list(row);
@@ -47,7 +45,6 @@ pub fn gather(t: &[u8], q: usize, answering: RowSet) -> Poll
         p.versions[k] = fields::version(copy);
         p.desired[k] = fields::desired(copy);
         p.epochs[k] = fields::epoch(row);
-        left = left.rest();
     }
     p.stale = stale;
     p.listed = listed;

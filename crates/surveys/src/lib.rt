@@ -1,20 +1,21 @@
 // What a check finds of the set that answered: has it the whole list in force, does it hold a quorum, is it current in every file.
 #![tactic(auto)]
 
-ghost use Rattle.std.specs.Prelude.{◌≡◌, true, not, ◌&&◌, ◌||◌, ℕ, ◌^◌, ◌<◌, take};
+ghost use Rattle.std.specs.Prelude.{◌≡◌, true, not, ◌&&◌, ◌||◌, ℕ, ◌^◌, ◌<◌};
 ghost use Rattle.sets.specs.Upto.{some};
 ghost use Rattle.sets.specs.Sets.{has};
 ghost use Rattle.quorums.specs.declared.Kind.TheVariants.{Write};
 ghost use Rattle.fields.specs.Layout.{is_empty, form_value, form_of, used_of};
-ghost use Rattle.table.specs.Asked.{Sized, Listed};
+ghost use Rattle.table.specs.Asked.{Sized};
 ghost use Rattle.counties.specs.Counties.{list_quorum};
-ghost use Rattle.grouping.specs.Grouped.{Apart, frame_by};
+ghost use Rattle.grouping.specs.Grouped.{frame_by};
 ghost use Rattle.protocol.specs.Calls.{answers};
 ghost use Rattle.verdicts.specs.Judged.{Tallied};
 ghost use Rattle.surveys.specs.Surveyed.{Surveyed};
 
 use bools::both;
 use fields::Laid;
+use grouping::Frame;
 use quorums::Kind;
 use rows::RowSet;
 use verdicts::{Tally, quorum_held, tallied};
@@ -28,21 +29,10 @@ pub fn has_whole(s: RowSet, list: Laid) -> bool
 }
 
 // Question 6 of a set; it is not asked where its answer is known.
-pub fn held_unless(
-    known: bool,
-    order: &[u8; 64],
-    count: usize,
-    sets: &[u64; 8],
-    list: Laid,
-    s: RowSet,
-) -> bool
-    requires { Listed count order.now count × Apart sets.now }
-    ensures { result ≡ (known || (not (is_empty list) && list_quorum Write (frame_by (take count order.now) sets.now) list (has s.bits))) }
+pub fn held_unless(known: bool, frame: &Frame, list: Laid, s: RowSet) -> bool
+    ensures { result ≡ (known || (not (is_empty list) && list_quorum Write (frame_by frame.now.chain frame.now.counties) list (has s.bits))) }
 {
-    if known {
-        return true;
-    }
-    quorum_held(Kind::Write, order, count, sets, list, s)
+    known || quorum_held(Kind::Write, frame, list, s)
 }
 
 // What is found of a set in each file: its good rows and their version; and is it current for every file? Place q − 1 is for file q.

@@ -1,6 +1,6 @@
 -- A list on two levels, as the code finds its quorum and its choice.
 use mathlib.Core.Path.{◌≡◌, refl, sym, ap, ◌∙◌, fun_ext}
-use mathlib.Core.Bool.{Bool, true, false, cond, ◌&&◌}
+use mathlib.Core.Bool.{Bool, true, false, cond, ◌&&◌, or-false}
 use mathlib.Core.List.{List}
 use Prim.Native.Nat.{ℕ, zero, suc, ◌+◌, ◌-◌, ◌≤◌, ◌<◌}
 use native.Mathlib.Nat.{add-zero, zero-add, suc-add}
@@ -11,10 +11,11 @@ use lib.Seq.{get_or-take}
 use borrow.Author.Tests.{le-leb, eq-eqb, eqb-true}
 use Rattle.bools.proofs.BoolLaws.{and_l, and_r, and_i, same_test, clash}
 use Rattle.sets.specs.Upto.{Within, some, count, upward, keep}
-use Rattle.sets.specs.Sets.{has, no_row, first_rows, cut_to}
+use Rattle.sets.specs.Sets.{has, no_row, first_rows, cut_to, joining}
 use Rattle.sets.proofs.SetLaws.{first-in, first_out, first-within}
 use Rattle.sets.proofs.KeepLaws.{keep-more, keep_all}
 use Rattle.sets.proofs.UptoLaws.{some_at, some_of, count-le}
+use Rattle.sets.proofs.GatherLaws.{one-joined}
 use Rattle.sets.proofs.CountLaws.{some-count}
 use Rattle.sets.proofs.RisingLaws.{among-at, upward-length, upward-more}
 use Rattle.grid.specs.declared.Grid.{Grid}
@@ -43,6 +44,11 @@ rising-listed rows long e = record {
 pub none-held : (kind : Kind) (mark : ℕ) (order : List ℕ) (p s : ℕ → Bool) → some 64 p ≡ false → level kind mark order p s ≡ false
 none-held kind mark order p s none = same_test _ _
     (λ h. absurd (clash (sym none ∙ some-count 64 p ∙ le-leb 1 (count 64 p) (level-some mark order p kind s h)))) (λ z. absurd (clash z))
+
+-- a county that is not chosen adds nobody
+pub none-added : (q : ℕ → ℕ → Bool) (f : ℕ → Bool) (n : ℕ) → f ≡ (λ (i : ℕ). some n (q i)) → ((i : ℕ) → q i (n + 1) ≡ false) → f ≡ (λ (i : ℕ). some (n + 1) (q i))
+unfolding joining no_row
+none-added q f n ef out = fun_ext (λ i. sym (or-false (f i))) ∙ one-joined q f no_row n ef (fun_ext (λ i. sym (out i)))
 
 -- ---- where the first N counties have members, each is at its own position
 upward-at : (n a k : ℕ) → k < n → get_or (upward n a) k 0 ≡ a + k

@@ -1,5 +1,4 @@
 // A list of rows on two levels: the quorum that a set holds of it, and the choice that a name makes over it.
-// The chain order is the first `count` of an array of 64 rows; the counties are eight sets of rows.
 #![tactic(auto)]
 
 ghost use Rattle.std.specs.Prelude.{◌≡◌, true, ◌&&◌, ℕ, leb, take};
@@ -11,9 +10,10 @@ ghost use Rattle.counties.specs.Counties.{counties, in_county, list_quorum, list
 ghost use Rattle.grouping.specs.Grouped.{county_by, Apart, frame_by};
 
 use fields::Laid;
-use grouping::{having, in_one, inside};
+use grouping::Frame;
 use quorums::Kind;
 use rows::RowSet;
+use table::Chain;
 
 // The counties in rising order.
 fn rising() -> [u8; 64]
@@ -31,43 +31,16 @@ fn rising() -> [u8; 64]
     order
 }
 
-// Does a set hold a quorum of the members in a county? Where there are none, it does not.
-fn held_there(
-    kind: Kind,
-    order: &[u8; 64],
-    count: usize,
-    mark: u8,
-    there: RowSet,
-    set: RowSet,
-) -> bool
-    requires { Listed count order.now count }
-    ensures { result ≡ level kind mark (take count order.now) (has there.bits) (has set.bits) }
-{
-    if there.is_empty() {
-        return false;
-    }
-    lists::quorum(kind, order, count, mark, there, set)
-}
-
 // The counties in which a set holds a quorum.
-fn holding(
-    kind: Kind,
-    order: &[u8; 64],
-    count: usize,
-    sets: &[u64; 8],
-    list: Laid,
-    set: RowSet,
-) -> RowSet
-    requires { Listed count order.now count × Apart sets.now }
-    ensures { has result.bits ≡ (λ (j : ℕ). leb 1 j && leb j 8 && level kind list.mark (take count order.now) (in_county (county_by sets.now) (has list.members) j) (has set.bits)) }
+fn holding(kind: Kind, frame: &Frame, list: Laid, set: RowSet) -> RowSet
+    ensures { has result.bits ≡ (λ (j : ℕ). leb 1 j && leb j 8 && level kind list.mark frame.now.chain (in_county (county_by frame.now.counties) (has list.members) j) (has set.bits)) }
 {
     let members = RowSet { bits: list.members };
     let mut out = RowSet::EMPTY;
-    let mut k = 0;
-    while k < 8 {
-        let there = inside(sets, k, members);
-        out = out.add(k, held_there(kind, order, count, list.mark, there, set));
-        k += 1;
+    for k in 0..8 {
+        let there = frame.counties.inside(k, members);
+        let held = !there.is_empty() && lists::quorum(kind, &frame.chain, list.mark, there, set);
+        out = out.add(k, held);
     }
     out
 }
@@ -78,74 +51,37 @@ fn held_above(kind: Kind, mark: u8, up: RowSet, held: RowSet) -> bool
     ensures { result ≡ level kind mark counties (has up.bits) (has held.bits) }
 {
     let n = up.size();
-    let first = RowSet::first(n);
-    if up.bits == first.bits {
+    if up == RowSet::first(n) {
         return coterie::holds(kind, grid::of_mark(mark, n), n, held.cut(up));
     }
     let order = rising();
-    lists::quorum(kind, &order, 8, mark, up, held)
+    lists::quorum(kind, &Chain::new(&order, 8), mark, up, held)
 }
 
 // Does a set of rows hold a quorum of the list?
-pub fn quorum(
-    kind: Kind,
-    order: &[u8; 64],
-    count: usize,
-    sets: &[u64; 8],
-    list: Laid,
-    set: RowSet,
-) -> bool
-    requires { Listed count order.now count × Apart sets.now }
-    ensures { result ≡ list_quorum kind (frame_by (take count order.now) sets.now) list (has set.bits) }
+pub fn quorum(kind: Kind, frame: &Frame, list: Laid, set: RowSet) -> bool
+    ensures { result ≡ list_quorum kind (frame_by frame.now.chain frame.now.counties) list (has set.bits) }
 {
     let members = RowSet { bits: list.members };
-    if in_one(sets, members) {
-        return lists::quorum(kind, order, count, list.mark, members, set);
+    if frame.counties.in_one(members) {
+        return lists::quorum(kind, &frame.chain, list.mark, members, set);
     }
-    let up = having(sets, members);
-    let held = holding(kind, order, count, sets, list, set);
+    let up = frame.counties.having(members);
+    let held = holding(kind, frame, list, set);
     held_above(kind, list.mark, up, held)
 }
 
-// The rows that a name chooses among the members in a county, where that is wanted; none otherwise.
-fn chosen_there(
-    wanted: bool,
-    kind: Kind,
-    order: &[u8; 64],
-    count: usize,
-    mark: u8,
-    there: RowSet,
-    name: u16,
-) -> RowSet
-    requires { Listed count order.now count }
-    ensures { has result.bits ≡ (λ (i : ℕ). wanted && level_choice kind mark (take count order.now) (has there.bits) name i) }
-{
-    if wanted {
-        return lists::choice(kind, order, count, mark, there, name);
-    }
-    RowSet::EMPTY
-}
-
 // The rows that a name chooses within the counties of a set.
-fn chosen_within(
-    kind: Kind,
-    order: &[u8; 64],
-    count: usize,
-    sets: &[u64; 8],
-    list: Laid,
-    up: RowSet,
-    name: u16,
-) -> RowSet
-    requires { Listed count order.now count × Apart sets.now }
-    ensures { has result.bits ≡ (λ (i : ℕ). some 8 (λ j. has up.bits j && level_choice kind list.mark (take count order.now) (in_county (county_by sets.now) (has list.members) j) name i)) }
+fn chosen_within(kind: Kind, frame: &Frame, list: Laid, up: RowSet, name: u16) -> RowSet
+    ensures { has result.bits ≡ (λ (i : ℕ). some 8 (λ j. has up.bits j && level_choice kind list.mark frame.now.chain (in_county (county_by frame.now.counties) (has list.members) j) name i)) }
 {
     let members = RowSet { bits: list.members };
     let mut out = RowSet::EMPTY;
-    let mut k = 0;
-    while k < 8 {
-        let there = inside(sets, k, members);
-        out = out.joined(chosen_there(up.at(k), kind, order, count, list.mark, there, name));
-        k += 1;
+    for k in 0..8 {
+        if up.at(k) {
+            let there = frame.counties.inside(k, members);
+            out = out.joined(lists::choice(kind, &frame.chain, list.mark, there, name));
+        }
     }
     out
 }
@@ -156,30 +92,21 @@ fn chosen_above(kind: Kind, mark: u8, up: RowSet, name: u16) -> RowSet
     ensures { has result.bits ≡ level_choice kind mark counties (has up.bits) name }
 {
     let n = up.size();
-    let first = RowSet::first(n);
-    if up.bits == first.bits {
+    if up == RowSet::first(n) {
         return coterie::choose(kind, grid::of_mark(mark, n), n, name);
     }
     let order = rising();
-    lists::choice(kind, &order, 8, mark, up, name)
+    lists::choice(kind, &Chain::new(&order, 8), mark, up, name)
 }
 
 // The rows that a name chooses over the list.
-pub fn choice(
-    kind: Kind,
-    order: &[u8; 64],
-    count: usize,
-    sets: &[u64; 8],
-    list: Laid,
-    name: u16,
-) -> RowSet
-    requires { Listed count order.now count × Apart sets.now }
-    ensures { has result.bits ≡ list_choice kind (frame_by (take count order.now) sets.now) list name }
+pub fn choice(kind: Kind, frame: &Frame, list: Laid, name: u16) -> RowSet
+    ensures { has result.bits ≡ list_choice kind (frame_by frame.now.chain frame.now.counties) list name }
 {
     let members = RowSet { bits: list.members };
-    if in_one(sets, members) {
-        return lists::choice(kind, order, count, list.mark, members, name);
+    if frame.counties.in_one(members) {
+        return lists::choice(kind, &frame.chain, list.mark, members, name);
     }
-    let up = chosen_above(kind, list.mark, having(sets, members), name);
-    chosen_within(kind, order, count, sets, list, up, name)
+    let up = chosen_above(kind, list.mark, frame.counties.having(members), name);
+    chosen_within(kind, frame, list, up, name)
 }

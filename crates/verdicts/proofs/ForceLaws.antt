@@ -61,9 +61,11 @@ module _ (t : List ℕ) (q r s : ℕ) (sub : (i : ℕ) → has s i ≡ true → 
   pub told_more : (v : Verdict) → Judged (answers t q s) (has s) v → Judged (answers t q r) (has s) v
   unfolding answers polled has
   told_more v y = record {
-    good = y.good ∙ good-same _ _ (has s) same;
-    version = y.version ∙ version-same _ _ (has s) same;
-    current = y.current ∙ current-same _ _ (has s) same;
+    tally = record {
+      good = y.tally.good ∙ good-same _ _ (has s) same;
+      version = y.tally.version ∙ version-same _ _ (has s) same;
+      current = y.tally.current ∙ current-same _ _ (has s) same;
+    };
     epoch = y.epoch ∙ epoch-same _ _ (has s) same;
     list = y.list ∙ list-is (some 64 (listed (answers t q s) (has s))) refl;
   }
@@ -74,12 +76,12 @@ module _ (t : List ℕ) (q r s : ℕ) (sub : (i : ℕ) → has s i ≡ true → 
 
   -- questions 6 and 7 are asked of it
   module _ (kind : Kind) (frame : Frame) (v : Verdict) (ef : frame ≡ frame_of t) (y : Judged (answers t q r) (has s) v) where
-    pub six-is : (not (is_empty v.list) && list_quorum kind frame v.list (has s)) ≡ quorum_held kind (frame_of t) (answers t q r) (has s)
+    pub six-is : (not (is_empty v.force.list) && list_quorum kind frame v.force.list (has s)) ≡ quorum_held kind (frame_of t) (answers t q r) (has s)
     unfolding quorum_held
     six-is =
         ap₂ (λ (f : Frame) (l : Laid). not (is_empty l) && list_quorum kind f l (has s)) ef y.list
         ∙ ap (λ (b : Bool). b && list_quorum kind (frame_of t) (in_force (answers t q r) (has s)) (has s)) (sym (held-list (answers t q r) (has s) no_place))
 
-    pub verdict-is : (n : ℕ) → n ≡ cond (not (is_empty v.list) && list_quorum kind frame v.list (has s)) (cond v.current 0 7) 6
+    pub verdict-is : (n : ℕ) → n ≡ cond (not (is_empty v.force.list) && list_quorum kind frame v.force.list (has s)) (cond v.tally.current 0 7) 6
         → n ≡ cond (quorum_held kind (frame_of t) (answers t q r) (has s)) (cond (current (answers t q r) (has s)) 0 7) 6
-    verdict-is n en = en ∙ ap₂ (λ (b x : Bool). cond b (cond x 0 7) 6) six-is y.current
+    verdict-is n en = en ∙ ap₂ (λ (b x : Bool). cond b (cond x 0 7) 6) six-is y.tally.current

@@ -2,17 +2,11 @@
 use Rattle.std.specs.Prelude.{◌≡◌, Bool, ◌&&◌, List, ℕ, eqb}
 use Rattle.sets.specs.Upto.{lowest, most}
 use Rattle.sets.specs.Sets.{has}
-use Rattle.rows.specs.declared.RowSet.{RowSet}
 use Rattle.fields.specs.Layout.{list_of}
 use Rattle.protocol.specs.Polls.{Poll, highest_epoch, in_force, good_version, good, current}
-use Rattle.polls.specs.declared.Poll as code
 use Rattle.verdicts.specs.declared.Tally.{Tally}
 use Rattle.verdicts.specs.declared.Force.{Force}
 use Rattle.verdicts.specs.declared.Verdict.{Verdict}
-
--- the code's poll by its sets and arrays
-abbrev pub poll_of : RowSet → RowSet → List ℕ → List ℕ → List ℕ → code.Poll
-poll_of stale listed versions desired epochs = record { stale = stale; listed = listed; versions = versions; desired = desired; epochs = epochs }
 
 -- of a set: the good rows, their version, is it current
 pub record Tallied (p : Poll) (s : ℕ → Bool) (c : Tally) : Type 0 where
@@ -27,8 +21,6 @@ pub record Led (t : List ℕ) (epochs : ℕ → ℕ) (s : ℕ → Bool) (f : For
 
 -- all of it
 pub record Judged (p : Poll) (s : ℕ → Bool) (v : Verdict) : Type 0 where
-  pub good : has v.good.bits ≡ good p s
-  pub version : v.version ≡ good_version p s
-  pub current : v.current ≡ current p s
-  pub epoch : v.epoch ≡ highest_epoch p s
-  pub list : v.list ≡ in_force p s
+  pub tally : Tallied p s v.tally
+  pub epoch : v.force.epoch ≡ highest_epoch p s
+  pub list : v.force.list ≡ in_force p s

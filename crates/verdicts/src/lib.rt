@@ -4,7 +4,6 @@
 ghost use Rattle.std.specs.Prelude.{◌≡◌, true, not, cond, ◌&&◌, List, ℕ, ◌^◌, ◌<◌, take};
 ghost use Rattle.sets.specs.Upto.{Within, lowest};
 ghost use Rattle.sets.specs.Sets.{has};
-ghost use Rattle.rows.specs.declared.RowSet.{RowSet};
 ghost use Rattle.fields.specs.Layout.{is_empty, form_value, form_of, used_of, files_of, list_of};
 ghost use Rattle.table.specs.Asked.{Sized, Listed};
 ghost use Rattle.counties.specs.Counties.{list_quorum};
@@ -13,10 +12,12 @@ ghost use Rattle.protocol.specs.Polls.{Poll};
 ghost use Rattle.protocol.specs.Calls.{answers};
 ghost use Rattle.places.specs.Places.{placed};
 ghost use Rattle.polls.specs.Shows.{Shows};
-ghost use Rattle.verdicts.specs.Judged.{poll_of, Tallied, Led, Judged};
+ghost use Rattle.asking.specs.Refusals.{no_number};
+ghost use Rattle.verdicts.specs.Judged.{Tallied, Led, Judged};
 
-use bools::both;
+use asking::Refusal;
 use fields::Laid;
+use grouping::Frame;
 use quorums::Kind;
 use rows::RowSet;
 
@@ -30,33 +31,28 @@ pub struct Tally {
 
 // Of a set: the highest epoch of its rows that have a list, and the list in force, V.
 #[derive(Clone, Copy)]
-struct Force {
-    epoch: u32,
-    list: Laid,
+pub struct Force {
+    pub epoch: u32,
+    pub list: Laid,
 }
 
 // Both of a set.
 #[derive(Clone, Copy)]
 pub struct Verdict {
-    pub good: RowSet,
-    pub version: u32,
-    pub current: bool,
-    pub epoch: u32,
-    pub list: Laid,
+    pub tally: Tally,
+    pub force: Force,
 }
 
-// What a poll says of a set of rows. Set and arrays are those of the poll.
-fn tally_of<'a>(stale: RowSet, versions: &'a [u32; 64], desired: &'a [u32; 64], s: RowSet) -> Tally
-    ensures { (p : Poll) → (listed : RowSet) → (epochs : List ℕ) → Shows (poll_of stale listed versions.now desired.now epochs) p → Tallied p (has s.bits) result }
+// What a poll says of a set of rows.
+fn tally_of(poll: &polls::Poll, s: RowSet) -> Tally
+    ensures { (p : Poll) → Shows poll.now p → Tallied p (has s.bits) result }
 {
-    let best = places::best(versions, s.outside(stale));
-    let passed = places::above(desired, s.cut(stale), best.value);
-    let good = best.rows;
-    let lacking = good.is_empty();
+    let best = places::best(&poll.versions, s.outside(poll.stale));
+    let passed = places::above(&poll.desired, s.cut(poll.stale), best.value);
     Tally {
-        good: good,
+        good: best.rows,
         version: best.value,
-        current: both(!lacking, !passed),
+        current: !best.rows.is_empty() && !passed,
     }
 }
 
@@ -78,36 +74,22 @@ fn lead(t: &[u8], epochs: &[u32; 64], s: RowSet) -> Force
     ensures { Led t.now (placed epochs.now) (has s.bits) result }
 {
     let latest = places::best(epochs, s);
-    let leaders = latest.rows;
     Force {
         epoch: latest.value,
-        list: list_of(t, leaders),
+        list: list_of(t, latest.rows),
     }
 }
 
-// What a poll of a set of rows says of it. Sets and arrays are those of the poll; rows without a list are passed over in finding the highest epoch.
-fn told<'a>(
-    t: &[u8],
-    stale: RowSet,
-    listed: RowSet,
-    versions: &'a [u32; 64],
-    desired: &'a [u32; 64],
-    epochs: &'a [u32; 64],
-    s: RowSet,
-) -> Verdict
+// What a poll of a set of rows says of it. Rows without a list are passed over in finding the highest epoch.
+fn told(t: &[u8], poll: &polls::Poll, s: RowSet) -> Verdict
     requires { Sized t.now × (s.bits < 2 ^ used_of t.now) }
-    ensures { (q : ℕ) → Shows (poll_of stale listed versions.now desired.now epochs.now) (answers t.now q s.bits) → Judged (answers t.now q s.bits) (has s.bits) result }
+    ensures { (q : ℕ) → Shows poll.now (answers t.now q s.bits) → Judged (answers t.now q s.bits) (has s.bits) result }
 {
-    let found = tally_of(stale, versions, desired, s);
-    let force = lead(t, epochs, s.cut(listed));
-    let good = found.good;
-    let list = force.list;
+    let tally = tally_of(poll, s);
+    let force = lead(t, &poll.epochs, s.cut(poll.listed));
     Verdict {
-        good: good,
-        version: found.version,
-        current: found.current,
-        epoch: force.epoch,
-        list: list,
+        tally: tally,
+        force: force,
     }
 }
 
@@ -116,16 +98,7 @@ pub fn judged(t: &[u8], q: usize, s: RowSet) -> Verdict
     requires { Sized t.now × (form_of t.now ≡ form_value) × Within (files_of t.now) q × (s.bits < 2 ^ used_of t.now) }
     ensures { Judged (answers t.now q s.bits) (has s.bits) result }
 {
-    let poll = polls::gather(t, q, s);
-    told(
-        t,
-        poll.stale,
-        poll.listed,
-        &poll.versions,
-        &poll.desired,
-        &poll.epochs,
-        s,
-    )
+    told(t, &polls::gather(t, q, s), s)
 }
 
 // The same but for the list in force, which is that of any other file.
@@ -133,43 +106,26 @@ pub fn tallied(t: &[u8], q: usize, s: RowSet) -> Tally
     requires { Sized t.now × (form_of t.now ≡ form_value) × Within (files_of t.now) q × (s.bits < 2 ^ used_of t.now) }
     ensures { Tallied (answers t.now q s.bits) (has s.bits) result }
 {
-    let said = polls::gather(t, q, s);
-    tally_of(said.stale, &said.versions, &said.desired, s)
+    tally_of(&polls::gather(t, q, s), s)
 }
 
 // Question 6: does a set hold a quorum of a list? Of an empty one none does.
-pub fn quorum_held(
-    kind: Kind,
-    order: &[u8; 64],
-    count: usize,
-    sets: &[u64; 8],
-    list: Laid,
-    s: RowSet,
-) -> bool
-    requires { Listed count order.now count × Apart sets.now }
-    ensures { result ≡ (not (is_empty list) && list_quorum kind (frame_by (take count order.now) sets.now) list (has s.bits)) }
+pub fn quorum_held(kind: Kind, frame: &Frame, list: Laid, s: RowSet) -> bool
+    ensures { result ≡ (not (is_empty list) && list_quorum kind (frame_by frame.now.chain frame.now.counties) list (has s.bits)) }
 {
-    if list.is_empty() {
-        return false;
-    }
-    tiers::quorum(kind, order, count, sets, list, s)
+    !list.is_empty() && tiers::quorum(kind, frame, list, s)
 }
 
-// Questions 6 and 7 of a set, by the list in force and by whether the set is current: the first no, 0 where there is none.
-pub fn asked(
-    kind: Kind,
-    order: &[u8; 64],
-    count: usize,
-    sets: &[u64; 8],
-    list: Laid,
-    s: RowSet,
-    current: bool,
-) -> u32
-    requires { Listed count order.now count × Apart sets.now }
-    ensures { result ≡ cond (not (is_empty list) && list_quorum kind (frame_by (take count order.now) sets.now) list (has s.bits)) (cond current 0 7) 6 }
+// Questions 6 and 7 of a set, by the list in force and by whether the set is current.
+pub fn asked(kind: Kind, frame: &Frame, list: Laid, s: RowSet, current: bool) -> Result<(), Refusal>
+    ensures { no_number result ≡ cond (not (is_empty list) && list_quorum kind (frame_by frame.now.chain frame.now.counties) list (has s.bits)) (cond current 0 7) 6 }
 {
-    if !quorum_held(kind, order, count, sets, list, s) {
-        return 6;
+    if !quorum_held(kind, frame, list, s) {
+        return Err(Refusal::NoQuorum);
     }
-    if current { 0 } else { 7 }
+    if current {
+        Ok(())
+    } else {
+        Err(Refusal::NotCurrent)
+    }
 }

@@ -4,10 +4,7 @@ use mathlib.Core.List.{List}
 use Prim.Native.Nat.{ℕ}
 use native.Mathlib.Omega.{arith}
 use lib.Dec.{eqb}
-use lib.ListN.{length, take}
-use lib.Seq.{length-take-le, get_or-take}
 use Rattle.lists.proofs.SeatLaws.{choice-law, all-seated, none_beside, lone-choice}
-use Rattle.table.proofs.ChainLaws.{listed_in}
 use Rattle.sets.proofs.UptoLaws.{every-at}
 use Rattle.sets.proofs.SetLaws.{has_within}
 use Rattle.sets.specs.Upto.{some}
@@ -16,38 +13,26 @@ use Rattle.counties.specs.Levels.{seats, at_seat}
 use Rattle.grid.proofs.SizeLaws.{taken-fits}
 use Rattle.lists.proofs.choice.Goals as goal
 
-pub lone-requires : goal.lone-requires
-lone-requires c = listed_in c.requires.few c.requires
-
 pub returns-then-is_empty : goal.returns-then-is_empty
 returns-then-is_empty c =
     let a = c.args in
-    c.lone.ensures ∙ lone-choice (has a.members.bits) (none_beside _ c.rest.ensures.0 c.is_empty.ensures c.if-is_empty.true) a.kind a.mark (take a.count a.order.now) (λ i e. has_within 64 a.members.bits i (omega arith) e) a.name
+    c.lone.ensures ∙ lone-choice (has a.members.bits) (none_beside _ c.rest.ensures.0 c.is_empty.ensures c.if-is_empty.true) a.kind a.mark a.chain.now (λ i e. has_within 64 a.members.bits i (omega arith) e) a.name
 
 pub choose-chosen-requires : goal.choose-chosen-requires
 choose-chosen-requires c = taken-fits c.args.mark _ _ c.of_mark.ensures
-
-pub standing-requires : goal.standing-requires
-standing-requires c = listed_in c.requires.few c.requires
 
 pub returns-then-fills : goal.returns-then-fills
 returns-then-fills c =
     let chosen = c.choose-chosen in
     let a = c.args in
-    let order = a.order.now in
-    let n = a.count in
-    let long : length (take n order) ≡ n = length-take-le n order (omega (arith, c.requires.places, c.requires.few)) in
-    let all : seats (take n order) (has a.members.bits) ≡ take n order = all-seated (has a.members.bits) (take n order) (λ k h.
-    let l = rw long at h in
-    rw (get_or-take n order k 0 l) (every-at n (has a.members.bits) (sym c.fills.ensures ∙ c.if-fills.true) _ (c.requires.each k l))) in
-    choice-law a.kind a.mark (take n order) (has a.members.bits) _ _ c.size-length.ensures c.of_mark.ensures a.name _ _ chosen.ensures
+    let chain = a.chain.now in
+    let all : seats chain (has a.members.bits) ≡ chain = all-seated (has a.members.bits) chain (λ k h.
+    every-at c.len.result (has a.members.bits) (sym c.fills.ensures ∙ c.if-fills.true) _ (rw c.len.ensures.length (c.len.ensures.each k h))) in
+    choice-law a.kind a.mark chain (has a.members.bits) _ _ c.size-length.ensures c.of_mark.ensures a.name _ _ chosen.ensures
     (c.standing.ensures ∙ ap {B = ℕ → Bool} (λ (rows : List ℕ) (i : ℕ). some 64 (λ k. has chosen.result.bits k && at_seat rows (eqb i) k)) (sym all))
-
-pub seated_members-requires : goal.seated_members-requires
-seated_members-requires c = listed_in c.requires.few c.requires
 
 pub returns : goal.returns
 returns c =
     let chosen = c.choose-chosen in
     let a = c.args in
-    choice-law a.kind a.mark (take a.count a.order.now) (has a.members.bits) _ _ c.size-length.ensures c.of_mark.ensures a.name _ _ chosen.ensures c.seated_members.ensures
+    choice-law a.kind a.mark a.chain.now (has a.members.bits) _ _ c.size-length.ensures c.of_mark.ensures a.name _ _ chosen.ensures c.seated_members.ensures

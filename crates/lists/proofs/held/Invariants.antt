@@ -1,13 +1,10 @@
 use mathlib.Core.Path.{◌≡◌}
-use Prim.Native.Nat.{◌-◌, ◌^◌, ◌≤◌, ◌<◌}
-use lib.ListN.{take, drop}
+use Prim.Native.Nat.{◌-◌, ◌^◌, ◌<◌}
+use lib.ListN.{length, drop}
 use Rattle.counties.specs.Levels.{seats, at_seat}
 use Rattle.sets.specs.Sets.{has}
 use Rattle.lists.proofs.held.Given as goal
 
 -- the rows behind j are looked at
 abbrev pub invariant-loop-j : goal.invariant-loop-j
-invariant-loop-j l = (l.j ≤ l.count) × (l.positions.bits < 2 ^ (l.count - l.j)) × (has l.positions.bits ≡ at_seat (seats (drop l.j (take l.count l.order)) (has l.members.bits)) (has l.set.bits))
-
-abbrev pub decreases-loop-j : goal.decreases-loop-j
-decreases-loop-j l = l.j
+invariant-loop-j l = (l.positions.bits < 2 ^ (length l.chain - l.j)) × (has l.positions.bits ≡ at_seat (seats (drop l.j l.chain) (has l.members.bits)) (has l.set.bits))

@@ -7,9 +7,7 @@ use Rattle.sets.specs.Sets.{has}
 use Rattle.sets.specs.Upto.{upward}
 use Rattle.lists.proofs.held_straight.Given as goal
 
-abbrev pub invariant-loop-set : goal.invariant-loop-set
-invariant-loop-set l = (m : ℕ) × Ahead l.initial.left.bits l.left.bits m × (l.k ≡ length (seats (upward m 1) (has l.initial.left.bits)))
-    × (has l.positions.bits ≡ at_seat (seats (upward m 1) (has l.initial.left.bits)) (has l.set.bits))
-
-abbrev pub decreases-loop-set : goal.decreases-loop-set
-decreases-loop-set l = l.left.bits
+-- the members up to m are looked at
+abbrev pub invariant-loop-i : goal.invariant-loop-i
+invariant-loop-i l = (m : ℕ) × Ahead l.initial.i-iterator.left.bits l.i-iterator.left.bits m × (l.k ≡ length (seats (upward m 1) (has l.initial.i-iterator.left.bits)))
+    × (has l.positions.bits ≡ at_seat (seats (upward m 1) (has l.initial.i-iterator.left.bits)) (has l.set.bits))

@@ -2,16 +2,14 @@ use mathlib.Core.Bool.{Bool, ◌&&◌}
 use mathlib.Core.Path.{◌≡◌}
 use Prim.Native.Nat.{ℕ}
 use lib.Dec.{eqb}
-use lib.ListN.{take}
+use lib.ListN.{length}
 use Rattle.counties.specs.Levels.{at_seat}
 use Rattle.sets.proofs.MemberLaws.{Taken}
-use Rattle.sets.specs.Sets.{has}
+use Rattle.sets.specs.Sets.{has, cut_to, first_rows}
 use Rattle.sets.specs.Upto.{some}
 use Rattle.lists.proofs.standing.Given as goal
 
--- the rows at the positions taken so far
-abbrev pub invariant-loop-left : goal.invariant-loop-left
-invariant-loop-left l = (q : ℕ → Bool) × Taken l.initial.left.bits l.left.bits q × (has l.set.bits ≡ (λ (i : ℕ). some 64 (λ k. q k && at_seat (take l.count l.rows) (eqb i) k)))
-
-abbrev pub decreases-loop-left : goal.decreases-loop-left
-decreases-loop-left l = l.left.bits
+-- the positions of the chain are gone through; the rows at those taken so far
+abbrev pub invariant-loop-i : goal.invariant-loop-i
+invariant-loop-i l =
+    (has l.initial.i-iterator.left.bits ≡ cut_to (has l.fn.positions.bits) (first_rows (length l.chain))) × (q : ℕ → Bool) × Taken l.initial.i-iterator.left.bits l.i-iterator.left.bits q × (has l.set.bits ≡ (λ (i : ℕ). some 64 (λ k. q k && at_seat l.chain (eqb i) k)))

@@ -1,5 +1,4 @@
 use mathlib.Core.Path.{ap, ◌∙◌}
-use borrow.Author.Rules.{rules}
 use lib.Dec.{ltb}
 use Rattle.places.proofs.BestLaws.{above-is}
 use Rattle.places.specs.Places.{placed}

@@ -1,14 +1,11 @@
-use mathlib.Core.Bool.{Bool, true}
+use mathlib.Core.Bool.{true}
 use mathlib.Core.Path.{◌≡◌, sym, ◌∙◌}
-use Prim.Native.Nat.{ℕ}
 use native.Mathlib.Omega.{arith}
-use borrow.Author.Rules.{rules}
-use borrow.Author.Tests.{not-true, not-false}
+use borrow.Author.Tests.{not-false}
 use Rattle.bools.proofs.BoolLaws.{clash}
 use Rattle.places.proofs.BestLaws.{taken-behind, same_more}
 use Rattle.places.proofs.PlaceLaws.{placed_row}
-use Rattle.places.specs.Places.{placed}
-use Rattle.sets.proofs.MemberLaws.{only, Taken, none-taken, at-hand, fewer-left, one-taken}
+use Rattle.sets.proofs.MemberLaws.{only, none-taken, at-hand, fewer-left, one-taken}
 use Rattle.sets.specs.Sets.{has, no_row, joining}
 use Rattle.sets.specs.Upto.{Within, some}
 use Rattle.places.proofs.behind.Goals.{After-lowest, In-loop-left}

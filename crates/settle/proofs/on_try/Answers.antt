@@ -5,6 +5,3 @@ use Rattle.settle.proofs.on_try.Goals as goal
 
 pub overflow_cast-size : goal.overflow_cast-size
 overflow_cast-size c = record { fits = omega (arith, c.size.ensures, count-le 64 (has c.args.chosen.bits)) }
-
-pub returns : goal.returns
-returns c = rw (c.settled_on.ensures, c.size.ensures)

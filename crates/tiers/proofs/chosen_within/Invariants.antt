@@ -1,7 +1,6 @@
 use mathlib.Core.Path.{◌≡◌}
 use mathlib.Core.Bool.{◌&&◌}
-use Prim.Native.Nat.{ℕ, ◌-◌, ◌≤◌}
-use lib.ListN.{take}
+use Prim.Native.Nat.{ℕ}
 use Rattle.sets.specs.Upto.{some}
 use Rattle.sets.specs.Sets.{has}
 use Rattle.counties.specs.Levels.{level_choice}
@@ -12,7 +11,4 @@ use Rattle.tiers.proofs.chosen_within.Given as goal
 -- the first k counties are looked at
 abbrev pub invariant-loop-k : goal.invariant-loop-k
 invariant-loop-k l =
-    (l.k ≤ 8) × (has l.out.bits ≡ (λ (i : ℕ). some l.k (λ j. has l.up.bits j && level_choice l.kind l.list.mark (take l.count l.order) (in_county (county_by l.sets) (has l.list.members) j) l.name i)))
-
-abbrev pub decreases-loop-k : goal.decreases-loop-k
-decreases-loop-k l = 8 - l.k
+    has l.out.bits ≡ (λ (i : ℕ). some l.k (λ j. has l.up.bits j && level_choice l.kind l.list.mark l.frame.chain (in_county (county_by l.frame.counties) (has l.list.members) j) l.name i))

@@ -3,4 +3,4 @@ use Rattle.verdicts.proofs.judged.Goals as goal
 
 pub returns : goal.returns
 unfolding answers
-returns c = c.told.ensures _ c.gather-poll.ensures
+returns c = c.told.ensures _ c.gather.ensures

@@ -3,4 +3,4 @@ use Rattle.verdicts.proofs.tallied.Goals as goal
 
 pub returns : goal.returns
 unfolding answers
-returns c = c.tally_of.ensures _ _ _ c.gather-said.ensures
+returns c = c.tally_of.ensures _ c.gather.ensures

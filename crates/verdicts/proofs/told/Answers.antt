@@ -17,7 +17,6 @@ pub returns : goal.returns
 unfolding cut_to listed
 returns c q shown =
     let s = c.args.s.bits in
-    let y = c.tally_of-found.ensures _ _ _ shown in
     let these = c.cut.ensures ∙ ap {B = ℕ → Bool} (λ (m : ℕ → Bool) (i : ℕ). has s i && m i) shown.listed in
     let z = listed-leads _ q s s (λ i m. m) _ _ these (rw shown.epochs at c.lead-force.ensures) in
-    record { good = y.good; version = y.version; current = y.current; epoch = z.0; list = z.1 }
+    record { tally = c.tally_of-tally.ensures _ shown; epoch = z.0; list = z.1 }
