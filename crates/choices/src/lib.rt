@@ -3,40 +3,35 @@
 
 ghost use Rattle.std.specs.Prelude.{◌≡◌};
 ghost use Rattle.asking.specs.Asking.{result_number};
-ghost use Rattle.choosing.specs.Choosing.{kind_of, chosen};
+ghost use Rattle.asking.specs.Refusals.{answer_number};
+ghost use Rattle.choosing.specs.Choosing.{chosen};
 
-use asking::result;
+use asking::Refusal;
+use grouping::Frame;
 use quorums::Kind;
 
-// Kind 0 is a read, any other a write.
-fn kind_of(kind: u64) -> Kind
-    ensures { result ≡ kind_of kind }
-{
-    if kind == 0 { Kind::Read } else { Kind::Write }
-}
-
 // The set that a coordinator calls first, as a number in a lent list of 8 bytes. Value: its size.
-pub fn choice(t: &[u8], c: usize, kind: u64, set: &mut [u8]) -> u64
-    ensures { (let o = chosen t.now c kind set.old in (result ≡ result_number o.refusal o.value) × (t.now ≡ t.now) × (set.new ≡ o.set)) }
+pub fn choice(t: &[u8], c: usize, kind: u64, set: &mut [u8]) -> Result<u32, Refusal>
+    ensures { (let o = chosen t.now c kind set.old in (answer_number result ≡ result_number o.refusal o.value) × (t.now ≡ t.now) × (set.new ≡ o.set)) }
 {
     let mut order = [0u8; 64];
     let mut sets = [0u64; 8];
     if !wellformed::ordered(t, &mut order, &mut sets) {
-        return result(1, 0);
+        return Err(Refusal::NotWellFormed);
     }
     let used = header::used(t);
     if !values::between(1, c, used) {
-        return result(2, 0);
+        return Err(Refusal::UnknownRow);
     }
-    if 1 < kind {
-        return result(4, 0);
-    }
+    let Ok(kind) = Kind::try_from(kind) else {
+        return Err(Refusal::WrongRange);
+    };
     if set.len() != 8 {
-        return result(5, 0);
+        return Err(Refusal::WrongSpace);
     }
     let row = table::row_of(t, c);
-    let list = fields::list(row);
-    let rows = tiers::choice(kind_of(kind), &order, used, &sets, list, fields::name(row));
+    let frame = Frame::new(&order, used, &sets);
+    let rows = tiers::choice(kind, &frame, fields::list(row), fields::name(row));
     octets::store_at(set, 0, 8, rows.bits);
-    result(0, rows.size() as u32)
+    Ok(rows.size() as u32)
 }

@@ -1,1 +1,2 @@
+pub mod FrameKept
 pub mod WriteLaws

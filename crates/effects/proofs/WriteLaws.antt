@@ -12,14 +12,21 @@ use Rattle.sets.specs.Upto.{Within}
 use Rattle.sets.specs.Sets.{has}
 use Rattle.sets.proofs.SetLaws.{has_within}
 use Rattle.quorums.specs.declared.Kind.TheVariants.{Write}
-use Rattle.fields.specs.Layout.{get, version, in_copy, used_of, file_length_of, name_of, copy_bytes, with_rows}
+use Rattle.fields.specs.Layout.{get, version, in_copy, used_of, file_length_of, name_of, county_of, copy_bytes, with_rows}
 use Rattle.window.specs.Windows.{window_of}
 use Rattle.windows.specs.Visits.{RightFor}
 use Rattle.table.proofs.FormLaws.{formed}
-use Rattle.table.specs.Chain.{frame_of}
+use Rattle.table.specs.Chain.{order_of, frame_of}
+use Rattle.counties.specs.Counties.{Frame}
 use Rattle.table.specs.WellFormed.{limit, well_formed}
 use Rattle.protocol.specs.Polls.{good_version, good, current, quorum_held}
 use Rattle.protocol.specs.Rows.{wrote_copy}
+use Rattle.std.specs.Result.{IfOk, is_ok}
+use Rattle.std.specs.Prelude.{Result, Ok, Err}
+use Rattle.bools.proofs.BoolLaws.{clash}
+use Rattle.asking.specs.Refusals.{no_number, answer_number}
+use Rattle.asking.specs.declared.Refusal.{Refusal}
+use Rattle.asking.proofs.AskingLaws.{some-number}
 use Rattle.asking.specs.Asking.{Question, first_no, before}
 use Rattle.asking.proofs.AskingLaws.{no-first}
 use Rattle.sheet.specs.Sheet.{sheet_right, by_club, counted}
@@ -92,16 +99,16 @@ module _ (t : List ℕ) (a : Writing) (right : sheet_right a.sheet ≡ true) whe
         ∙ ap (λ (m : ℕ). cond Q (cond K m 7) 6) after-club
 
     -- refused by 6 or 7
-    pub write-no : 1 ≤ v.refusal → Refused t (write a) v.refusal
-    write-no h = refused-is t (write a) v.refusal (after-four ∙ no-in Q K later v.refusal j.refusal h) h
+    pub write-no : (m : ℕ) → no_number v.asked ≡ m → 1 ≤ m → Refused t (write a) m
+    write-no m e h = refused-is t (write a) m (after-four ∙ no-in Q K later (no_number v.asked) j.refusal (omega (arith, e)) ∙ e) h
 
-    module _ (z : v.refusal ≡ 0) where
+    module _ (z : no_number v.asked ≡ 0) where
       after-seven : first_no (questions t (write a)) ≡ later
-      after-seven = after-four ∙ yes-in Q K later v.refusal j.refusal z
+      after-seven = after-four ∙ yes-in Q K later (no_number v.asked) j.refusal z
 
       -- refused by 18 or 19
-      pub write-share : 1 ≤ n → Refused t (write a) n
-      write-share h = refused-is t (write a) n (after-seven ∙ ap (λ (b : Bool). cond b (cond (ltb v.version limit) 0 8) n) (ne_eqb n 0 (λ e. omega arith))) h
+      pub write-share : (m : ℕ) → n ≡ m → 1 ≤ m → Refused t (write a) m
+      write-share m e h = refused-is t (write a) m (after-seven ∙ ap (λ (b : Bool). cond b (cond (ltb v.version limit) 0 8) n) (ne_eqb n 0 (λ z. omega (arith, e, z))) ∙ e) h
 
       after-share : n ≡ 0 → first_no (questions t (write a)) ≡ cond (ltb v.version limit) 0 8
       after-share e = after-seven ∙ ap (λ (b : Bool). cond b (cond (ltb v.version limit) 0 8) n) (eq-eqb n 0 e)
@@ -153,7 +160,12 @@ one-no t a e = go (sheet_right a.sheet) refl
         let n = range-one t a.c a.r a.file a.offset (length a.patch) (rw q at e) in
         (write-early t a q 1 n (omega arith), called-early t (a_write {a = a} q) 1 n (omega arith))
 
--- the frame that question 1 found is that of the table after the write too
+-- ---- the frame
+pub same-order : (t u : List ℕ) → frame_of u ≡ frame_of t → (order_of t ≡ order_of u) × (county_of t ≡ county_of u)
+unfolding frame_of
+same-order t u q = (sym (ap (λ (x : Frame). x.order) q), sym (ap (λ (x : Frame). x.county) q))
+
+-- that which question 1 found is that of the table after the write too
 pub write-framed : {t order sets : List ℕ} (a : Writing) → Framed t order sets → Framed (outcome t (write a)).table order sets
 unfolding StaysWellFormed
 write-framed {t} a f =
@@ -179,7 +191,7 @@ module _ (t : List ℕ) (a : Writing) (x : ℕ) (e : x ≡ result_of (outcome t 
       let y = write-yes t a (sym (refusal_is t (write a)) ∙ low-done h) in
       ((sheet-facts a.sheet y.sheet).long, (may_write a.sheet a.club y.club).club)
 
-  pub counted-or-not : cond (ltb x (2 ^ 32)) (counted a.sheet a.club) a.sheet ≡ (outcome t (write a)).sheet
+  counted-or-not : cond (ltb x (2 ^ 32)) (counted a.sheet a.club) a.sheet ≡ (outcome t (write a)).sheet
   unfolding done lent_sheet
   counted-or-not = go (ℕ_discrete (outcome t (write a)).refusal 0)
     where
@@ -190,3 +202,19 @@ module _ (t : List ℕ) (a : Writing) (x : ℕ) (e : x ≡ result_of (outcome t 
       go : Dec ((outcome t (write a)).refusal ≡ 0) → cond (ltb x (2 ^ 32)) (counted a.sheet a.club) a.sheet ≡ (outcome t (write a)).sheet
       go (yes q) = rw (lt-ltb x (2 ^ 32) (done-low q), when-done t (write a) q) refl
       go (no d) = let h : 2 ^ 32 ≤ x = high d (dec_lt x (2 ^ 32)) in rw (le-ltb x (2 ^ 32) h) (sym (when-refused t (write a) d).3)
+
+  pub counted-done : x < 2 ^ 32 → counted a.sheet a.club ≡ (outcome t (write a)).sheet
+  counted-done h = ap (λ (b : Bool). cond b (counted a.sheet a.club) a.sheet) (sym (lt-ltb x (2 ^ 32) h)) ∙ counted-or-not
+
+  pub not-counted : 2 ^ 32 ≤ x → a.sheet ≡ (outcome t (write a)).sheet
+  not-counted h = ap (λ (b : Bool). cond b (counted a.sheet a.club) a.sheet) (sym (le-ltb x (2 ^ 32) h)) ∙ counted-or-not
+
+-- a done write's result is its version, and so below 2^32; a refused one's is not
+pub ok-low : (x : Result ℕ Refusal) → true ≡ is_ok x → IfOk x (λ v. v ≤ limit) → answer_number x < 2 ^ 32
+unfolding limit
+ok-low (Ok v) e h = omega arith
+ok-low (Err r) e h = absurd (clash (sym e))
+
+pub err-high : (x : Result ℕ Refusal) → false ≡ is_ok x → 2 ^ 32 ≤ answer_number x
+err-high (Ok v) e = absurd (clash e)
+err-high (Err r) e = omega (arith, some-number r)

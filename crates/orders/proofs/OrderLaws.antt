@@ -6,7 +6,7 @@ use Prim.Native.Nat.{ℕ, ◌≤◌, ◌<◌, ◌+◌, ◌-◌, ◌*◌, ◌^◌
 use native.Mathlib.Decide.{ℕ_discrete}
 use native.Mathlib.Omega.{arith}
 use borrow.Author.Tests.{lt-ltb, le-ltb, ne_eqb}
-use lib.Dec.{ltb}
+use lib.Dec.{eqb, ltb}
 use lib.ListN.{get_or, set, replicate, length-set, get_or-replicate}
 use lib.Seq.{get_or-set_same, get_or-set_other}
 use Rattle.sets.specs.Upto.{Within}
@@ -14,6 +14,8 @@ use Rattle.quorums.specs.declared.Kind.TheVariants.{Write}
 use Rattle.octets.specs.Bytes.{part}
 use Rattle.fields.specs.Layout.{row_bytes, used_of, list_of}
 use Rattle.fields.proofs.FieldLaws.{head-list}
+use Rattle.grouping.specs.declared.Frame.{Frame}
+use Rattle.grouping.specs.Frames.{FrameOf}
 use Rattle.grouping.specs.Grouped.{Framed}
 use Rattle.asking.specs.Asking.{result_number}
 use Rattle.sheet.specs.Sheet.{assured_of, count_of, counted}
@@ -29,7 +31,9 @@ use Rattle.protocol.proofs.Unanswered.{first_part}
 use Rattle.protocol.proofs.QuestionLaws.{refusal_is, when-refused, write-yes}
 use Rattle.settle.specs.Works.{Known}
 use Rattle.settle.proofs.SettleLaws.{known-none}
-use Rattle.effects.proofs.WriteLaws.{counted-or-not, write-framed}
+use Rattle.effects.proofs.WriteLaws.{counted-done, not-counted, write-framed}
+use Rattle.effects.proofs.FrameKept.{write-frame}
+use Rattle.orders.specs.declared.Turn.{Turn}
 use Rattle.orders.specs.Turns.{Run, stepped, Kept, Ready}
 
 abbrev pub run : ℕ → List ℕ → List ℕ → Run
@@ -71,19 +75,15 @@ module _ (t : List ℕ) (a : Writing) (n x : ℕ) (u : List ℕ) (low : n < 64) 
   unfolding result_of
   refusal-alone h = omega (arith, answered, (when-refused t (write a) (is-refused h)).0)
 
-  sheet-left : (b : Bool) → ltb x (2 ^ 32) ≡ b → cond b (counted a.sheet a.club) a.sheet ≡ (outcome t (write a)).sheet
-  sheet-left b e = ap (λ (d : Bool). cond d (counted a.sheet a.club) a.sheet) (sym e) ∙ counted-or-not t a x answered
-
   pub one-done : x < 2 ^ 32 → run (n + 1) u (counted a.sheet a.club) ≡ stepped (run n t a.sheet) a
-  one-done h = step-done a t a.sheet n 0 u _ low (is-done h, left, sheet-left true (lt-ltb x (2 ^ 32) h)) refl
+  one-done h = step-done a t a.sheet n 0 u _ low (is-done h, left, counted-done t a x answered h) refl
 
-  pub one-refused : 2 ^ 32 ≤ x → run (x + n) u a.sheet ≡ stepped (run n t a.sheet) a
-  one-refused h =
-      same-run (ap (λ (k : ℕ). k + n) (refusal-alone h)) refl refl
-      ∙ step-stop a t a.sheet n (outcome t (write a)).refusal u _ low (refl, left, sheet-left false (le-ltb x (2 ^ 32) h)) (is-refused h)
-
-  pub sum_fits : 2 ^ 32 ≤ x → x < 2 ^ 64 → x + n < 2 ^ 64
-  sum_fits h f = omega (arith, refusal-alone h)
+  pub one-refused : (k : ℕ) → x ≡ result_number k 0 → 1 ≤ k → run (result_number k n) u a.sheet ≡ stepped (run n t a.sheet) a
+  one-refused k e h =
+      let high : 2 ^ 32 ≤ x = omega (arith, e) in
+      let z : k ≡ (outcome t (write a)).refusal = omega (arith, e, refusal-alone high) in
+      same-run (ap (λ (m : ℕ). result_number m n) z) refl refl
+      ∙ step-stop a t a.sheet n (outcome t (write a)).refusal u _ low (refl, left, not-counted t a x answered high) (is-refused high)
 
 -- ---- the choices kept
 pub kept-none : (t : List ℕ) → Kept t (replicate 16 0)
@@ -114,15 +114,27 @@ kept-after t xs a y =
     }
 
 -- a done write leaves all as question 1 wants it, and of the remainder one less where the club was not below its assured number
-pub ready-after : (t order sets : List ℕ) (a : Writing) (x : ℕ) (u : List ℕ) (left : ℕ) (choices : List ℕ) → x ≡ result_of (outcome t (write a)) → u ≡ (outcome t (write a)).table → x < 2 ^ 32
-    → Ready t a.sheet order sets left choices → Ready u (counted a.sheet a.club) order sets (left - cond (ltb (count_of a.sheet a.club) (assured_of a.sheet a.club)) 0 1) choices
+pub ready-after : (t : List ℕ) (f : Frame) (a : Writing) (x : ℕ) (u : List ℕ) (turn : Turn) (choices : List ℕ) → x ≡ result_of (outcome t (write a)) → u ≡ (outcome t (write a)).table → x < 2 ^ 32
+    → turn.done < 64 → Ready t a.sheet f turn choices
+    → Ready u (counted a.sheet a.club) f (record { done = turn.done + 1; left = turn.left - cond (ltb (count_of a.sheet a.club) (assured_of a.sheet a.club)) 0 1 }) choices
 unfolding result_of CountsOne
-ready-after t order sets a x u left choices answered done h y =
+ready-after t f a x u turn choices answered done h low y =
     let e : (outcome t (write a)).refusal ≡ 0 = omega (arith, answered) in
     let one = counts-one a.sheet a.club y.right (write-yes t a (sym (refusal_is t (write a)) ∙ e)).club in
     record {
-      framed = subst (λ (v : List ℕ). Framed v order sets) (sym done) (write-framed a y.framed);
+      framed = subst (λ (v : List ℕ). FrameOf v f) (sym done) (write-frame a y.framed);
       right = one.right;
+      few = omega arith;
       spare = omega (arith, y.spare, one.remainder, one.beyond);
       kept = subst (λ (v : List ℕ). Kept v choices) (sym done) (kept-after t choices a y.kept);
     }
+
+-- the arrays that hold the frame of the table hold that of the table after an order too
+pub step-framed : (t s order sets : List ℕ) (n : ℕ) (w : Writing) → Framed t order sets → Framed (stepped (run n t s) w).table order sets
+unfolding stepped
+step-framed t s order sets n w f = go (ltb n 64)
+  where
+    go : (b : Bool) → Framed (cond b (run (cond (eqb (outcome t (write w)).refusal 0) (n + 1) (result_number (outcome t (write w)).refusal n)) (outcome t (write w)).table (outcome t (write w)).sheet)
+        (run (cond (eqb n 64) (result_number 4 64) n) t s)).table order sets
+    go true = write-framed w f
+    go false = f

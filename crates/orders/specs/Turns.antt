@@ -1,16 +1,20 @@
 -- A round as the code goes through it, one order after another. Its result so far is the number done, or, once an order is refused, that refusal and the number done.
-use Rattle.std.specs.Prelude.{◌≡◌, true, cond, ◌||◌, List, [], ◌∷◌, ℕ, ◌+◌, ◌-◌, ◌≤◌, eqb, ltb, length, get_or}
+use Rattle.std.specs.Prelude.{◌≡◌, true, cond, Result, Ok, Err, ◌||◌, List, [], ◌∷◌, ℕ, ◌+◌, ◌-◌, ◌≤◌, eqb, ltb, length, get_or}
 use Rattle.sets.specs.Upto.{Within}
 use Rattle.quorums.specs.declared.Kind.TheVariants.{Write}
 use Rattle.fields.specs.Layout.{used_of}
 use Rattle.table.specs.WellFormed.{only_rows, well_formed}
-use Rattle.grouping.specs.Grouped.{Framed}
+use Rattle.grouping.specs.declared.Frame.{Frame}
+use Rattle.grouping.specs.Frames.{FrameOf}
 use Rattle.asking.specs.Asking.{Question, first_no, result_number}
+use Rattle.asking.specs.Refusals.{refusal_number}
+use Rattle.asking.specs.declared.Refusal.{Refusal}
 use Rattle.sheet.specs.Sheet.{remainder, all_beyond, sheet_right}
 use Rattle.protocol.specs.Calls.{Writing, write, outcome}
 use Rattle.settle.specs.Works.{Known}
 use Rattle.ordering.specs.declared.Order.{Order}
 use Rattle.ordering.specs.Rounds.{writing}
+use Rattle.orders.specs.declared.Turn.{Turn}
 
 -- the result so far, the table and the sheet
 pub record Run : Type 0 where
@@ -43,9 +47,15 @@ pub record Kept (t choices : List ℕ) : Type 0 where
   pub long : length choices ≡ 16
   pub known : (i : ℕ) → Within (used_of t) i → i ≤ 16 → Known Write t i (get_or choices (i - 1) 0)
 
--- what question 1 has shown of the sheet and the table, what is left of the sheet's remainder, and the choices made
-pub record Ready (t s order sets : List ℕ) (left : ℕ) (choices : List ℕ) : Type 0 where
-  pub framed : Framed t order sets
+-- what question 1 has shown of the sheet and the table, how far the round is, and the choices made
+pub record Ready (t s : List ℕ) (frame : Frame) (turn : Turn) (choices : List ℕ) : Type 0 where
+  pub framed : FrameOf t frame
   pub right : sheet_right s ≡ true
-  pub spare : left ≡ remainder s - all_beyond s
+  pub few : turn.done ≤ 64
+  pub spare : turn.left ≡ remainder s - all_beyond s
   pub kept : Kept t choices
+
+-- the result so far after an order more, where so many are done: it is done too, or the round ends
+abbrev pub turned : {A : Type 0} → ℕ → Result A Refusal → ℕ
+turned done (Ok next) = done + 1
+turned done (Err refusal) = result_number (refusal_number refusal) done

@@ -19,6 +19,7 @@ use Rattle.table.specs.Chain.{frame_of}
 use Rattle.table.specs.WellFormed.{well_formed}
 use Rattle.table.proofs.FormLaws.{formed}
 use Rattle.protocol.specs.Polls.{good, current, quorum_held}
+use Rattle.asking.specs.Refusals.{no_number}
 use Rattle.asking.specs.Asking.{first_no}
 use Rattle.protocol.specs.Calls.{Reading, Outcome, read, questions, answers, work_set, done, outcome, result_of, noted}
 use Rattle.protocol.proofs.CopyLaws.{copy-long}
@@ -62,21 +63,20 @@ module _ (t : List ℕ) (a : Reading) where
       whole : length a.buffer ≡ a.count
       whole = eqb-true _ _ (and_l _ _ l)
 
-      after-poll : first_no (questions t (read a)) ≡ v.refusal
+      after-poll : first_no (questions t (read a)) ≡ no_number v.asked
       after-poll =
           after-four
           ∙ ap (λ (b : Bool). cond b (cond (quorum_held Read (frame_of t) (answers t a.file a.r) (work_set Read t a.file a.c a.r)) (cond (current (answers t a.file a.r) (work_set Read t a.file a.c a.r)) 0 7) 6) 5) l
           ∙ sym j.refusal
 
       -- refused by 6 or 7
-      pub read_no : 1 ≤ v.refusal
-          → Refused t (read a) v.refusal
-      read_no h = refused-is t (read a) v.refusal after-poll h
+      pub read_no : (m : ℕ) → no_number v.asked ≡ m → 1 ≤ m → Refused t (read a) m
+      read_no m e h = refused-is t (read a) m (after-poll ∙ e) h
 
       good-is : lowest 64 (has v.good.bits) ≡ lowest 64 (good (answers t a.file a.r) (work_set Read t a.file a.c a.r))
       good-is = ap (lowest 64) j.good
 
-      module _ (z : v.refusal ≡ 0) where
+      module _ (z : no_number v.asked ≡ 0) where
         pub source-used : Within (used_of t) (lowest 64 (has v.good.bits))
         unfolding work_set
         source-used =

@@ -16,7 +16,7 @@ use Rattle.sheet.specs.Sheet.{sheet_right}
 use Rattle.ordering.specs.Rounds.{Round, empty_questions, none_done, round_of, order_in, orders_in, round_in}
 use Rattle.orders.specs.Turns.{Run, turn, first_questions}
 use Rattle.orders.proofs.OrderLaws.{run}
-use Rattle.rounds.proofs.RoundLaws.{after, opened, told, after_is}
+use Rattle.rounds.proofs.RoundLaws.{after, opened, told, after-stays, after_is, refused-first}
 
 -- ---- a list that ends inside an order
 module _ (t s : List ℕ) (r : ℕ) (xs : List ℕ) (broken : length xs % 16 ≡ 0 → ⊥) (no : ℕ) (e : no ≡ first_no (first_questions t s r 0)) where
@@ -76,13 +76,21 @@ module _ (t s : List ℕ) (r : ℕ) (xs : List ℕ) (n : ℕ) where
       let w : (i * 16 + 16) - i * 16 ≡ 16 = omega arith in
       rw (d, e, w) (rw m at l)
 
+  -- to the end, or to a refusal
   pub none_left : (i sum : ℕ) (u v : List ℕ) → n ≤ i → Left i sum u v → run sum u v ≡ told (round_of t s r (orders_in n xs))
   unfolding Left orders_in after
   none_left i sum u v h l = let z : n - i ≡ 0 = omega arith in rw z at l
 
-pub all_done : (t s : List ℕ) (r : ℕ) (xs : List ℕ) (i sum : ℕ) (u v : List ℕ) → length xs % 16 ≡ 0 → length xs / 16 ≤ i → Left t s r xs (length xs / 16) i sum u v
+  pub stopped_left : (i sum : ℕ) (u v : List ℕ) → 64 < sum → Left i sum u v → run sum u v ≡ told (round_of t s r (orders_in n xs))
+  unfolding Left
+  stopped_left i sum u v h l = sym (after-stays r sum u v _ h) ∙ l
+
+  pub refused_left : (k : ℕ) → k ≡ first_no (first_questions t s r n) → 1 ≤ k → run (result_number k 0) t s ≡ told (round_of t s r (orders_in n xs))
+  refused_left k e h = refused-first t s r (orders_in n xs) k (e ∙ ap (λ (m : ℕ). first_no (first_questions t s r m)) (sym (length-orders n xs))) h
+
+pub told-in : (t s : List ℕ) (r : ℕ) (xs : List ℕ) (sum : ℕ) (u v : List ℕ) → length xs % 16 ≡ 0 → run sum u v ≡ told (round_of t s r (orders_in (length xs / 16) xs))
     → (sum ≡ result_number (round_in t s r xs).refusal (round_in t s r xs).value) × (u ≡ (round_in t s r xs).table) × (v ≡ (round_in t s r xs).sheet)
 unfolding round_in
-all_done t s r xs i sum u v e h l =
-    let f : run sum u v ≡ told (round_in t s r xs) = rw (eq-eqb (length xs % 16) 0 e) (none_left t s r xs (length xs / 16) i sum u v h l) in
+told-in t s r xs sum u v e l =
+    let f : run sum u v ≡ told (round_in t s r xs) = rw (eq-eqb (length xs % 16) 0 e) l in
     (ap (λ (x : Run). x.result) f, ap (λ (x : Run). x.table) f, ap (λ (x : Run). x.sheet) f)

@@ -103,3 +103,12 @@ after_is t s r (o ∷ os) = go (sheet_right s) (well_formed t) refl refl
     go true true e f = rw (e, f, lt-ltb 0 (suc (length os)) (omega arith)) (after-from t s r 0 (o ∷ os) (omega arith))
     go true false e f = rw (e, f) (stops (inr f))
     go false c e f = rw e (stops (inl e))
+
+-- where nothing is refused before the first order, they come to it from there; where something is, that is all
+pub after-none : (t s : List ℕ) (r : ℕ) (os : List Order) → 0 ≡ first_no (first_questions t s r (length os)) → after r (run 0 t s) os ≡ told (round_of t s r os)
+unfolding opened
+after-none t s r os e = ap (λ (k : ℕ). after r (run (result_number k 0) t s) os) e ∙ after_is t s r os
+
+pub refused-first : (t s : List ℕ) (r : ℕ) (os : List Order) (k : ℕ) → k ≡ first_no (first_questions t s r (length os)) → 1 ≤ k → run (result_number k 0) t s ≡ told (round_of t s r os)
+unfolding opened
+refused-first t s r os k e h = sym (after-stays r (result_number k 0) t s os (omega arith)) ∙ ap (λ (m : ℕ). after r (run (result_number m 0) t s) os) e ∙ after_is t s r os

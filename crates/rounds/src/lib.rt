@@ -4,63 +4,103 @@
 ghost use Rattle.std.specs.Prelude.{◌≡◌};
 ghost use Rattle.asking.specs.Asking.{result_number};
 ghost use Rattle.ordering.specs.Rounds.{round_of, round_in};
+ghost use Rattle.rounds.specs.Rounds.{StopsFirst, round_number};
 
-use asking::result;
+use asking::Refusal;
+use grouping::Frame;
 use opening::{asked, begin};
 use ordering::Order;
+use orders::Turn;
 use turns::{next, next_in};
 
 // An order's length in bytes, in C.
 const ORDER: usize = 16;
 
-// The orders of a list in turn. Value: how many are done.
-pub fn round(t: &mut [u8], r: u64, list: &[Order], sheet: &mut [u8]) -> u64
-    ensures { (let o = round_of t.old sheet.old r list.now in (result ≡ result_number o.refusal o.value) × (t.new ≡ o.table) × (list.now ≡ list.now) × (sheet.new ≡ o.sheet)) }
-{
-    let mut s = begin(t, sheet, r, list.len());
-    let mut i = 0;
-    while i < list.len() {
-        s = next(t, sheet, r, list[i], s);
-        i += 1;
+// Why a round ends before the end of its list, and how many orders are done.
+#[derive(Clone, Copy, PartialEq, Eq)]
+pub struct Stopped {
+    pub refusal: Refusal,
+    pub done: u32,
+}
+
+// Before the first order.
+impl From<Refusal> for Stopped {
+    ghost from_gives = { StopsFirst };
+
+    fn from(refusal: Refusal) -> Stopped {
+        Stopped {
+            refusal: refusal,
+            done: 0,
+        }
     }
-    s.result
+}
+
+// What a round answers as one number, for C: how many orders are done, and 2^32 times the number of the refusal where there is one.
+pub fn number(answer: Result<u32, Stopped>) -> u64
+    ensures { result ≡ round_number answer }
+{
+    match answer {
+        Ok(done) => done as u64,
+        Err(stopped) => stopped.refusal.number() as u64 * 4_294_967_296 + stopped.done as u64,
+    }
+}
+
+// The orders of a list in turn. Value: how many are done.
+pub fn round(t: &mut [u8], r: u64, list: &[Order], sheet: &mut [u8]) -> Result<u32, Stopped>
+    ensures { (let o = round_of t.old sheet.old r list.now in (round_number result ≡ result_number o.refusal o.value) × (t.new ≡ o.table) × (list.now ≡ list.now) × (sheet.new ≡ o.sheet)) }
+{
+    let mut s = begin(t, sheet, r, list.len())?;
+    for o in list {
+        s = match next(t, sheet, r, *o, s) {
+            Ok(next) => next,
+            Err(refusal) => {
+                return Err(Stopped {
+                    refusal: refusal,
+                    done: s.turn.done,
+                });
+            }
+        };
+    }
+    Ok(s.turn.done)
 }
 
 // The orders of a list of bytes in turn. Value: how many are done. A list that ends inside an order is refused.
-pub fn round_in(t: &mut [u8], r: u64, list: &[u8], sheet: &mut [u8]) -> u64
-    ensures { (let o = round_in t.old sheet.old r list.now in (result ≡ result_number o.refusal o.value) × (t.new ≡ o.table) × (list.now ≡ list.now) × (sheet.new ≡ o.sheet)) }
+pub fn round_in(t: &mut [u8], r: u64, list: &[u8], sheet: &mut [u8]) -> Result<u32, Stopped>
+    ensures { (let o = round_in t.old sheet.old r list.now in (round_number result ≡ result_number o.refusal o.value) × (t.new ≡ o.table) × (list.now ≡ list.now) × (sheet.new ≡ o.sheet)) }
 {
     let mut order = [0u8; 64];
     let mut sets = [0u64; 8];
     if list.len() % ORDER != 0 {
-        let no = asked(t, sheet, r, 0, &mut order, &mut sets).no;
-        if no != 0 {
-            return result(no, 0);
-        }
-        return result(4, 0);
+        asked(t, sheet, r, 0, &mut order, &mut sets)?;
+        return Err(Stopped::from(Refusal::WrongRange));
     }
     let n = list.len() / ORDER;
-    let first = asked(t, sheet, r, n, &mut order, &mut sets);
-    let mut sum = result(first.no, 0);
-    let mut left = first.left;
+    let left = asked(t, sheet, r, n, &mut order, &mut sets)?;
+    let frame = Frame::new(&order, header::used(t), &sets);
+    let mut turn = Turn {
+        done: 0,
+        left: left,
+    };
     let mut choices = [0u64; 16];
-    let mut k = 0;
-    while k < n {
+    for k in 0..n {
         let at = k * ORDER;
-        let turn = next_in(
+        turn = match next_in(
             t,
             sheet,
-            &order,
-            &sets,
+            &frame,
             r,
             &list[at..at + ORDER],
-            sum,
-            left,
+            turn,
             &mut choices,
-        );
-        sum = turn.result;
-        left = turn.left;
-        k += 1;
+        ) {
+            Ok(next) => next,
+            Err(refusal) => {
+                return Err(Stopped {
+                    refusal: refusal,
+                    done: turn.done,
+                });
+            }
+        };
     }
-    sum
+    Ok(turn.done)
 }

@@ -1,12 +1,15 @@
 // One order more of a round, as a struct and in bytes.
 #![tactic(auto)]
 
-ghost use Rattle.std.specs.Prelude.{◌≡◌, cond, ◌≤◌, length};
+ghost use Rattle.std.specs.Prelude.{◌≡◌, cond, ◌+◌, ◌≤◌, length, IfOk};
 ghost use Rattle.table.specs.WellFormed.{between};
 ghost use Rattle.ordering.specs.Rounds.{order_in};
-ghost use Rattle.orders.specs.Turns.{turn, Ready};
+ghost use Rattle.orders.specs.Turns.{turn, turned, Ready};
+ghost use Rattle.opening.specs.Standings.{Stands};
 
-pub use opening::{First, Standing, asked, begin};
+use asking::Refusal;
+use grouping::Frame;
+pub use opening::{Standing, asked, begin};
 use ordering::Order;
 pub use orders::Turn;
 use orders::step;
@@ -22,10 +25,11 @@ fn bytes_in(count: u8) -> usize
     }
 }
 
-// One order more.
-pub fn next(t: &mut [u8], sheet: &mut [u8], r: u64, o: Order, s: Standing) -> Standing
-    requires { s.result ≤ 64 → Ready t.old sheet.old s.order s.sets s.left s.choices }
-    ensures { (record { result = result.result; table = t.new; sheet = sheet.new } ≡ turn r (record { result = s.result; table = t.old; sheet = sheet.old }) o) × (result.result ≤ 64 → Ready t.new sheet.new result.order result.sets result.left result.choices) }
+// One order more: where the round stands then, or why it ends.
+pub fn next(t: &mut [u8], sheet: &mut [u8], r: u64, o: Order, s: Standing) -> Result<Standing, Refusal>
+    requires { Stands t.old sheet.old s }
+    ensures made { record { result = turned s.turn.done result; table = t.new; sheet = sheet.new } ≡ turn r (record { result = s.turn.done; table = t.old; sheet = sheet.old }) o }
+    ensures ready { IfOk result (λ next. (next.turn.done ≡ s.turn.done + 1) × Stands t.new sheet.new next) }
 {
     let order = s.order;
     let sets = s.sets;
@@ -35,56 +39,50 @@ pub fn next(t: &mut [u8], sheet: &mut [u8], r: u64, o: Order, s: Standing) -> St
     let turn = step(
         t,
         sheet,
-        &order,
-        &sets,
+        &Frame::new(&order, header::used(t), &sets),
         o.coordinator as usize,
         r,
         o.offset as usize,
         &bytes[0..n],
         o.file as usize,
         o.club as u64,
-        s.result,
-        s.left,
+        s.turn,
         &mut choices,
-    );
-    Standing {
-        result: turn.result,
-        left: turn.left,
+    )?;
+    Ok(Standing {
+        turn: turn,
         order: order,
         sets: sets,
         choices: choices,
-    }
+    })
 }
 
-// One order more, in 16 bytes.
+// One order more, in 16 bytes: how far the round is then, or why it ends.
 pub fn next_in(
     t: &mut [u8],
     sheet: &mut [u8],
-    order: &[u8; 64],
-    sets: &[u64; 8],
+    frame: &Frame,
     r: u64,
     o: &[u8],
-    sum: u64,
-    left: u64,
+    so_far: Turn,
     choices: &mut [u64; 16],
-) -> Turn
-    requires { (sum ≤ 64 → Ready t.old sheet.old order.now sets.now left choices.old) × (length o.now ≡ 16) }
-    ensures { (record { result = result.result; table = t.new; sheet = sheet.new } ≡ turn r (record { result = sum; table = t.old; sheet = sheet.old }) (order_in o.now)) × (result.result ≤ 64 → Ready t.new sheet.new order.now sets.now result.left choices.new) }
+) -> Result<Turn, Refusal>
+    requires { Ready t.old sheet.old frame.now so_far choices.old × (length o.now ≡ 16) }
+    ensures made { record { result = turned so_far.done result; table = t.new; sheet = sheet.new } ≡ turn r (record { result = so_far.done; table = t.old; sheet = sheet.old }) (order_in o.now) }
+    ensures ready { IfOk result (λ next. (next.done ≡ so_far.done + 1) × Ready t.new sheet.new frame.now next choices.new) }
 {
     let n = bytes_in(octets::u8_at(o, 1));
     step(
         t,
         sheet,
-        order,
-        sets,
+        frame,
         octets::u8_at(o, 0) as usize,
         r,
         octets::u16_at(o, 2) as usize,
         &o[4..4 + n],
         octets::u8_at(o, 12) as usize,
         octets::u8_at(o, 13) as u64,
-        sum,
-        left,
+        so_far,
         choices,
     )
 }

@@ -11,7 +11,8 @@ use Rattle.fields.specs.Layout.{used_of}
 use Rattle.table.specs.WellFormed.{between}
 use Rattle.table.proofs.WellFormedLaws.{sized, long}
 use Rattle.settle.specs.Works.{Known}
-use Rattle.settle.proofs.SettleLaws.{choice-of, known-none}
+use Rattle.settle.proofs.SettleLaws.{known-none}
+use Rattle.orders.proofs.ChoiceLaws.{own-choice}
 use Rattle.orders.proofs.OrderLaws.{kept_more}
 use Rattle.orders.proofs.chosen.Goals.{Else-not-both}
 use Rattle.orders.proofs.chosen.Goals as goal
@@ -50,10 +51,6 @@ returns-then-kept-ne0 c =
 pub row_of-row-requires : goal.row_of-row-requires
 row_of-row-requires c = (sized c.requires.0.formed, (inside (goal.at.row_of-row-requires c).Else-not-both).0)
 
-pub choice-made-requires : goal.choice-made-requires
-choice-made-requires c =
-    let f = c.requires.0 in (rw c.used-used.ensures f.ordered.listed, f.grouped.apart)
-
 pub offset_bounds-choices-k-2 : goal.offset_bounds-choices-k-2
 offset_bounds-choices-k-2 c = omega (arith, inside (goal.at.offset_bounds-choices-k-2 c).Else-not-both)
 
@@ -62,5 +59,5 @@ bounds-choices-k-2 c = omega (arith, inside (goal.at.bounds-choices-k-2 c).Else-
 
 pub returns : goal.returns
 returns c =
-    let k : Known Write c.args.t.now c.args.c c.choice-made.result.bits = record { chosen = λ d. c.choice-made.ensures ∙ choice-of Write _ c.args.c _ _ c.requires.0 c.used-used.ensures c.row_of-row.ensures.0 c.list.ensures c.name.ensures } in
+    let k : Known Write c.args.t.now c.args.c c.choice-made.result.bits = record { chosen = λ d. c.choice-made.ensures ∙ own-choice Write c.args.c _ _ c.requires.0 c.row_of-row.ensures.0 c.list.ensures c.name.ensures } in
     (k, kept_more _ _ c.args.c _ (inside (goal.at.returns c).Else-not-both).0.0 (inside (goal.at.returns c).Else-not-both).1 k c.requires.1)

@@ -1,77 +1,77 @@
 use mathlib.Core.List.{List, [], ◌∷◌}
 use mathlib.Core.Path.{◌≡◌, refl, sym, ◌∙◌, ap, subst₂}
-use Prim.Native.Nat.{ℕ, ◌≤◌, ◌<◌, ◌^◌}
+use Prim.Native.Nat.{ℕ, ◌≤◌, ◌<◌, ◌^◌, ◌+◌, ◌*◌}
 use native.Mathlib.Omega.{arith}
+use lib.ListN.{length}
+use Rattle.std.proofs.lemmas.Result.{err_from_is_err_and}
+use Rattle.sets.specs.Upto.{Within}
+use Rattle.table.specs.WellFormed.{limit}
+use Rattle.asking.specs.Asking.{result_number}
+use Rattle.asking.specs.Refusals.{refusal_number}
+use Rattle.asking.proofs.AskingLaws.{some-number}
 use Rattle.sheet.proofs.SheetLaws.{sheet-facts}
 use Rattle.effects.proofs.WriteLaws.{may-count}
 use Rattle.protocol.specs.Calls.{Writing, write, outcome, result_of}
+use Rattle.orders.specs.declared.Turn.{Turn}
 use Rattle.orders.specs.Turns.{Ready}
-use Rattle.orders.proofs.OrderLaws.{run, same-run, step-refused, step-65, one-done, one-refused, sum_fits, ready-after}
-use Rattle.orders.proofs.step.Goals.{After-answer-a}
+use Rattle.orders.proofs.OrderLaws.{run, same-run, step-65, one-done, one-refused, ready-after}
+use Rattle.orders.proofs.step.Goals.{Else-turn-eq64, In_ok-answer}
 use Rattle.orders.proofs.step.Goals as goal
 
 -- the write that is made
-abbrev writing : After-answer-a → Writing
-writing k =
-    let a = k.args in record { c = a.c; r = a.r; offset = a.offset; patch = a.patch.now; called = 0 ∷ []; file = a.file; sheet = a.sheet.now; club = a.club }
+abbrev writing : (c r offset : ℕ) (patch : List ℕ) (file : ℕ) (sheet : List ℕ) (club : ℕ) → Writing
+writing c r offset patch file sheet club = record { c = c; r = r; offset = offset; patch = patch; called = 0 ∷ []; file = file; sheet = sheet; club = club }
 
-low : (k : After-answer-a) → k.args.sum < 64
-low k = omega (arith, k.if-sum-eq64.false, k.if-sum-gt64.false)
+low : (k : Else-turn-eq64) → k.args.turn.done < 64
+low k = omega (arith, k.if-turn-eq64.false, k.requires.few)
 
-ready : (k : After-answer-a) → let a = k.args in Ready a.t.now a.sheet.now a.order.now a.sets.now a.left a.choices.now
-ready k = k.requires (omega (arith, low k))
+-- what it answers where it is done
+made : (k : In_ok-answer) → let a = k.args in
+    let o = outcome a.t.now (write (writing a.c a.r a.offset a.patch.now a.file a.sheet.now a.club)) in
+    (0 * 2 ^ 32 + k.in_ok-answer.field-0 ≡ result_of o) × (k.answer.new.t ≡ o.table)
+made k = let e = k.in_ok-answer.ensures.answer (0 ∷ []) k.args.sheet.now k.args.club refl k.requires.right k.share_asked-share.ensures in (e.0, e.1)
 
-answered : (k : After-answer-a) → let o = outcome k.args.t.now (write (writing k)) in (k.answer-a.result.result ≡ result_of o) × (k.answer-a.new.t ≡ o.table)
-answered k =
-    let a = k.args in
-    let e = k.answer-a.ensures (0 ∷ []) a.sheet.now a.club refl (ready k).right k.share_asked-share.ensures in (e.0, e.1)
+small : (k : In_ok-answer) → 0 * 2 ^ 32 + k.in_ok-answer.field-0 < 2 ^ 32
+unfolding limit
+small k = omega (arith, k.in_ok-answer.ensures.within)
 
-pub returns-then-sum-gt64 : goal.returns-then-sum-gt64
-returns-then-sum-gt64 c = (step-refused _ c.args.t.now c.args.sheet.now c.args.sum c.if-sum-gt64.true, λ l. absurd (omega (arith, l, c.if-sum-gt64.true)))
+may : (k : In_ok-answer) → (length k.args.sheet.now ≡ 196) × Within 16 k.args.club
+may k = let a = k.args in may-count a.t.now (writing a.c a.r a.offset a.patch.now a.file a.sheet.now a.club) _ (made k).0 (small k)
 
-pub returns-then-sum-eq64 : goal.returns-then-sum-eq64
-returns-then-sum-eq64 c =
-    (ap (λ (k : ℕ). run k c.args.t.now c.args.sheet.now) c.result.ensures ∙ step-65 _ c.args.t.now c.args.sheet.now c.args.sum c.if-sum-eq64.true, λ l. absurd (omega (arith, l, c.result.ensures)))
+pub returns-then-turn-eq64-clause-made : goal.returns-then-turn-eq64-clause-made
+returns-then-turn-eq64-clause-made c =
+    let a = c.args in
+    same-run (ap (result_number 4) c.if-turn-eq64.true) refl refl ∙ step-65 _ a.t.now a.sheet.now a.turn.done c.if-turn-eq64.true
 
 pub share_asked-share-requires : goal.share_asked-share-requires
-share_asked-share-requires c =
-    let y = c.requires (omega (arith, c.if-sum-gt64.false)) in ((sheet-facts c.args.sheet.now y.right).long, y.spare)
+share_asked-share-requires c = ((sheet-facts c.args.sheet.now c.requires.right).long, c.requires.spare)
 
-pub chosen-known-requires : goal.chosen-known-requires
-chosen-known-requires c =
-    let y = c.requires (omega (arith, c.if-sum-gt64.false)) in (y.framed, y.kept)
+pub returns-in_err-answer-clause-made : goal.returns-in_err-answer-clause-made
+returns-in_err-answer-clause-made c =
+    let a = c.args in
+    let f = err_from_is_err_and c.from_residual.result c.from_residual.ensures.1 in
+    let e = c.in_err-answer.ensures.answer (0 ∷ []) a.sheet.now a.club refl c.requires.right c.share_asked-share.ensures in
+    rw (f.1, f.2) (one-refused a.t.now (writing a.c a.r a.offset a.patch.now a.file a.sheet.now a.club) a.turn.done _ _ (low (goal.at.returns-in_err-answer-clause-made c).Else-turn-eq64) e.0 e.1 _ refl (some-number _))
 
-pub answer-a-requires : goal.answer-a-requires
-answer-a-requires c = ((c.requires (omega (arith, c.if-sum-gt64.false))).framed, c.chosen-known.ensures.0)
-
-pub left_after-less-requires : goal.left_after-less-requires
-left_after-less-requires c =
-    let k = (goal.at.left_after-less-requires c).After-answer-a in may-count c.args.t.now (writing k) _ (answered k).0 c.if-a-lt4294967296.true
+pub left_after-left-requires : goal.left_after-left-requires
+left_after-left-requires c = may c
 
 pub count_one-requires : goal.count_one-requires
-count_one-requires c =
-    let k = (goal.at.count_one-requires c).After-answer-a in may-count c.args.t.now (writing k) _ (answered k).0 c.if-a-lt4294967296.true
+count_one-requires c = may (goal.at.count_one-requires c).In_ok-answer
 
-pub returns-then-a-lt4294967296 : goal.returns-then-a-lt4294967296
-returns-then-a-lt4294967296 c =
-    let k = (goal.at.returns-then-a-lt4294967296 c).After-answer-a in
+pub returns-clause-made : goal.returns-clause-made
+returns-clause-made c =
+    let p = goal.at.returns-clause-made c in
+    let k = p.In_ok-answer in
     let a = c.args in
-    let e = answered k in
-    let y = ready k in
-    let n = c.count_one.ensures in (
-      same-run refl refl n ∙ one-done a.t.now (writing k) a.sum _ _ (low k) e.0 e.1 c.if-a-lt4294967296.true,
-      λ l. subst₂ (λ (v : List ℕ) (m : ℕ). Ready c.answer-a.new.t v a.order.now a.sets.now m c.chosen-known.new.choices) (sym n) (sym c.left_after-less.ensures)
-          (ready-after a.t.now a.order.now a.sets.now (writing k) _ _ a.left _ e.0 e.1 c.if-a-lt4294967296.true (record { framed = y.framed; right = y.right; spare = y.spare; kept = c.chosen-known.ensures.1 })),
-    )
+    same-run refl refl c.count_one.ensures ∙ one-done a.t.now (writing a.c a.r a.offset a.patch.now a.file a.sheet.now a.club) a.turn.done _ _ (low p.Else-turn-eq64) (made k).0 (made k).1 (small k)
 
-pub overflow_add-result-2 : goal.overflow_add-result-2
-overflow_add-result-2 c =
-    let k = (goal.at.overflow_add-result-2 c).After-answer-a in
-    record { fits = sum_fits c.args.t.now (writing k) c.args.sum _ _ (low k) (answered k).0 (answered k).1 c.if-a-lt4294967296.false (omega arith) }
-
-pub returns : goal.returns
-returns c =
-    let k = (goal.at.returns c).After-answer-a in
+pub returns-clause-ready : goal.returns-clause-ready
+returns-clause-ready c =
+    let p = goal.at.returns-clause-ready c in
+    let k = p.In_ok-answer in
     let a = c.args in
-    let h : 2 ^ 32 ≤ c.answer-a.result.result = omega (arith, c.if-a-lt4294967296.false) in
-    (one-refused a.t.now (writing k) a.sum _ _ (low k) (answered k).0 (answered k).1 h, λ l. absurd (omega (arith, l, h)))
+    let y = c.requires in
+    (refl, subst₂ (λ (v : List ℕ) (m : ℕ). Ready c.answer.new.t v a.frame.now (record { done = a.turn.done + 1; left = m }) c.chosen-known.new.choices) (sym c.count_one.ensures) (sym c.left_after-left.ensures)
+        (ready-after a.t.now a.frame.now (writing a.c a.r a.offset a.patch.now a.file a.sheet.now a.club) _ _ a.turn _ (made k).0 (made k).1 (small k) (low p.Else-turn-eq64)
+        (record { framed = y.framed; right = y.right; few = y.few; spare = y.spare; kept = c.chosen-known.ensures.1 })))

@@ -1,36 +1,53 @@
-use Rattle.std.proofs.Common.{◌≡◌, ◌∙◌, length, ap, refl, arith}
+use Rattle.std.proofs.Common.{◌≡◌, ◌∙◌, ℕ, ◌<◌, ◌+◌, length, drop, ap, refl, sym, arith}
+use native.Mathlib.Nat.{zero-add}
+use Rattle.std.proofs.lemmas.Result.{err_from_is_err_and}
+use Rattle.asking.specs.Asking.{result_number}
+use Rattle.asking.specs.Refusals.{refusal_number}
+use Rattle.asking.proofs.AskingLaws.{some-number}
 use Rattle.orders.specs.Turns.{Run}
-use Rattle.orders.proofs.OrderLaws.{run, same-run}
+use Rattle.orders.proofs.OrderLaws.{run}
 use Rattle.ordering.specs.Rounds.{round_of}
-use Rattle.rounds.proofs.RoundLaws.{after, opened, told, after-turn, after-all, after_is}
+use Rattle.rounds.proofs.RoundLaws.{after, told, after-turn, after-all, after-none, after-stays, refused-first}
 use Rattle.rounds.proofs.round.Goals as goal
 
-pub loop-i-init : goal.loop-i-init
-unfolding opened
-loop-i-init c =
+pub returns-in_err-s : goal.returns-in_err-s
+returns-in_err-s c =
     let a = c.args in
-    let e = c.begin-s.ensures in record {
-      within = omega arith;
-      so_far = ap (λ (x : Run). after a.r x a.list.now) (same-run e.0 e.2 e.3) ∙ after_is a.t.now a.sheet.now a.r a.list.now;
-      ready = e.1;
+    let p = err_from_is_err_and c.from_residual.result c.from_residual.ensures.1 in
+    let e = refused-first a.t.now a.sheet.now a.r a.list.now _ c.in_err-s.ensures.asked (some-number _) in
+    (rw (p.1, p.2) (ap (λ (x : Run). x.result) e), ap (λ (x : Run). x.table) e, refl, ap (λ (x : Run). x.sheet) e)
+
+pub loop-o-init : goal.loop-o-init
+loop-o-init c =
+    let a = c.args in
+    let y = c.in_ok-s.ensures.ready in record {
+      so_far = rw y.0 (after-none a.t.now a.sheet.now a.r a.list.now c.in_ok-s.ensures.asked);
+      ready = y.1;
     }
 
-pub next-s-requires : goal.next-s-requires
-next-s-requires c = c.loop-i.invariant.ready
+pub next-requires : goal.next-requires
+next-requires c = c.loop-o.invariant.ready
 
-pub loop-i-preserved : goal.loop-i-preserved
-loop-i-preserved c =
-    let l = c.loop-i in
-    let e = c.next-s.ensures in record {
-      within = omega arith;
-      so_far = after-turn c.args.r _ _ c.args.list.now l.i _ c.loop-i-test.true e.0 ∙ l.invariant.so_far;
-      ready = e.1;
+pub returns-in-Err : goal.returns-in-Err
+returns-in-Err c =
+    let a = c.args in
+    let l = c.loop-o in
+    let k = after-turn a.r _ _ a.list.now l.o-index _ (omega arith) c.in-Err.ensures.made in
+    let e = sym (after-stays a.r _ _ _ (drop (l.o-index + 1) a.list.now) (omega (arith, some-number c.in-Err.refusal))) ∙ k ∙ l.invariant.so_far in
+    (ap (λ (x : Run). x.result) e, ap (λ (x : Run). x.table) e, refl, ap (λ (x : Run). x.sheet) e)
+
+pub loop-o-preserved : goal.loop-o-preserved
+loop-o-preserved c =
+    let l = c.loop-o in
+    let y = c.in-Ok.ensures.ready in record {
+      so_far = rw y.0 (after-turn c.args.r _ _ c.args.list.now l.o-index _ (omega arith) c.in-Ok.ensures.made ∙ l.invariant.so_far);
+      ready = y.1;
     }
 
 pub returns : goal.returns
 returns c =
-    let l = c.loop-i in
+    let l = c.loop-o in
     let a = c.args in
-    let end : l.i ≡ length a.list.now = omega arith in
-    let e : run l.s.result l.t l.sheet ≡ told (round_of a.t.now a.sheet.now a.r a.list.now) = after-all a.r _ a.list.now l.i end ∙ l.invariant.so_far in
-    (ap (λ (x : Run). x.result) e, ap (λ (x : Run). x.table) e, refl, ap (λ (x : Run). x.sheet) e)
+    let end : l.o-index ≡ length a.list.now = omega arith in
+    let e : run l.s.turn.done l.t l.sheet ≡ told (round_of a.t.now a.sheet.now a.r a.list.now) = after-all a.r _ a.list.now l.o-index end ∙ l.invariant.so_far in
+    (zero-add l.s.turn.done ∙ ap (λ (x : Run). x.result) e, ap (λ (x : Run). x.table) e, refl, ap (λ (x : Run). x.sheet) e)

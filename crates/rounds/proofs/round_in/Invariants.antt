@@ -1,12 +1,14 @@
 use mathlib.Core.Path.{◌≡◌}
-use Prim.Native.Nat.{◌≤◌, ◌-◌}
 use lib.ListN.{length}
 use Rattle.orders.specs.Turns.{Ready}
 use Rattle.rounds.proofs.ByteRounds.{Left}
 use Rattle.rounds.proofs.round_in.Given as goal
 
+-- the orders from place k on, made from where the round stands, come to the round
 abbrev pub invariant-loop-k : goal.invariant-loop-k
-invariant-loop-k l = (l.k ≤ l.n) × (length l.t ≡ length l.initial.t) × (length l.sheet ≡ length l.initial.sheet) × (l.sum ≤ 64 → Ready l.t l.sheet l.order l.sets l.left l.choices) × Left l.initial.t l.initial.sheet l.r l.list l.n l.k l.sum l.t l.sheet
-
-abbrev pub decreases-loop-k : goal.decreases-loop-k
-decreases-loop-k l = l.n - l.k
+invariant-loop-k l = record {
+  table : length l.t ≡ length l.initial.t;
+  sheet : length l.sheet ≡ length l.initial.sheet;
+  ready : Ready l.t l.sheet l.frame l.turn l.choices;
+  so_far : Left l.initial.t l.initial.sheet l.r l.list l.n l.k l.turn.done l.t l.sheet;
+}
