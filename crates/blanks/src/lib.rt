@@ -29,10 +29,8 @@ pub fn all_blank(s: &[u8]) -> bool
     let step = s.len() / 4;
     let count = s.len() - 3 * step;
     let mut bits: u8 = 0;
-    let mut k = 0;
-    while k < count {
+    for k in 0..count {
         bits = joined(bits, four(s, step, k));
-        k += 1;
     }
     bits == 0
 }

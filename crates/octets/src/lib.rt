@@ -46,11 +46,9 @@ pub fn fill(s: &mut [u8], v: u64)
     ensures { s.new ≡ bytes_of (length s.old) v }
 {
     let mut left = v;
-    let mut i = 0;
-    while i < s.len() {
-        s[i] = (left % 256) as u8;
-        left = left / 256;
-        i += 1;
+    for x in s.iter_mut() {
+        *x = (left % 256) as u8;
+        left /= 256;
     }
 }
 
@@ -77,10 +75,8 @@ pub fn all_zero(s: &[u8]) -> bool
     let half = s.len() / 2;
     let count = s.len() - half;
     let mut bits: u8 = 0;
-    let mut i = 0;
-    while i < count {
+    for i in 0..count {
         bits = joined(bits, joined(s[i], s[half + i]));
-        i += 1;
     }
     bits == 0
 }

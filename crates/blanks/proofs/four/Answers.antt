@@ -1,5 +1,4 @@
-use borrow.Author.Rules.{rules}
-use mathlib.Core.Path.{◌≡◌, ◌∙◌, ap₂}
+use mathlib.Core.Path.{◌∙◌, ap₂}
 use mathlib.Core.Bool.{Bool, ◌&&◌}
 use Rattle.blanks.specs.Blanks.{blank}
 use Rattle.blanks.proofs.four.Goals as goal

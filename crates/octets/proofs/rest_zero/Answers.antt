@@ -1,4 +1,3 @@
-use borrow.Author.Rules.{rules}
 use Rattle.octets.proofs.CodeLaws.{first_one}
 use Rattle.octets.proofs.rest_zero.Goals as goal
 

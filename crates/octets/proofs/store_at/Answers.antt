@@ -1,7 +1,6 @@
 use mathlib.Core.Path.{◌∙◌, ap}
 use Prim.Native.Nat.{ℕ}
 use native.Mathlib.Omega.{arith}
-use borrow.Author.Rules.{rules}
 use Rattle.octets.proofs.ByteLaws.{length-bytes}
 use Rattle.octets.proofs.CodeLaws.{part_length, part-back}
 use Rattle.octets.specs.Bytes.{bytes_of}

@@ -1,5 +1,4 @@
 use native.Mathlib.Omega.{arith}
-use borrow.Author.Rules.{rules}
 use Rattle.octets.proofs.CodeLaws.{number-halves}
 use Rattle.octets.proofs.u64_at.Goals as goal
 

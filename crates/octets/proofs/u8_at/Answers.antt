@@ -1,5 +1,4 @@
 use mathlib.Core.Path.{sym}
-use borrow.Author.Rules.{rules}
 use Rattle.octets.proofs.CodeLaws.{number-one}
 use Rattle.octets.proofs.u8_at.Goals as goal
 
