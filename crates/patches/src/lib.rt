@@ -11,6 +11,13 @@ ghost use Rattle.patches.specs.Places.{Placed};
 
 use windows::{PLACES, WIDTH, Window};
 
+// A patch: bytes that are laid over the contents of a file.
+#[derive(Clone, Copy)]
+pub struct Patch<'a> {
+    pub offset: usize,
+    pub bytes: &'a [u8],
+}
+
 // How many records a right window has in use, and the youngest of them, 0 for none.
 #[derive(Clone, Copy)]
 struct Tail {
@@ -118,24 +125,24 @@ fn link(records: &mut [u8], l: usize, x: usize)
 }
 
 // A record that holds a patch, and that no younger one follows.
-fn write_record(r: &mut [u8], offset: usize, patch: &[u8])
-    requires { (length r.old ≡ 36) × (length patch.now ≤ 32) }
-    ensures { r.new ≡ record_with (record { offset = offset; bytes = patch.now }) }
+fn write_record(r: &mut [u8], patch: Patch)
+    requires { (length r.old ≡ 36) × (length patch.bytes.now ≤ 32) }
+    ensures { r.new ≡ record_with (record { offset = patch.entry.offset; bytes = patch.entry.bytes.now }) }
 {
     octets::fill(r, 0);
-    octets::store_at(r, 1, 1, patch.len() as u64);
-    octets::store_at(r, 2, 2, offset as u64);
-    let end = 4 + patch.len();
-    copying::copy(&mut r[4..end], patch);
+    octets::store_at(r, 1, 1, patch.bytes.len() as u64);
+    octets::store_at(r, 2, 2, patch.offset as u64);
+    let end = 4 + patch.bytes.len();
+    copying::copy(&mut r[4..end], patch.bytes);
 }
 
 // Record x takes a patch.
-fn enter(records: &mut [u8], x: usize, offset: usize, patch: &[u8])
-    requires { (length records.old ≡ 576) × Within 16 x × (length patch.now ≤ 32) }
-    ensures { records.new ≡ with_block 0 36 x (λ y. record_with (record { offset = offset; bytes = patch.now })) records.old }
+fn enter(records: &mut [u8], x: usize, patch: Patch)
+    requires { (length records.old ≡ 576) × Within 16 x × (length patch.bytes.now ≤ 32) }
+    ensures { records.new ≡ with_block 0 36 x (λ y. record_with (record { offset = patch.entry.offset; bytes = patch.entry.bytes.now })) records.old }
 {
     let at = (x - 1) * WIDTH;
-    write_record(&mut records[at..at + WIDTH], offset, patch);
+    write_record(&mut records[at..at + WIDTH], patch);
 }
 
 // The window of a copy is emptied.
@@ -149,20 +156,20 @@ fn clear(copy: &mut [u8])
 }
 
 // The records of a window take a patch, at its place.
-fn take_in(records: &mut [u8], youngest: usize, x: usize, offset: usize, patch: &[u8])
-    requires { (length records.old ≡ 576) × Within 16 x × (youngest ≤ 16) × (length patch.now ≤ 32) }
-    ensures { records.new ≡ with_block 0 36 x (λ y. record_with (record { offset = offset; bytes = patch.now })) (with_block 0 36 youngest (store younger x) records.old) }
+fn take_in(records: &mut [u8], youngest: usize, x: usize, patch: Patch)
+    requires { (length records.old ≡ 576) × Within 16 x × (youngest ≤ 16) × (length patch.bytes.now ≤ 32) }
+    ensures { records.new ≡ with_block 0 36 x (λ y. record_with (record { offset = patch.entry.offset; bytes = patch.entry.bytes.now })) (with_block 0 36 youngest (store younger x) records.old) }
 {
     link(records, youngest, x);
-    enter(records, x, offset, patch);
+    enter(records, x, patch);
 }
 
 // The window of a copy takes a patch. Where it has no oldest record, it is empty already.
-pub fn add(copy: &mut [u8], offset: usize, patch: &[u8])
+pub fn add(copy: &mut [u8], patch: Patch)
     requires { (588 ≤ length copy.old) × ((file : ℕ) × RightFor file (window_of copy.old)) }
-    ensures { copy.new ≡ store_window (added (record { offset = offset; bytes = patch.now }) (window_of copy.old)) copy.old }
+    ensures { copy.new ≡ store_window (added (record { offset = patch.entry.offset; bytes = patch.entry.bytes.now }) (window_of copy.old)) copy.old }
 {
-    if 32 < patch.len() {
+    if 32 < patch.bytes.len() {
         if fields::oldest(copy) == 0 {
             return;
         }
@@ -174,7 +181,7 @@ pub fn add(copy: &mut [u8], offset: usize, patch: &[u8])
         records: &copy[at..],
     });
     fields::set_oldest(copy, place.first as u8);
-    take_in(&mut copy[at..], place.youngest, place.taken, offset, patch);
+    take_in(&mut copy[at..], place.youngest, place.taken, patch);
 }
 
 // The patch of a record is laid over the contents, where it is wanted.

@@ -18,10 +18,10 @@ long copy offset patch h = ap (λ (w : Window). store_window w copy) (sym (added
 
 pub returns-then-oldest-eq0 : goal.returns-then-oldest-eq0
 returns-then-oldest-eq0 c =
-    empty-stays c.args.copy.now c.requires.0 c.requires.1 (sym c.oldest.ensures ∙ c.if-oldest-eq0.true) ∙ long c.args.copy.now c.args.offset c.args.patch.now (omega (arith, c.if-patch-gt32.true))
+    empty-stays c.args.copy.now c.requires.0 c.requires.1 (sym c.oldest.ensures ∙ c.if-oldest-eq0.true) ∙ long c.args.copy.now c.args.patch.offset c.args.patch.bytes.now (omega (arith, c.if-patch-gt32.true))
 
 pub returns-then-patch-gt32 : goal.returns-then-patch-gt32
-returns-then-patch-gt32 c = c.clear.ensures ∙ long c.args.copy.now c.args.offset c.args.patch.now (omega (arith, c.if-patch-gt32.true))
+returns-then-patch-gt32 c = c.clear.ensures ∙ long c.args.copy.now c.args.patch.offset c.args.patch.bytes.now (omega (arith, c.if-patch-gt32.true))
 
 pub room_for-place-requires : goal.room_for-place-requires
 room_for-place-requires c =
@@ -29,6 +29,6 @@ room_for-place-requires c =
 
 pub returns : goal.returns
 returns c =
-    took_in c.args.copy.now _ _ c.requires.0 c.set_oldest.ensures (record { offset = c.args.offset; bytes = c.args.patch.now }) (omega (arith, c.if-patch-gt32.false)) _ _
+    took_in c.args.copy.now _ _ c.requires.0 c.set_oldest.ensures (record { offset = c.args.patch.offset; bytes = c.args.patch.bytes.now }) (omega (arith, c.if-patch-gt32.false)) _ _
     (subst (λ (w : Window). Placed w c.room_for-place.result.taken c.room_for-place.result.youngest c.room_for-place.result.first) (cut-window c.args.copy.now _ _ c.oldest-2.ensures (tail-is c.args.copy.now (length c.args.copy.now - 576) (length c.args.copy.now - 576) refl)) c.room_for-place.ensures)
     _ c.take_in.ensures
