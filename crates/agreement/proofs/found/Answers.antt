@@ -34,26 +34,8 @@ alike c = sym (c.epoch-epoch.ensures ∙ ap (get epoch) c.row_of-row.ensures.0) 
 pub overflow_add-k : goal.overflow_add-k
 overflow_add-k c = omega (arith, few-rows c.requires.0)
 
-pub row_of-row-requires : goal.row_of-row-requires
-row_of-row-requires c = (c.requires.0, omega arith)
-
-pub list-own-requires : goal.list-own-requires
-list-own-requires c = c.row_of-row.ensures.1
-
-pub epoch-epoch-requires : goal.epoch-epoch-requires
-epoch-epoch-requires c = c.row_of-row.ensures.1
-
 pub loop-j-init : goal.loop-j-init
 loop-j-init c = λ i w h q. c.requires.3 i w h (sym (its-epoch c) ∙ q)
-
-pub row_of-other-requires : goal.row_of-other-requires
-row_of-other-requires c = (c.requires.0, omega (arith, c.requires.1))
-
-pub epoch-requires : goal.epoch-requires
-epoch-requires c = c.row_of-other.ensures.1
-
-pub list-list-requires : goal.list-list-requires
-list-list-requires c = c.row_of-other.ensures.1
 
 pub returns-then-eq : goal.returns-then-eq
 unfolding equal

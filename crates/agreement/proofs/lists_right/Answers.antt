@@ -45,10 +45,6 @@ loop-k-init c =
     first-passed _ _ _ _ _ _ (c.epoch-epoch.ensures ∙ ap (get epoch) c.row_at-first.ensures.0) (c.list-list.ensures ∙ ap list c.row_at-first.ensures.0) c.is_tall-tall.ensures c.is_wide-wide.ensures
     (c.mark_right-right.ensures ∙ ap (λ (y : ℕ → ℕ). mark_right y c.list-list.result) c.requires.1.county)
 
-pub row_at-row-requires : goal.row_at-row-requires
-row_at-row-requires c =
-    (c.requires.0, c.row_length-size.ensures, omega (arith, c.loop-k-test.true, c.used-used.ensures))
-
 pub joins-requires : goal.joins-requires
 joins-requires c = (
   c.requires.0,
