@@ -80,8 +80,7 @@ fn tell(buffer: &mut [u8], call: u64, name: u16, number: u32) -> usize
     requires { length buffer.old ≡ 160 }
     ensures { (let s = sentence call name number in (result ≡ length s) × (buffer.new ≡ padded 160 s)) }
 {
-    let spaces = [b' '; 160];
-    copying::copy(buffer, &spaces[0..160]);
+    buffer.fill(b' ');
     say_heading(buffer, call, shown_name(call, name), number);
     let word = wordings::call_word(call);
     let behind = say(buffer, 45, &word[0..8]);

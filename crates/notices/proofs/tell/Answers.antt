@@ -1,7 +1,7 @@
-use mathlib.Core.Path.{◌≡◌}
-use Prim.Native.Nat.{◌+◌}
+use mathlib.Core.Path.{◌≡◌, ◌∙◌, ap}
+use Prim.Native.Nat.{ℕ, ◌+◌}
 use native.Mathlib.Omega.{arith}
-use lib.ListN.{length, length-take}
+use lib.ListN.{length, length-take, replicate}
 use Rattle.octets.specs.Bytes.{put}
 use Rattle.telling.specs.Text.{in_bytes, spaces}
 use Rattle.telling.specs.Notices.{word, reason}
@@ -29,11 +29,11 @@ said-reason c =
 
 pub say-requires : goal.say-requires
 say-requires c =
-    omega (arith, (said-word (goal.at.say-requires c).After-say-behind).0, word_room c.args.call, length-take 107 c.wording-reason.result, c.say-behind.auto.buffer, c.say_heading.auto.buffer, c.copy.auto.to, c.requires)
+    omega (arith, (said-word (goal.at.say-requires c).After-say-behind).0, word_room c.args.call, length-take 107 c.wording-reason.result, c.say-behind.auto.buffer, c.say_heading.auto.buffer, c.fill.auto.self, c.requires)
 
 pub returns : goal.returns
 unfolding spaces
 returns c =
     let g = goal.at.returns c in
     let a = c.args in
-    told-by a.call a.name a.number c.copy.ensures c.shown_name.ensures c.say_heading.ensures (said-word g.After-say-behind) (said-reason g.After-say)
+    told-by a.call a.name a.number (c.fill.ensures.after (λ y e. e) ∙ ap (λ (n : ℕ). replicate n 32) c.requires) c.shown_name.ensures c.say_heading.ensures (said-word g.After-say-behind) (said-reason g.After-say)

@@ -10,8 +10,8 @@ pub returns-then-club-eq0 : goal.returns-then-club-eq0
 returns-then-club-eq0 c =
     let a = c.args in
     elim c.then-club-eq0.branch [
-      then-club-eq0-via-then-club-eq0 w ↦ by-no-club a.s.now a.club (inl w.if-club-eq0.true)
-    | then-club-eq0-via-else-club-eq0+then-club-gt16 w ↦ by-no-club a.s.now a.club (inr w.if-club-gt16.true)
+      | then-club-eq0-via-then-club-eq0 w ↦ by-no-club a.s.now a.club (inl w.if-club-eq0.true)
+      | then-club-eq0-via-else-club-eq0+then-club-gt16 w ↦ by-no-club a.s.now a.club (inr w.if-club-gt16.true)
     ]
 
 pub returns-then-u32_at-count : goal.returns-then-u32_at-count
@@ -27,8 +27,8 @@ returns-then-left-gt0 c =
     let assured = assured-of a.s.now a.club (omega arith) in
     let below : count_of a.s.now a.club < ceiling_of a.s.now a.club = omega (arith, c.if-u32_at-count.false, c.u32_at.ensures, c.u32_at-count.ensures) in
     elim c.if-left-gt0.either [
-      inl h ↦ by-assured a.s.now a.club (omega arith) below (omega (arith, c.u32_at-2.ensures, c.u32_at-count.ensures))
-    | inr h ↦ by_left a.s.now a.club (omega arith) a.left c.requires.1 below (omega (arith, h.0, c.u32_at-2.ensures, c.u32_at-count.ensures)) h.1
+      | inl h ↦ by-assured a.s.now a.club (omega arith) below (omega (arith, c.u32_at-2.ensures, c.u32_at-count.ensures))
+      | inr h ↦ by_left a.s.now a.club (omega arith) a.left c.requires.1 below (omega (arith, h.0, c.u32_at-2.ensures, c.u32_at-count.ensures)) h.1
     ]
 
 pub returns-else-left-gt0 : goal.returns-else-left-gt0

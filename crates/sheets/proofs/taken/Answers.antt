@@ -19,10 +19,3 @@ returns-then-right c =
     let e : l.x ≡ 16 = omega arith in
     let f = rw e at l.invariant in
     (sym f.right ∙ c.if-right.true, f.taken)
-
-pub returns-else-right : goal.returns-else-right
-returns-else-right c =
-    let l = c.loop-x in
-    let e : l.x ≡ 16 = omega arith in
-    let f = rw e at l.invariant in
-    sym f.right ∙ c.if-right.false
