@@ -10,6 +10,6 @@ use Rattle.surveys.specs.declared.Survey.{Survey}
 
 -- file by file the good rows of R and their version; is R current for every file
 pub record Surveyed (t : List ℕ) (r : ℕ) (s : Survey) : Type 0 where
-  pub goods : (q : ℕ) → Within (files_of t) q → has (by_file s.goods q) ≡ good (answers t q r) (has r)
-  pub versions : (q : ℕ) → Within (files_of t) q → by_file s.versions q ≡ good_version (answers t q r) (has r)
+  pub goods : (q : ℕ) → Within (files_of t) q → has (by_file s.files q).good.bits ≡ good (answers t q r) (has r)
+  pub versions : (q : ℕ) → Within (files_of t) q → (by_file s.files q).version ≡ good_version (answers t q r) (has r)
   pub current : s.current ≡ every (files_of t) (λ q. current (answers t q r) (has r))

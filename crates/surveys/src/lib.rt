@@ -14,6 +14,7 @@ ghost use Rattle.verdicts.specs.Judged.{Tallied};
 ghost use Rattle.surveys.specs.Surveyed.{Surveyed};
 
 use bools::both;
+use enroll::FileState;
 use fields::Laid;
 use grouping::Frame;
 use quorums::Kind;
@@ -38,9 +39,18 @@ pub fn held_unless(known: bool, frame: &Frame, list: Laid, s: RowSet) -> bool
 // What is found of a set in each file: its good rows and their version; and is it current for every file? Place q − 1 is for file q.
 #[derive(Clone, Copy)]
 pub struct Survey {
-    pub goods: [u64; 8],
-    pub versions: [u32; 8],
+    pub files: [FileState; 8],
     pub current: bool,
+}
+
+// What is found in a file.
+fn state_of(found: Tally) -> FileState
+    ensures { result ≡ record { good = found.good; version = found.version } }
+{
+    FileState {
+        good: found.good,
+        version: found.version,
+    }
 }
 
 // `first` is what is found in file 1.
@@ -48,23 +58,16 @@ pub fn look_through(t: &[u8], s: RowSet, first: Tally) -> Survey
     requires { Sized t.now × (form_of t.now ≡ form_value) × (s.bits < 2 ^ used_of t.now) × Tallied (answers t.now 1 s.bits) (has s.bits) first }
     ensures { Surveyed t.now s.bits result }
 {
-    let files = header::files(t);
-    let mut goods = [0u64; 8];
-    let mut versions = [0u32; 8];
-    goods[0] = first.good.bits;
-    versions[0] = first.version;
+    let n = header::files(t);
+    let mut files = [state_of(first); 8];
     let mut all = first.current;
-    let mut k = 1;
-    while k < files {
+    for k in 1..n {
         let found = tallied(t, k + 1, s);
-        goods[k] = found.good.bits;
-        versions[k] = found.version;
+        files[k] = state_of(found);
         all = both(all, found.current);
-        k += 1;
     }
     Survey {
-        goods: goods,
-        versions: versions,
+        files: files,
         current: all,
     }
 }
