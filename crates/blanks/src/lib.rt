@@ -22,7 +22,8 @@ fn four(s: &[u8], step: usize, k: usize) -> u8
     joined(two(s, step, k), two(s, step, 2 * step + k))
 }
 
-// Are all bytes 0? It goes through four parts of them at once (the last is the longest, and the others are looked at a little beyond their ends).
+// Are all bytes 0? It goes through four parts of them at once (the last is the longest, and the others are looked at a little beyond their ends):
+// of many thousand bytes this is faster than `octets::all_zero`, which promises the same, and of few it is slower.
 pub fn all_blank(s: &[u8]) -> bool
     ensures { result ≡ all_zero s.now }
 {

@@ -1,5 +1,5 @@
 -- The table in memory: the only places where offsets stand. A table is its bytes; every reading of it is total.
-use Rattle.std.specs.Prelude.{Bool, cond, ◌&&◌, List, [], ◌++◌, ℕ, zero, ◌+◌, ◌-◌, ◌*◌, eqb, leb, length, drop}
+use Rattle.std.specs.Prelude.{Bool, cond, ◌&&◌, List, [], ◌++◌, ℕ, ◌+◌, ◌-◌, ◌*◌, eqb, leb, length, drop}
 use Rattle.blocks.specs.Blocks.{block, with_block, with_blocks}
 use Rattle.octets.specs.Bytes.{number, bytes_of, part, put, zeros}
 use Rattle.fields.specs.declared.Laid.{Laid}

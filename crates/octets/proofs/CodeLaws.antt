@@ -5,14 +5,13 @@ use mathlib.Core.List.{List, [], ◌∷◌, ◌++◌, append-nil}
 use Prim.Native.Nat.{ℕ, zero, suc, ◌+◌, ◌-◌, ◌*◌, ◌/◌, ◌%◌, ◌^◌, ◌≤◌, ◌<◌}
 use native.Mathlib.Nat.{add-zero, mul_comm}
 use native.Mathlib.Numerals.{add-one}
-use native.Mathlib.Decide.{ℕ_discrete, dec_lt}
 use native.Mathlib.Omega.{arith}
 use borrow.Author.Tests.{eqb-true, eq-eqb, ne_eqb, lt-leb}
 use lib.Arith.{bin_ind}
 use lib.Bits.{bit_or, or_step, or_comm}
 use lib.Dec.{eqb, leb}
 use lib.ListN.{length, get_or, take, drop, set, length-take, length-drop}
-use lib.Seq.{drop-drop, take-add, take_all, take-suc-set, append_snoc}
+use lib.Seq.{drop-drop, take-add, take_all, take-suc, take-suc-set, append_snoc}
 use Rattle.bools.proofs.BoolLaws.{and_l, and_r, and_i, and_assoc, same_test}
 use Rattle.octets.specs.Bytes.{number, bytes_of, part, put, all_zero}
 use Rattle.octets.proofs.ByteLaws.{number_append, length_part}
@@ -77,6 +76,16 @@ unfolding all_zero
 zero_of [] f = refl
 zero_of (x ∷ xs) f = and_i (eqb x 0) (all_zero xs) (eq-eqb x 0 (f 0 (omega arith))) (zero_of xs (λ k h. f (suc k) (omega arith)))
 
+pub zero-append : (xs ys : List ℕ) → all_zero (xs ++ ys) ≡ (all_zero xs && all_zero ys)
+unfolding all_zero
+zero-append [] ys = refl
+zero-append (x ∷ xs) ys = ap (λ (b : Bool). eqb x 0 && b) (zero-append xs ys) ∙ sym (and_assoc (eqb x 0) (all_zero xs) (all_zero ys))
+
+-- one byte more
+pub zero-next : (s : List ℕ) (i : ℕ) → i < length s → all_zero (take (i + 1) s) ≡ (all_zero (take i s) && eqb (get_or s i 0) 0)
+unfolding all_zero
+zero-next s i h = rw (add-one i, take-suc s i 0 h, zero-append (take i s) (get_or s i 0 ∷ [])) (ap (λ (b : Bool). all_zero (take i s) && b) (and-true (eqb (get_or s i 0) 0)))
+
 -- bits joined
 pub or-zero : (a b : ℕ) → eqb (bit_or a b) 0 ≡ (eqb a 0 && eqb b 0)
 or-zero a b = same_test (eqb (bit_or a b) 0) (eqb a 0 && eqb b 0)
@@ -87,44 +96,6 @@ or-zero a b = same_test (eqb (bit_or a b) 0) (eqb a 0 && eqb b 0)
     first : (a b : ℕ) → bit_or a b ≡ 0 → a ≡ 0
     first = bin_ind (λ (n : ℕ). (b : ℕ) → bit_or n b ≡ 0 → n ≡ 0) (λ b z. refl)
         (λ n more b z. let h : n / 2 ≡ 0 = more (b / 2) (omega (arith, or_step n b, z)) in omega (arith, h, or_step n b, z))
-
--- the first i bytes of both halves, and their bits joined
-pub record Seen (s : List ℕ) (half bits i : ℕ) : Type 0 where
-  pub low : bits ≡ 0 → (k : ℕ) → k < i → get_or s k 0 ≡ 0
-  pub high : bits ≡ 0 → (k : ℕ) → k < i → get_or s (half + k) 0 ≡ 0
-  pub none : all_zero s ≡ true → bits ≡ 0
-
-pub none_seen : (s : List ℕ) (half : ℕ) → Seen s half 0 0
-none_seen s half = record { low = λ e k h. absurd (omega arith); high = λ e k h. absurd (omega arith); none = λ a. refl }
-
-module _ (s : List ℕ) (half bits i : ℕ) (p : Seen s half bits i) where
-  pub seen-turn : (m pair : ℕ) → i < length s → half + i < length s → eqb m 0 ≡ (eqb bits 0 && eqb pair 0) → eqb pair 0 ≡ (eqb (get_or s i 0) 0 && eqb (get_or s (half + i) 0) 0) → Seen s half m (i + 1)
-  seen-turn m pair h g e f = record {
-    low = λ z k l. go-low z k l (ℕ_discrete k i);
-    high = λ z k l. go-high z k l (ℕ_discrete k i);
-    none = λ a. eqb-true m 0 (e ∙ and_i (eqb bits 0) _ (eq-eqb bits 0 (p.none a)) (f ∙ and_i (eqb (get_or s i 0) 0) _ (eq-eqb _ 0 (zero-at s a i h)) (eq-eqb _ 0 (zero-at s a (half + i) g))));
-  }
-    where
-      before : m ≡ 0 → bits ≡ 0
-      before z = eqb-true bits 0 (and_l (eqb bits 0) (eqb pair 0) (sym e ∙ eq-eqb m 0 z))
-
-      both : m ≡ 0 → (eqb (get_or s i 0) 0 && eqb (get_or s (half + i) 0) 0) ≡ true
-      both z = sym f ∙ and_r (eqb bits 0) (eqb pair 0) (sym e ∙ eq-eqb m 0 z)
-
-      go-low : m ≡ 0 → (k : ℕ) → k < i + 1 → Dec (k ≡ i) → get_or s k 0 ≡ 0
-      go-low z k l (yes q) = rw q (eqb-true (get_or s i 0) 0 (and_l _ _ (both z)))
-      go-low z k l (no q) = p.low (before z) k (omega arith)
-
-      go-high : m ≡ 0 → (k : ℕ) → k < i + 1 → Dec (k ≡ i) → get_or s (half + k) 0 ≡ 0
-      go-high z k l (yes q) = rw q (eqb-true (get_or s (half + i) 0) 0 (and_r (eqb (get_or s i 0) 0) _ (both z)))
-      go-high z k l (no q) = p.high (before z) k (omega arith)
-
-  pub all_seen : half ≤ i → half + i ≡ length s → eqb bits 0 ≡ all_zero s
-  all_seen h e = same_test (eqb bits 0) (all_zero s) (λ z. zero_of s (λ k l. go k l (dec_lt k i) (eqb-true bits 0 z))) (λ a. eq-eqb bits 0 (p.none a))
-    where
-      go : (k : ℕ) → k < length s → Dec (k < i) → bits ≡ 0 → get_or s k 0 ≡ 0
-      go k l (yes b) z = p.low z k b
-      go k l (no b) z = let q : half + (k - half) ≡ k = omega arith in rw q at (p.high z (k - half) (omega arith))
 
 -- ---- bytes that are all 0, by their number
 pub zero_number : (xs : List ℕ) → eqb (number xs) 0 ≡ all_zero xs
@@ -155,11 +126,6 @@ first_one a xs {whole} {low} h p q =
 pub first-within : (n x y : ℕ) → n < 256 → leb (x + 256 * y) n ≡ (leb x n && eqb y 0)
 first-within n x zero h = let e : x + 256 * 0 ≡ x = omega arith in rw e (sym (and-true (leb x n)))
 first-within n x (suc y) h = rw (lt-leb (x + 256 * suc y) n (omega arith), ne_eqb (suc y) 0 (λ q. omega arith)) (sym (and-false (leb x n)))
-
-pub zero-append : (xs ys : List ℕ) → all_zero (xs ++ ys) ≡ (all_zero xs && all_zero ys)
-unfolding all_zero
-zero-append [] ys = refl
-zero-append (x ∷ xs) ys = ap (λ (b : Bool). eqb x 0 && b) (zero-append xs ys) ∙ sym (and_assoc (eqb x 0) (all_zero xs) (all_zero ys))
 
 -- or by two numbers
 pub zero-numbers : (a n m : ℕ) (xs : List ℕ) → (eqb (number (part a n xs)) 0 && eqb (number (part (a + n) m xs)) 0) ≡ all_zero (part a (n + m) xs)

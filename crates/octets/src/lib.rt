@@ -67,16 +67,13 @@ pub fn joined(a: u8, b: u8) -> u8
     a | b
 }
 
-// Are all bytes 0? All their bits are. It goes through both halves at once (of an odd number, the middle byte is in both) and does not
-// stop at the first byte that is not: so it takes many at a time.
+// Are all bytes 0? All their bits are. It does not stop at the first byte that is not: so it takes many at a time.
 pub fn all_zero(s: &[u8]) -> bool
     ensures { result ≡ all_zero s.now }
 {
-    let half = s.len() / 2;
-    let count = s.len() - half;
-    let mut bits: u8 = 0;
-    for i in 0..count {
-        bits = joined(bits, joined(s[i], s[half + i]));
+    let mut bits = 0;
+    for x in s {
+        bits = joined(bits, *x);
     }
     bits == 0
 }

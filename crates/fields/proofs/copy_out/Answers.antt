@@ -5,7 +5,6 @@ use lib.ListN.{length}
 use Rattle.fields.specs.Layout.{contents}
 use Rattle.octets.proofs.ByteLaws.{part-part}
 use Rattle.octets.proofs.CodeLaws.{part-is}
-use borrow.Author.Rules.{rules}
 use Rattle.fields.proofs.copy_out.Goals as goal
 
 pub returns : goal.returns

@@ -1,4 +1,3 @@
-use borrow.Author.Rules.{rules}
 use Rattle.fields.specs.Layout.{get, county}
 use Rattle.fields.proofs.county.Goals as goal
 

@@ -1,4 +1,3 @@
-use borrow.Author.Rules.{rules}
 use Rattle.fields.specs.Layout.{get, desired}
 use Rattle.fields.proofs.desired.Goals as goal
 

@@ -1,4 +1,3 @@
-use borrow.Author.Rules.{rules}
 use Rattle.fields.specs.Layout.{get, epoch}
 use Rattle.fields.proofs.epoch.Goals as goal
 

@@ -1,4 +1,3 @@
-use borrow.Author.Rules.{rules}
 use Rattle.fields.specs.Layout.{get, grid_mark}
 use Rattle.fields.proofs.grid_mark.Goals as goal
 

@@ -1,8 +1,6 @@
 use mathlib.Core.Path.{ap}
 use Prim.Native.Nat.{ℕ}
-use borrow.Author.Rules.{rules}
 use lib.Dec.{eqb}
-use Rattle.fields.specs.Layout.{mark}
 use Rattle.fields.proofs.is_stale.Goals as goal
 
 pub returns : goal.returns

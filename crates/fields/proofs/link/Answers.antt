@@ -1,4 +1,3 @@
-use borrow.Author.Rules.{rules}
 use Rattle.fields.specs.Layout.{get, link}
 use Rattle.fields.proofs.link.Goals as goal
 

@@ -1,5 +1,4 @@
 use mathlib.Core.Path.{sym}
-use borrow.Author.Rules.{rules}
 use Rattle.fields.proofs.FieldLaws.{list-is}
 use Rattle.fields.proofs.list.Goals as goal
 

@@ -1,4 +1,3 @@
-use borrow.Author.Rules.{rules}
 use Rattle.fields.specs.Layout.{get, mark}
 use Rattle.fields.proofs.mark.Goals as goal
 

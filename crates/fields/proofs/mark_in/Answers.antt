@@ -1,6 +1,5 @@
 use borrow.Author.Tests.{le-leb, lt-leb}
 use Rattle.fields.specs.Layout.{get, mark_in, former_mark}
-use borrow.Author.Rules.{rules}
 use Rattle.fields.proofs.mark_in.Goals as goal
 
 pub returns-then-form-lt-WITH_FILES : goal.returns-then-form-lt-WITH_FILES

@@ -1,4 +1,3 @@
-use borrow.Author.Rules.{rules}
 use Rattle.fields.specs.Layout.{get, members}
 use Rattle.fields.proofs.members.Goals as goal
 

@@ -1,4 +1,3 @@
-use borrow.Author.Rules.{rules}
 use Rattle.fields.specs.Layout.{get, name}
 use Rattle.fields.proofs.name.Goals as goal
 

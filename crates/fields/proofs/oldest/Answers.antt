@@ -1,4 +1,3 @@
-use borrow.Author.Rules.{rules}
 use Rattle.fields.specs.Layout.{get, oldest}
 use Rattle.fields.proofs.oldest.Goals as goal
 

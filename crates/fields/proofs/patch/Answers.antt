@@ -1,6 +1,5 @@
 use mathlib.Core.Path.{refl}
 use Prim.Native.Nat.{◌+◌}
-use borrow.Author.Rules.{rules}
 use lib.ListN.{length}
 use Rattle.fields.specs.Layout.{store_contents}
 use Rattle.octets.proofs.CodeLaws.{part-back}

@@ -1,4 +1,3 @@
-use borrow.Author.Rules.{rules}
 use Rattle.fields.specs.Layout.{store, county}
 use Rattle.fields.proofs.set_county.Goals as goal
 

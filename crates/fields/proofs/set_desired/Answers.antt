@@ -1,4 +1,3 @@
-use borrow.Author.Rules.{rules}
 use Rattle.fields.specs.Layout.{store, desired}
 use Rattle.fields.proofs.set_desired.Goals as goal
 

@@ -1,4 +1,3 @@
-use borrow.Author.Rules.{rules}
 use Rattle.fields.specs.Layout.{store, epoch}
 use Rattle.fields.proofs.set_epoch.Goals as goal
 

@@ -1,4 +1,3 @@
-use borrow.Author.Rules.{rules}
 use Rattle.fields.specs.Layout.{store, grid_mark}
 use Rattle.fields.proofs.set_grid_mark.Goals as goal
 

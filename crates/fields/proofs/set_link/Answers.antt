@@ -1,4 +1,3 @@
-use borrow.Author.Rules.{rules}
 use Rattle.fields.specs.Layout.{store, link}
 use Rattle.fields.proofs.set_link.Goals as goal
 

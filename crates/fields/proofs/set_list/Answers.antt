@@ -1,4 +1,3 @@
-use borrow.Author.Rules.{rules}
 use Rattle.fields.specs.Layout.{store_list}
 use Rattle.fields.proofs.set_list.Goals as goal
 

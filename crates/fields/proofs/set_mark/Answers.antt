@@ -1,4 +1,3 @@
-use borrow.Author.Rules.{rules}
 use Rattle.fields.specs.Layout.{store, mark}
 use Rattle.fields.proofs.set_mark.Goals as goal
 

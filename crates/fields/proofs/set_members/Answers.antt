@@ -1,4 +1,3 @@
-use borrow.Author.Rules.{rules}
 use Rattle.fields.specs.Layout.{store, members}
 use Rattle.fields.proofs.set_members.Goals as goal
 

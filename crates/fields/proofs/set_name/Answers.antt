@@ -1,4 +1,3 @@
-use borrow.Author.Rules.{rules}
 use Rattle.fields.specs.Layout.{store, name}
 use Rattle.fields.proofs.set_name.Goals as goal
 

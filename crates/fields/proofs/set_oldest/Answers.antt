@@ -1,4 +1,3 @@
-use borrow.Author.Rules.{rules}
 use Rattle.fields.specs.Layout.{store, oldest}
 use Rattle.fields.proofs.set_oldest.Goals as goal
 

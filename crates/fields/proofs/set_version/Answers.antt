@@ -1,4 +1,3 @@
-use borrow.Author.Rules.{rules}
 use Rattle.fields.specs.Layout.{store, version}
 use Rattle.fields.proofs.set_version.Goals as goal
 

@@ -1,4 +1,3 @@
-use borrow.Author.Rules.{rules}
 use Rattle.fields.specs.Layout.{get, version}
 use Rattle.fields.proofs.version.Goals as goal
 

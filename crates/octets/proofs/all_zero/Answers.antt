@@ -1,14 +1,23 @@
-use native.Mathlib.Omega.{arith}
-use Rattle.octets.proofs.CodeLaws.{none_seen, seen-turn, all_seen}
+use mathlib.Core.Bool.{Bool, ◌&&◌}
+use mathlib.Core.Path.{refl, sym, ap, ◌∙◌}
+use lib.Dec.{eqb}
+use lib.ListN.{get_or}
+use lib.Seq.{take_all}
+use Rattle.octets.specs.Bytes.{all_zero}
+use Rattle.octets.proofs.CodeLaws.{zero-next}
 use Rattle.octets.proofs.all_zero.Goals as goal
 
-pub loop-i-init : goal.loop-i-init
-loop-i-init c = (omega arith, omega arith, none_seen _ _)
+pub loop-x-init : goal.loop-x-init
+unfolding all_zero
+loop-x-init c = refl
 
-pub loop-i-preserved : goal.loop-i-preserved
-loop-i-preserved c =
-    let l = c.loop-i in
-    (l.invariant.0, l.invariant.1, seen-turn _ _ l.bits l.i l.invariant.2 c.joined-bits.result c.joined.result (omega (arith, l.invariant.1)) (omega (arith, l.invariant.1)) c.joined-bits.ensures c.joined.ensures)
+pub loop-x-preserved : goal.loop-x-preserved
+loop-x-preserved c =
+    let l = c.loop-x in
+    c.joined-bits.ensures ∙ ap (λ (b : Bool). b && eqb (get_or c.args.s.now l.x-index 0) 0) l.invariant
+    ∙ sym (zero-next c.args.s.now l.x-index c.loop-x-test.true)
 
 pub returns : goal.returns
-returns c = let l = c.loop-i in all_seen _ _ l.bits l.i l.invariant.2 (omega (arith, l.invariant.0)) (omega (arith, l.invariant.1))
+returns c =
+    let s = c.args.s.now in
+    c.loop-x.invariant ∙ ap all_zero (take_all c.loop-x.x-index s c.loop-x-test.false)

@@ -1,8 +1,8 @@
 use mathlib.Core.Path.{◌≡◌}
-use Prim.Native.Nat.{◌+◌, ◌≤◌}
-use lib.ListN.{length}
-use Rattle.octets.proofs.CodeLaws.{Seen}
+use lib.Dec.{eqb}
+use lib.ListN.{take}
+use Rattle.octets.specs.Bytes.{all_zero}
 use Rattle.octets.proofs.all_zero.Given as goal
 
-abbrev pub invariant-loop-i : goal.invariant-loop-i
-invariant-loop-i l = (l.half ≤ l.count) × (l.half + l.count ≡ length l.s) × Seen l.s l.half l.bits l.i
+abbrev pub invariant-loop-x : goal.invariant-loop-x
+invariant-loop-x l = eqb l.bits 0 ≡ all_zero (take l.x-index l.s)
