@@ -18,7 +18,7 @@ pub struct Patch<'a> {
     pub bytes: &'a [u8],
 }
 
-// How many records a right window has in use, and the youngest of them, 0 for none.
+// How many records a right window has in use, and the youngest of them: 0 for none, as in the bytes of a window.
 #[derive(Clone, Copy)]
 struct Tail {
     count: usize,
@@ -206,6 +206,7 @@ pub fn lay_after(contents: &mut [u8], w: Window, skip: usize)
 {
     let mut count = 0;
     let mut next = w.oldest;
+    // along the links, up to the 0 that ends them
     while next != 0 {
         let at = (next - 1) * WIDTH;
         lay_where(contents, skip <= count, &w.records[at..at + WIDTH]);
