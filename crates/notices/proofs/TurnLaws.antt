@@ -2,20 +2,10 @@
 use mathlib.Core.Path.{◌≡◌, sym, ◌∙◌}
 use mathlib.Core.List.{List, [], ◌∷◌, ◌++◌, append_assoc}
 use Prim.Native.Nat.{ℕ, zero, suc, ◌+◌, ◌-◌, ◌/◌, ◌%◌, ◌≤◌, ◌<◌}
-use native.Mathlib.Decide.{dec_lt}
 use native.Mathlib.Omega.{arith}
-use lib.ListN.{length, get_or, drop, set}
+use lib.ListN.{length, drop, set}
 use lib.Seq.{set_split, drop_at, length-take-le}
 use Rattle.telling.specs.Text.{decimal}
-use Rattle.notices.specs.Ends.{Behind}
-
--- ---- end_of: a space less
-pub end-turn : (text : List ℕ) (n : ℕ) → 0 < n → get_or text (n - 1) 0 ≡ 32 → Behind text n → Behind text (n - 1)
-end-turn text n some e behind i l h = go (dec_lt i n)
-  where
-    go : Dec (i < n) → get_or text i 0 ≡ 32
-    go (yes q) = let z : i ≡ n - 1 = omega arith in rw z e
-    go (no q) = behind i (omega arith) h
 
 -- ---- figures: those of what is left, before those that are written
 pub figure-turn : (s t : List ℕ) (i v : ℕ) → 0 < i → i ≤ length s → decimal i v ++ drop i s ≡ t

@@ -19,15 +19,3 @@ with_first-c-requires c =
     let less = row-less l.row n (omega arith) in
     let rows : a.length - (l.row - 1) * n - n ≡ a.length - l.row * n = omega (arith, less) in
     (omega (arith, c.requires.0.narrow), omega arith, rw (rows, shift-more a.set ((l.row - 1) * n) n, less) l.invariant.2)
-
-pub loop-row-preserved : goal.loop-row-preserved
-loop-row-preserved c =
-    let l = c.loop-row in
-    (omega arith, omega (arith, l.invariant.1, row-less l.row c.args.g.cols (omega arith)), c.with_first-c.ensures)
-
-pub returns : goal.returns
-returns c =
-    let l = c.loop-row in
-    let e : l.row ≡ 1 = omega arith in
-    let one : l.row * c.args.g.cols ≡ c.args.g.cols = rw e (omega arith) in
-    rw one at l.invariant.2

@@ -26,9 +26,6 @@ one c = not-false _ (sym c.is_empty.ensures ∙ c.if-is_empty.false)
 two : (c : Else-is_empty-2) → some 64 (has c.with_first-c.result.twice.bits) ≡ true
 two c = not-false _ (sym c.is_empty-2.ensures ∙ c.if-is_empty-2.false)
 
-pub with_first-c-requires : goal.with_first-c-requires
-with_first-c-requires c = (omega (arith, c.requires.0.narrow), c.requires.1, c.requires.2)
-
 pub returns-then-not-fills : goal.returns-then-not-fills
 returns-then-not-fills c =
     let e : every _ _ ≡ false = sym c.fills.ensures ∙ c.if-not-fills.true in rw e at (said (goal.at.returns-then-not-fills c).After-with_first-c)

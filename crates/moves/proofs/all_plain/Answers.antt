@@ -21,12 +21,6 @@ pub loop-k-init : goal.loop-k-init
 unfolding every
 loop-k-init c = refl
 
-pub row_of-requires : goal.row_of-requires
-row_of-requires c = (c.requires, omega (arith, c.used-k-end.ensures))
-
-pub plain-requires : goal.plain-requires
-plain-requires c = c.row_of.ensures.1
-
 pub returns-then-not-plain : goal.returns-then-not-plain
 unfolding all_plain
 returns-then-not-plain c =

@@ -90,9 +90,6 @@ loop-k-preserved c =
     let e : 16 + (c.loop-k.k + 1) * c.size_in-width.result ≡ 16 + c.loop-k.k * c.size_in-width.result + c.size_in-width.result = omega arith in
     (turn-long x _ row.ensures ∙ c.loop-k.invariant.0, rw e (row-turn x _ row.ensures (bytes_of 1 c.args.form ++ part 1 15 c.args.t.now) c.loop-k.invariant.1))
 
-pub shape_of-dest : goal.shape_of-dest
-shape_of-dest c = c.loop-k.invariant.0 ∙ c.carry_head.auto.dest
-
 pub returns : goal.returns
 returns c =
     let l = c.loop-k in
