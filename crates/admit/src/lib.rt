@@ -50,13 +50,6 @@ fn row_behind(t: &[u8], p: usize, first: u8) -> u8
     fields::link(table::row_of(t, p))
 }
 
-// The row where the chain starts once `row` stands behind row p.
-fn front(p: usize, row: u8, first: u8) -> u8
-    ensures { result ≡ cond (eqb p 0) row first }
-{
-    if p == 0 { row } else { first }
-}
-
 // The first unused row gets a name and a county and is put into the chain behind row p, in front where p is 0.
 pub fn admit(t: &mut [u8], p: usize, name: u16, county: u8)
     requires { Sized t.old × (used_of t.old < capacity_of t.old) × (p ≤ used_of t.old) }
@@ -70,5 +63,6 @@ pub fn admit(t: &mut [u8], p: usize, name: u16, county: u8)
     add_row(t, size, used, name, row_behind(t, p, first), county);
     link_row(t, size, p, row);
     header::set_used(t, row);
-    header::set_first(t, front(p, row, first));
+    let front = if p == 0 { row } else { first };
+    header::set_first(t, front);
 }

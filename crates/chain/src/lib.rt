@@ -15,8 +15,6 @@ pub fn follow(t: &[u8], order: &mut [u8; 64]) -> bool
     ensures { (result ≡ (visits_each t.now && names_rise t.now)) × (result ≡ true → Ordered t.now order.new) × (order.new ≡ walked_into t.now order.old) }
 {
     let size = table::row_length(t);
-    // a slice tells how many elements it has
-    let rows = &mut order[..];
     let used = header::used(t);
     let mut seen = RowSet::EMPTY;
     let mut low: u16 = 0;
@@ -29,13 +27,13 @@ pub fn follow(t: &[u8], order: &mut [u8; 64]) -> bool
         if own <= low {
             return false;
         }
-        rows[count] = (count + 1) as u8;
+        order[count] = (count + 1) as u8;
         seen = seen.add(count, true);
         low = own;
         next = fields::link(behind) as usize;
         count += 1;
     }
-    while count < used {
+    for place in count..used {
         if next == 0 {
             return false;
         }
@@ -44,11 +42,10 @@ pub fn follow(t: &[u8], order: &mut [u8; 64]) -> bool
         if name <= low {
             return false;
         }
-        rows[count] = next as u8;
+        order[place] = next as u8;
         seen = seen.add(next - 1, true);
         low = name;
         next = fields::link(row) as usize;
-        count += 1;
     }
     both(next == 0, seen.fills(used))
 }

@@ -42,30 +42,21 @@ fn mark_other(row: &mut [u8], size: usize, q: usize, good: bool, desired: u32)
 }
 
 // That in each file, by its own good rows and version.
-fn mark_others(row: &mut [u8], i: usize, size: usize, n: usize, files: &[FileState; 8])
-    requires { (n ≤ 8) × (32 + n * size ≤ length row.old) × (12 ≤ size) }
-    ensures { row.new ≡ with_blocks 32 size (λ q. not (has (by_file files.now q).good.bits i)) (λ q. marked_copy (by_file files.now q).version) n row.old }
+fn mark_others(row: &mut [u8], i: usize, size: usize, files: &[FileState])
+    requires { (length files.now ≤ 8) × (32 + length files.now * size ≤ length row.old) × (12 ≤ size) }
+    ensures { row.new ≡ with_blocks 32 size (λ q. not (has (by_file files.now q).good.bits i)) (λ q. marked_copy (by_file files.now q).version) (length files.now) row.old }
 {
-    for k in 0..n {
-        let file = files[k];
+    for (k, file) in files.iter().enumerate() {
         mark_other(row, size, k + 1, file.good.has(i), file.version);
     }
 }
 
 // What an epoch check makes of row i, one of the new list.
-fn check_row(
-    row: &mut [u8],
-    i: usize,
-    size: usize,
-    n: usize,
-    files: &[FileState; 8],
-    epoch: u32,
-    list: Laid,
-)
-    requires { (n ≤ 8) × (32 + n * size ≤ length row.old) × (12 ≤ size) }
-    ensures { row.new ≡ enrolled_row epoch list (with_blocks 32 size (λ q. not (has (by_file files.now q).good.bits i)) (λ q. marked_copy (by_file files.now q).version) n row.old) }
+fn check_row(row: &mut [u8], i: usize, size: usize, files: &[FileState], epoch: u32, list: Laid)
+    requires { (length files.now ≤ 8) × (32 + length files.now * size ≤ length row.old) × (12 ≤ size) }
+    ensures { row.new ≡ enrolled_row epoch list (with_blocks 32 size (λ q. not (has (by_file files.now q).good.bits i)) (λ q. marked_copy (by_file files.now q).version) (length files.now) row.old) }
 {
-    mark_others(row, i, size, n, files);
+    mark_others(row, i, size, files);
     enroll_row(row, epoch, list);
 }
 
@@ -75,10 +66,10 @@ pub fn check_rows(t: &mut [u8], set: RowSet, files: &[FileState; 8], epoch: u32,
     ensures { t.new ≡ with_rows t.old (has set.bits) (checked_row (files_of t.old) (file_length_of t.old) (λ q. has (by_file files.now q).good.bits) (λ q. (by_file files.now q).version) epoch list) (used_of t.old) }
 {
     let size = table::row_length(t);
-    let n = header::files(t);
+    let used = &files[..header::files(t)];
     let copy = table::copy_size(header::file_length(t));
     for i in set.members() {
         let at = header::HEADER + (i - 1) * size;
-        check_row(&mut t[at..at + size], i, copy, n, files, epoch, list);
+        check_row(&mut t[at..at + size], i, copy, used, epoch, list);
     }
 }

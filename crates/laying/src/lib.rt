@@ -50,12 +50,10 @@ pub fn lay_table(
     let mut at = t.len() - capacity * size;
     octets::fill(t, 0);
     header::set_header(t, capacity as u8, n as u8, file as u16, files as u8);
-    let mut i = 0;
-    while i < n {
+    for i in 0..n {
         let x = octets::u16_at(names, 2 * i);
         let place = counties[i];
-        i += 1;
-        found_row(&mut t[at..at + size], x, next_row(i, n), place, list);
+        found_row(&mut t[at..at + size], x, next_row(i + 1, n), place, list);
         at += size;
     }
 }

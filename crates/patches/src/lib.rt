@@ -9,7 +9,14 @@ ghost use Rattle.window.specs.Windows.{younger, size, path, record_right, younge
 ghost use Rattle.windows.specs.Visits.{window, RightFor};
 ghost use Rattle.patches.specs.Places.{Placed};
 
-use windows::{PLACES, WIDTH, next_of};
+use windows::{PLACES, WIDTH, Window};
+
+// A patch: bytes that are laid over the contents of a file.
+#[derive(Clone, Copy)]
+pub struct Patch<'a> {
+    pub offset: usize,
+    pub bytes: &'a [u8],
+}
 
 // How many records a right window has in use, and the youngest of them, 0 for none.
 #[derive(Clone, Copy)]
@@ -19,29 +26,29 @@ struct Tail {
 }
 
 // Has record x no patch?
-fn is_unused(records: &[u8], x: usize) -> bool
-    requires { (length records.now ≡ 576) × Within 16 x }
-    ensures { result ≡ eqb (get size (block 0 36 x records.now)) 0 }
+fn is_unused(w: Window, x: usize) -> bool
+    requires { Within 16 x }
+    ensures { result ≡ eqb (get size (block 0 36 x w.entry.records.now)) 0 }
 {
     let at = (x - 1) * WIDTH;
-    octets::u8_at(records, at + 1) == 0
+    octets::u8_at(w.records, at + 1) == 0
 }
 
 // The records in use are the first ones, and the youngest is the one that none follows: the chain need not be followed.
-fn scan(oldest: usize, records: &[u8]) -> Tail
-    requires { (length records.now ≡ 576) × ((file : ℕ) × RightFor file (window oldest records.now)) }
-    ensures { (result.count ≡ length (path (window oldest records.now))) × (result.youngest ≡ youngest (window oldest records.now)) }
+fn scan(w: Window) -> Tail
+    requires { (file : ℕ) × RightFor file (window w.oldest w.records.now) }
+    ensures { (result.count ≡ length (path (window w.entry.oldest w.entry.records.now))) × (result.youngest ≡ youngest (window w.entry.oldest w.entry.records.now)) }
 {
     let mut last = 0;
     for count in 0..PLACES {
         let x = count + 1;
-        if is_unused(records, x) {
+        if is_unused(w, x) {
             return Tail {
                 count: count,
                 youngest: last,
             };
         }
-        if next_of(records, x) == 0 {
+        if w.next_of(x) == 0 {
             last = x;
         }
     }
@@ -52,16 +59,16 @@ fn scan(oldest: usize, records: &[u8]) -> Tail
 }
 
 // Of a full window, as writes leave it, the youngest is the record before the oldest, in the ring.
-fn ended(oldest: usize, records: &[u8]) -> Tail
-    requires { (length records.now ≡ 576) × ((file : ℕ) × RightFor file (window oldest records.now)) }
-    ensures { (result.count ≡ length (path (window oldest records.now))) × (result.youngest ≡ youngest (window oldest records.now)) }
+fn ended(w: Window) -> Tail
+    requires { (file : ℕ) × RightFor file (window w.oldest w.records.now) }
+    ensures { (result.count ≡ length (path (window w.entry.oldest w.entry.records.now))) × (result.youngest ≡ youngest (window w.entry.oldest w.entry.records.now)) }
 {
-    let before = (oldest + 14) % PLACES + 1;
-    if is_unused(records, PLACES) {
-        return scan(oldest, records);
+    let before = (w.oldest + 14) % PLACES + 1;
+    if is_unused(w, PLACES) {
+        return scan(w);
     }
-    if next_of(records, before) != 0 {
-        return scan(oldest, records);
+    if w.next_of(before) != 0 {
+        return scan(w);
     }
     Tail {
         count: PLACES,
@@ -77,24 +84,24 @@ struct Place {
     first: usize,
 }
 
-fn room_for(oldest: usize, records: &[u8]) -> Place
-    requires { (length records.now ≡ 576) × ((file : ℕ) × RightFor file (window oldest records.now)) }
-    ensures { Placed (window oldest records.now) result.taken result.youngest result.first }
+fn room_for(w: Window) -> Place
+    requires { (file : ℕ) × RightFor file (window w.oldest w.records.now) }
+    ensures { Placed (window w.entry.oldest w.entry.records.now) result.taken result.youngest result.first }
 {
-    let end = ended(oldest, records);
+    let end = ended(w);
     if end.count < PLACES {
         let taken = end.count + 1;
         return Place {
             taken: taken,
             youngest: end.youngest,
-            first: if oldest == 0 { taken } else { oldest },
+            first: if w.oldest == 0 { taken } else { w.oldest },
         };
     }
-    let second = next_of(records, oldest);
+    let second = w.next_of(w.oldest);
     Place {
-        taken: oldest,
+        taken: w.oldest,
         youngest: end.youngest,
-        first: if second == 0 { oldest } else { second },
+        first: if second == 0 { w.oldest } else { second },
     }
 }
 
@@ -118,24 +125,24 @@ fn link(records: &mut [u8], l: usize, x: usize)
 }
 
 // A record that holds a patch, and that no younger one follows.
-fn write_record(r: &mut [u8], offset: usize, patch: &[u8])
-    requires { (length r.old ≡ 36) × (length patch.now ≤ 32) }
-    ensures { r.new ≡ record_with (record { offset = offset; bytes = patch.now }) }
+fn write_record(r: &mut [u8], patch: Patch)
+    requires { (length r.old ≡ 36) × (length patch.bytes.now ≤ 32) }
+    ensures { r.new ≡ record_with (record { offset = patch.entry.offset; bytes = patch.entry.bytes.now }) }
 {
     octets::fill(r, 0);
-    octets::store_at(r, 1, 1, patch.len() as u64);
-    octets::store_at(r, 2, 2, offset as u64);
-    let end = 4 + patch.len();
-    copying::copy(&mut r[4..end], patch);
+    octets::store_at(r, 1, 1, patch.bytes.len() as u64);
+    octets::store_at(r, 2, 2, patch.offset as u64);
+    let end = 4 + patch.bytes.len();
+    copying::copy(&mut r[4..end], patch.bytes);
 }
 
 // Record x takes a patch.
-fn enter(records: &mut [u8], x: usize, offset: usize, patch: &[u8])
-    requires { (length records.old ≡ 576) × Within 16 x × (length patch.now ≤ 32) }
-    ensures { records.new ≡ with_block 0 36 x (λ y. record_with (record { offset = offset; bytes = patch.now })) records.old }
+fn enter(records: &mut [u8], x: usize, patch: Patch)
+    requires { (length records.old ≡ 576) × Within 16 x × (length patch.bytes.now ≤ 32) }
+    ensures { records.new ≡ with_block 0 36 x (λ y. record_with (record { offset = patch.entry.offset; bytes = patch.entry.bytes.now })) records.old }
 {
     let at = (x - 1) * WIDTH;
-    write_record(&mut records[at..at + WIDTH], offset, patch);
+    write_record(&mut records[at..at + WIDTH], patch);
 }
 
 // The window of a copy is emptied.
@@ -149,29 +156,32 @@ fn clear(copy: &mut [u8])
 }
 
 // The records of a window take a patch, at its place.
-fn take_in(records: &mut [u8], youngest: usize, x: usize, offset: usize, patch: &[u8])
-    requires { (length records.old ≡ 576) × Within 16 x × (youngest ≤ 16) × (length patch.now ≤ 32) }
-    ensures { records.new ≡ with_block 0 36 x (λ y. record_with (record { offset = offset; bytes = patch.now })) (with_block 0 36 youngest (store younger x) records.old) }
+fn take_in(records: &mut [u8], youngest: usize, x: usize, patch: Patch)
+    requires { (length records.old ≡ 576) × Within 16 x × (youngest ≤ 16) × (length patch.bytes.now ≤ 32) }
+    ensures { records.new ≡ with_block 0 36 x (λ y. record_with (record { offset = patch.entry.offset; bytes = patch.entry.bytes.now })) (with_block 0 36 youngest (store younger x) records.old) }
 {
     link(records, youngest, x);
-    enter(records, x, offset, patch);
+    enter(records, x, patch);
 }
 
 // The window of a copy takes a patch. Where it has no oldest record, it is empty already.
-pub fn add(copy: &mut [u8], offset: usize, patch: &[u8])
+pub fn add(copy: &mut [u8], patch: Patch)
     requires { (588 ≤ length copy.old) × ((file : ℕ) × RightFor file (window_of copy.old)) }
-    ensures { copy.new ≡ store_window (added (record { offset = offset; bytes = patch.now }) (window_of copy.old)) copy.old }
+    ensures { copy.new ≡ store_window (added (record { offset = patch.entry.offset; bytes = patch.entry.bytes.now }) (window_of copy.old)) copy.old }
 {
-    if 32 < patch.len() {
+    if 32 < patch.bytes.len() {
         if fields::oldest(copy) == 0 {
             return;
         }
         return clear(copy);
     }
     let at = copy.len() - fields::RECORDS;
-    let place = room_for(fields::oldest(copy) as usize, &copy[at..]);
+    let place = room_for(Window {
+        oldest: fields::oldest(copy) as usize,
+        records: &copy[at..],
+    });
     fields::set_oldest(copy, place.first as u8);
-    take_in(&mut copy[at..], place.youngest, place.taken, offset, patch);
+    take_in(&mut copy[at..], place.youngest, place.taken, patch);
 }
 
 // The patch of a record is laid over the contents, where it is wanted.
@@ -190,29 +200,29 @@ fn lay_where(contents: &mut [u8], wanted: bool, r: &[u8])
 }
 
 // The patches of a right window are laid over the contents, oldest first, all but the first so many.
-pub fn lay_after(contents: &mut [u8], oldest: usize, records: &[u8], skip: usize)
-    requires { (length records.now ≡ 576) × RightFor (length contents.old) (window oldest records.now) }
-    ensures { contents.new ≡ laid (drop skip (patches (window oldest records.now))) contents.old }
+pub fn lay_after(contents: &mut [u8], w: Window, skip: usize)
+    requires { RightFor (length contents.old) (window w.oldest w.records.now) }
+    ensures { contents.new ≡ laid (drop skip (patches (window w.entry.oldest w.entry.records.now))) contents.old }
 {
     let mut count = 0;
-    let mut next = oldest;
+    let mut next = w.oldest;
     while next != 0 {
         let at = (next - 1) * WIDTH;
-        lay_where(contents, skip <= count, &records[at..at + WIDTH]);
-        next = next_of(records, next);
+        lay_where(contents, skip <= count, &w.records[at..at + WIDTH]);
+        next = w.next_of(next);
         count += 1;
     }
 }
 
 // What a send leaves of a copy's own contents: the missing patches laid over them where the window reaches so far back, else the whole contents.
-pub fn sent_over(own: &mut [u8], whole: &[u8], oldest: usize, records: &[u8], missing: usize)
-    requires { (length records.now ≡ 576) × RightFor (length own.old) (window oldest records.now) × (length own.old ≡ length whole.now) }
-    ensures { own.new ≡ sent missing (window oldest records.now) whole.now own.old }
+pub fn sent_over(own: &mut [u8], whole: &[u8], w: Window, missing: usize)
+    requires { RightFor (length own.old) (window w.oldest w.records.now) × (length own.old ≡ length whole.now) }
+    ensures { own.new ≡ sent missing (window w.entry.oldest w.entry.records.now) whole.now own.old }
 {
-    let end = ended(oldest, records);
+    let end = ended(w);
     let count = end.count;
     if count < missing {
         return copying::copy(own, whole);
     }
-    lay_after(own, oldest, records, count - missing);
+    lay_after(own, w, count - missing);
 }

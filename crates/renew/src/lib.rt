@@ -10,6 +10,8 @@ ghost use Rattle.windows.specs.Visits.{RightFor};
 ghost use Rattle.table.specs.Asked.{Sized};
 ghost use Rattle.protocol.specs.Rows.{refreshed_copy};
 
+use windows::Window;
+
 // A copy is unmarked, has a version and desires none.
 fn renew_copy(copy: &mut [u8], v: u32)
     requires { 12 ≤ length copy.old }
@@ -26,12 +28,14 @@ fn send_contents(copy: &mut [u8], source: &[u8], missing: usize)
     ensures { copy.new ≡ store_contents 0 (sent missing (window_of source.now) (contents source.now) (contents copy.old)) copy.old }
 {
     let at = copy.len() - fields::RECORDS;
-    let oldest = fields::oldest(source) as usize;
+    let w = Window {
+        oldest: fields::oldest(source) as usize,
+        records: &source[at..],
+    };
     patches::sent_over(
         &mut copy[fields::LEAD..at],
         &source[fields::LEAD..at],
-        oldest,
-        &source[at..],
+        w,
         missing,
     );
 }

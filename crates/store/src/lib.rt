@@ -11,6 +11,7 @@ ghost use Rattle.windows.specs.Visits.{RightFor};
 ghost use Rattle.table.specs.Asked.{Sized};
 ghost use Rattle.protocol.specs.Rows.{marked_copy, patched_copy, wrote_copy};
 
+use patches::Patch;
 use rows::RowSet;
 
 // A copy is marked and desires a version.
@@ -23,42 +24,34 @@ pub fn mark_copy(copy: &mut [u8], desired: u32)
 }
 
 // A copy takes a patch, and a version; its window takes the patch too.
-fn patch_copy(copy: &mut [u8], version: u32, offset: usize, patch: &[u8])
-    requires { (588 + offset + length patch.now ≤ length copy.old) × ((file : ℕ) × RightFor file (window_of copy.old)) }
-    ensures { copy.new ≡ patched_copy version offset patch.now copy.old }
+fn patch_copy(copy: &mut [u8], version: u32, patch: Patch)
+    requires { (588 + patch.offset + length patch.bytes.now ≤ length copy.old) × ((file : ℕ) × RightFor file (window_of copy.old)) }
+    ensures { copy.new ≡ patched_copy version patch.entry.offset patch.entry.bytes.now copy.old }
 {
     fields::set_version(copy, version);
-    fields::patch(copy, offset, patch);
-    patches::add(copy, offset, patch);
+    fields::patch(copy, patch.offset, patch.bytes);
+    patches::add(copy, patch);
 }
 
 // What a write makes of a copy in a row that it works on: in a good one it takes the patch, in another it is marked.
-fn write_copy(copy: &mut [u8], good: bool, version: u32, offset: usize, patch: &[u8])
-    requires { (588 + offset + length patch.now ≤ length copy.old) × ((file : ℕ) × RightFor file (window_of copy.old)) }
-    ensures { copy.new ≡ cond good (patched_copy version offset patch.now copy.old) (marked_copy version copy.old) }
+fn write_copy(copy: &mut [u8], good: bool, version: u32, patch: Patch)
+    requires { (588 + patch.offset + length patch.bytes.now ≤ length copy.old) × ((file : ℕ) × RightFor file (window_of copy.old)) }
+    ensures { copy.new ≡ cond good (patched_copy version patch.entry.offset patch.entry.bytes.now copy.old) (marked_copy version copy.old) }
 {
     if good {
-        patch_copy(copy, version, offset, patch);
+        patch_copy(copy, version, patch);
     } else {
         mark_copy(copy, version);
     }
 }
 
 // And of the row: its copy of file q is written, copies being so long.
-fn write_row(
-    row: &mut [u8],
-    size: usize,
-    q: usize,
-    good: bool,
-    version: u32,
-    offset: usize,
-    patch: &[u8],
-)
-    requires { (1 ≤ q) × (32 + q * size ≤ length row.old) × (588 + offset + length patch.now ≤ size) × ((file : ℕ) × RightFor file (window_of (block 32 size q row.old))) }
-    ensures { row.new ≡ with_block 32 size q (λ copy. cond good (patched_copy version offset patch.now copy) (marked_copy version copy)) row.old }
+fn write_row(row: &mut [u8], size: usize, q: usize, good: bool, version: u32, patch: Patch)
+    requires { (1 ≤ q) × (32 + q * size ≤ length row.old) × (588 + patch.offset + length patch.bytes.now ≤ size) × ((file : ℕ) × RightFor file (window_of (block 32 size q row.old))) }
+    ensures { row.new ≡ with_block 32 size q (λ copy. cond good (patched_copy version patch.entry.offset patch.entry.bytes.now copy) (marked_copy version copy)) row.old }
 {
     let at = fields::HEAD + (q - 1) * size;
-    write_copy(&mut row[at..at + size], good, version, offset, patch);
+    write_copy(&mut row[at..at + size], good, version, patch);
 }
 
 // What a write of file q makes of the rows that it works on.
@@ -76,16 +69,12 @@ pub fn write_rows(
 {
     let size = table::row_length(t);
     let copy = table::copy_size(header::file_length(t));
+    let whole = Patch {
+        offset: offset,
+        bytes: patch,
+    };
     for i in works.members() {
         let at = header::HEADER + (i - 1) * size;
-        write_row(
-            &mut t[at..at + size],
-            copy,
-            q,
-            good.has(i),
-            version,
-            offset,
-            patch,
-        );
+        write_row(&mut t[at..at + size], copy, q, good.has(i), version, whole);
     }
 }

@@ -19,46 +19,12 @@ pub const PLACES: usize = 16;
 
 pub const WIDTH: usize = 36;
 
-// The next younger record.
-pub fn next_of(records: &[u8], x: usize) -> usize
-    requires { (length records.now ≡ 576) × Within 16 x }
-    ensures { result ≡ get younger (block 0 36 x records.now) }
-{
-    let at = (x - 1) * WIDTH;
-    octets::u8_at(records, at) as usize
-}
-
-// How many records the chain has, if it visits records 1 to so many once each.
-fn visited(oldest: usize, records: &[u8]) -> Option<usize>
-    requires { length records.now ≡ 576 }
-    ensures { result ≡ cond (visits (window oldest records.now)) (Some (length (path (window oldest records.now)))) None }
-{
-    let mut seen = RowSet::EMPTY;
-    let mut next = oldest;
-    for count in 0..PLACES + 1 {
-        if next == 0 {
-            return if seen.fills(count) { Some(count) } else { None };
-        }
-        // an index is tested before it is followed
-        if PLACES < next {
-            return None;
-        }
-        seen = seen.add(next - 1, true);
-        next = next_of(records, next);
-    }
-    None
-}
-
-// Does the head of record x name 1 to 32 bytes within the file?
-fn head_right(file: usize, records: &[u8], x: usize) -> bool
-    requires { (length records.now ≡ 576) × Within 16 x }
-    ensures { result ≡ head_right file (block 0 36 x records.now) }
-{
-    let at = (x - 1) * WIDTH;
-    let size = octets::u8_at(records, at + 1) as usize;
-    let end = octets::u16_at(records, at + 2) as usize + size;
-    let some = both(1 <= size, size <= 32);
-    both(some, end <= file)
+// A window: the index of its oldest record, 0 for none, and the bytes of its 16 records.
+#[derive(Clone, Copy)]
+pub struct Window<'a> {
+    pub oldest: usize,
+    pub records: &'a [u8],
+    ghost whole: { length records.now ≡ 576 },
 }
 
 // The records before the first one whose head is not right, and how many of them the record behind them does not follow.
@@ -66,57 +32,6 @@ fn head_right(file: usize, records: &[u8], x: usize) -> bool
 struct Heads {
     count: usize,
     breaks: usize,
-}
-
-fn leading(file: usize, records: &[u8]) -> Heads
-    requires { length records.now ≡ 576 }
-    ensures { Leads (λ x. head_right file (block 0 36 x records.now)) result.count × (result.breaks ≡ count result.count (broken records.now)) }
-{
-    let mut breaks = 0;
-    for k in 0..PLACES {
-        let x = k + 1;
-        if !head_right(file, records, x) {
-            return Heads {
-                count: k,
-                breaks: breaks,
-            };
-        }
-        if next_of(records, x) != x + 1 {
-            breaks += 1;
-        }
-    }
-    Heads {
-        count: PLACES,
-        breaks: breaks,
-    }
-}
-
-// Does the chain visit records 1 to k as writes lay it: from the oldest up to k, and from 1 up to the oldest? Each record is then followed by the one behind
-// it, but the youngest, and record k where the oldest is not 1.
-fn in_order(oldest: usize, k: usize, breaks: usize, records: &[u8]) -> bool
-    requires { (length records.now ≡ 576) × (1 ≤ oldest) × Within 16 k × (breaks ≡ count k (broken records.now)) }
-    ensures { result ≡ true → (visits (window oldest records.now) ≡ true) × (length (path (window oldest records.now)) ≡ k) }
-{
-    let last = next_of(records, k);
-    if oldest == 1 {
-        return both(breaks == 1, last == 0);
-    }
-    if k < oldest {
-        return false;
-    }
-    let ends = both(last == 1, next_of(records, oldest - 1) == 0);
-    both(breaks == 2, ends)
-}
-
-// Does the chain visit records 1 to k once each? Another order than that of writes is followed.
-fn chained(oldest: usize, k: usize, breaks: usize, records: &[u8]) -> bool
-    requires { (length records.now ≡ 576) × (1 ≤ oldest) × Within 16 k × (breaks ≡ count k (broken records.now)) }
-    ensures { result ≡ (visits (window oldest records.now) && eqb (length (path (window oldest records.now))) k) }
-{
-    if in_order(oldest, k, breaks, records) {
-        return true;
-    }
-    visited(oldest, records) == Some(k)
 }
 
 // Entry n + 31 - size is how far byte n of a record is behind a patch of that size; 0 where it is one of the patch.
@@ -151,43 +66,137 @@ fn four_zero(table: &[u8; 64], r: &[u8]) -> bool
     bits == 0
 }
 
-// Are there zeros behind the patches of records 1 to k, the others being zero?
-fn tails_zero(table: &[u8; 64], k: usize, records: &[u8]) -> bool
-    requires { Distances table.now × (length records.now ≡ 576) × (k ≤ 16) × (all_zero (drop (k * 36) records.now) ≡ true) × Short 16 records.now }
-    ensures { result ≡ every k (λ x. tail_zero (block 0 36 x records.now)) }
-{
-    for i in (0..k).step_by(4) {
-        let at = i * WIDTH;
-        if !four_zero(table, &records[at..at + 144]) {
-            return false;
+impl<'a> Window<'a> {
+    // The next younger record.
+    pub fn next_of(self, x: usize) -> usize
+        requires { Within 16 x }
+        ensures { result ≡ get younger (block 0 36 x self.entry.records.now) }
+    {
+        let at = (x - 1) * WIDTH;
+        octets::u8_at(self.records, at) as usize
+    }
+
+    // How many records the chain has, if it visits records 1 to so many once each.
+    fn visited(self) -> Option<usize>
+        ensures { result ≡ cond (visits (window self.entry.oldest self.entry.records.now)) (Some (length (path (window self.entry.oldest self.entry.records.now)))) None }
+    {
+        let mut seen = RowSet::EMPTY;
+        let mut next = self.oldest;
+        for count in 0..PLACES + 1 {
+            if next == 0 {
+                return if seen.fills(count) { Some(count) } else { None };
+            }
+            // an index is tested before it is followed
+            if PLACES < next {
+                return None;
+            }
+            seen = seen.add(next - 1, true);
+            next = self.next_of(next);
+        }
+        None
+    }
+
+    // Does the head of record x name 1 to 32 bytes within the file?
+    fn head_right(self, file: usize, x: usize) -> bool
+        requires { Within 16 x }
+        ensures { result ≡ head_right file (block 0 36 x self.entry.records.now) }
+    {
+        let at = (x - 1) * WIDTH;
+        let size = octets::u8_at(self.records, at + 1) as usize;
+        let end = octets::u16_at(self.records, at + 2) as usize + size;
+        let some = both(1 <= size, size <= 32);
+        both(some, end <= file)
+    }
+
+    // Its leading records whose heads are right.
+    fn leading(self, file: usize) -> Heads
+        ensures { Leads (λ x. head_right file (block 0 36 x self.entry.records.now)) result.count × (result.breaks ≡ count result.count (broken self.entry.records.now)) }
+    {
+        let mut breaks = 0;
+        for k in 0..PLACES {
+            let x = k + 1;
+            if !self.head_right(file, x) {
+                return Heads {
+                    count: k,
+                    breaks: breaks,
+                };
+            }
+            if self.next_of(x) != x + 1 {
+                breaks += 1;
+            }
+        }
+        Heads {
+            count: PLACES,
+            breaks: breaks,
         }
     }
-    true
-}
 
-// Is a window that has records right?
-pub fn records_right(file: usize, version: u32, oldest: usize, records: &[u8]) -> bool
-    requires { (length records.now ≡ 576) × (1 ≤ oldest) }
-    ensures { result ≡ window_right file version (window oldest records.now) }
-{
-    // made first: bytes just stored are slow to load at other places
-    let table = distances();
-    let found = leading(file, records);
-    let k = found.count;
-    if k == 0 {
-        return false;
+    // Does the chain visit records 1 to k as writes lay it: from the oldest up to k, and from 1 up to the oldest? Each record is then followed by the one behind
+    // it, but the youngest, and record k where the oldest is not 1.
+    fn in_order(self, k: usize, breaks: usize) -> bool
+        requires { (1 ≤ self.oldest) × Within 16 k × (breaks ≡ count k (broken self.records.now)) }
+        ensures { result ≡ true → (visits (window self.entry.oldest self.entry.records.now) ≡ true) × (length (path (window self.entry.oldest self.entry.records.now)) ≡ k) }
+    {
+        let last = self.next_of(k);
+        if self.oldest == 1 {
+            return both(breaks == 1, last == 0);
+        }
+        if k < self.oldest {
+            return false;
+        }
+        let ends = both(last == 1, self.next_of(self.oldest - 1) == 0);
+        both(breaks == 2, ends)
     }
-    if (version as usize) < k {
-        return false;
+
+    // Does the chain visit records 1 to k once each? Another order than that of writes is followed.
+    fn chained(self, k: usize, breaks: usize) -> bool
+        requires { (1 ≤ self.oldest) × Within 16 k × (breaks ≡ count k (broken self.records.now)) }
+        ensures { result ≡ (visits (window self.entry.oldest self.entry.records.now) && eqb (length (path (window self.entry.oldest self.entry.records.now))) k) }
+    {
+        if self.in_order(k, breaks) {
+            return true;
+        }
+        self.visited() == Some(k)
     }
-    if !chained(oldest, k, found.breaks, records) {
-        return false;
+
+    // Are there zeros behind the patches of records 1 to k, the others being zero?
+    fn tails_zero(self, table: &[u8; 64], k: usize) -> bool
+        requires { Distances table.now × (k ≤ 16) × (all_zero (drop (k * 36) self.records.now) ≡ true) × Short 16 self.records.now }
+        ensures { result ≡ every k (λ x. tail_zero (block 0 36 x self.entry.records.now)) }
+    {
+        for i in (0..k).step_by(4) {
+            let at = i * WIDTH;
+            if !four_zero(table, &self.records[at..at + 144]) {
+                return false;
+            }
+        }
+        true
     }
-    let end = k * WIDTH;
-    if !octets::all_zero(&records[end..]) {
-        return false;
+
+    // Is a window that has records right?
+    pub fn records_right(self, file: usize, version: u32) -> bool
+        requires { 1 ≤ self.oldest }
+        ensures { result ≡ window_right file version (window self.entry.oldest self.entry.records.now) }
+    {
+        // made first: bytes just stored are slow to load at other places
+        let table = distances();
+        let found = self.leading(file);
+        let k = found.count;
+        if k == 0 {
+            return false;
+        }
+        if (version as usize) < k {
+            return false;
+        }
+        if !self.chained(k, found.breaks) {
+            return false;
+        }
+        let end = k * WIDTH;
+        if !octets::all_zero(&self.records[end..]) {
+            return false;
+        }
+        self.tails_zero(&table, k)
     }
-    tails_zero(&table, k, records)
 }
 
 // Is a window right, for a file of so many bytes and a version?
@@ -198,5 +207,9 @@ pub fn window_right(file: usize, version: u32, oldest: usize, records: &[u8]) ->
     if oldest == 0 {
         return octets::all_zero(records);
     }
-    records_right(file, version, oldest, records)
+    let w = Window {
+        oldest: oldest,
+        records: records,
+    };
+    w.records_right(file, version)
 }

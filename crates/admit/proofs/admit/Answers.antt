@@ -1,6 +1,12 @@
+use mathlib.Core.Path.{◌≡◌}
+use mathlib.Core.Bool.{cond}
+use lib.Dec.{eqb}
+use borrow.Author.Tests.{eq-eqb, ne_eqb}
+use Prim.Native.Nat.{◌+◌}
 use native.Mathlib.Omega.{arith}
 use Rattle.table.proofs.WellFormedLaws.{header, long, few-rows}
 use Rattle.admit.proofs.AdmitLaws.{row_fits, link_fits, admitted}
+use Rattle.admit.proofs.admit.Goals.{then-p-eq0, else-p-eq0}
 use Rattle.admit.proofs.admit.Goals as goal
 
 pub row_length-size-requires : goal.row_length-size-requires
@@ -39,5 +45,10 @@ set_first-requires c =
 
 pub returns : goal.returns
 returns c =
-    admitted c.requires.0 c.requires.1 _ _ _ _ _ _ _ _ _ _ _ _ c.row_length-size.ensures c.used-used.ensures c.first-first.ensures c.row_behind.ensures c.front.ensures
+    let a = c.args in
+    let front : c.if-p-eq0.front ≡ cond (eqb a.p 0) (c.used-used.result + 1) c.first-first.result = elim c.if-p-eq0.branch [
+      | then-p-eq0 w ↦ rw (eq-eqb _ _ w.if-p-eq0.true) w.front-is
+      | else-p-eq0 w ↦ rw (ne_eqb _ _ w.if-p-eq0.false) w.front-is
+    ] in
+    admitted c.requires.0 c.requires.1 _ _ _ _ _ _ _ _ _ _ _ _ c.row_length-size.ensures c.used-used.ensures c.first-first.ensures c.row_behind.ensures front
     c.add_row.ensures c.link_row.ensures c.set_used.ensures c.set_first.ensures

@@ -1,12 +1,11 @@
 use mathlib.Core.Bool.{Bool, ◌&&◌}
 use mathlib.Core.List.{List}
 use mathlib.Core.Path.{◌≡◌, refl, sym, ◌∙◌, ap}
-use Prim.Native.Nat.{ℕ, ◌+◌, ◌-◌, ◌%◌, ◌≤◌, ◌<◌}
+use Prim.Native.Nat.{ℕ, ◌+◌, ◌-◌, ◌%◌, ◌<◌}
 use native.Mathlib.Nat.{mod-eq_of_lt}
 use native.Mathlib.Omega.{arith}
 use lib.Dec.{eqb}
 use lib.ListN.{set}
-use borrow.Author.Rules.{rules}
 use Rattle.bools.proofs.BoolLaws.{clash}
 use Rattle.sets.specs.Sets.{has, gaining}
 use Rattle.sets.specs.Upto.{Within, every}
@@ -14,7 +13,7 @@ use Rattle.fields.specs.Layout.{used_of, link_of, name_of, row_bytes, get, link,
 use Rattle.table.specs.Asked.{Linked}
 use Rattle.table.proofs.WellFormedLaws.{few-rows, long}
 use Rattle.table.proofs.ChainLaws.{Walked, walk_start, walk_turn, walk-short, walk-falls, walk-all, walk-order, left-short, left-falls, left-all}
-use Rattle.chain.proofs.follow.Goals.{After-name-name, After-name-own, At-loop-count, Else-next-eq0, In-loop-count, In-loop-next}
+use Rattle.chain.proofs.follow.Goals.{After-name-name, After-name-own, At-loop-place, Else-next-eq0, In-loop-place, In-loop-next}
 use Rattle.chain.proofs.follow.Goals as goal
 
 -- one row more is passed, by either loop
@@ -48,7 +47,7 @@ pub first-next-requires : goal.first-next-requires
 first-next-requires c = long c.requires.sized
 
 pub loop-next-init : goal.loop-next-init
-loop-next-init c = walk_start c.requires _ _ c.rows-1.given.0.1 c.first-next.ensures
+loop-next-init c = walk_start c.requires _ _ c.told-order c.first-next.ensures
 
 pub row_at-behind-requires : goal.row_at-behind-requires
 row_at-behind-requires c =
@@ -62,22 +61,19 @@ returns-then-own-low c =
     let w = c.loop-next.invariant in
     (walk-falls w (omega (arith, c.loop-next-test.true)) (omega (arith, c.if-own-low.true, name-behind (goal.at.returns-then-own-low c).After-name-own)), λ e. absurd (clash e), left-falls w (omega (arith, c.if-own-low.true, name-behind (goal.at.returns-then-own-low c).After-name-own)))
 
-pub overflow_add-rows : goal.overflow_add-rows
-overflow_add-rows c = omega (arith, row-behind (goal.at.overflow_add-rows c).In-loop-next)
+pub overflow_add-order : goal.overflow_add-order
+overflow_add-order c = omega (arith, row-behind (goal.at.overflow_add-order c).In-loop-next)
 
-pub overflow_cast-rows : goal.overflow_cast-rows
-overflow_cast-rows c =
-    omega (arith, row-behind (goal.at.overflow_cast-rows c).In-loop-next, c.loop-next-test.true, few-rows c.requires.sized)
+pub overflow_cast-order : goal.overflow_cast-order
+overflow_cast-order c =
+    omega (arith, row-behind (goal.at.overflow_cast-order c).In-loop-next, c.loop-next-test.true, few-rows c.requires.sized)
 
-pub bounds-rows-count : goal.bounds-rows-count
-bounds-rows-count c =
-    omega (arith, row-behind (goal.at.bounds-rows-count c).In-loop-next, few-rows c.requires.sized)
+pub bounds-order-count : goal.bounds-order-count
+bounds-order-count c =
+    omega (arith, row-behind (goal.at.bounds-order-count c).In-loop-next, few-rows c.requires.sized)
 
 pub link-next-requires : goal.link-next-requires
 link-next-requires c = c.row_at-behind.ensures.1
-
-pub overflow_add-count-in-loop-next-2 : goal.overflow_add-count-in-loop-next-2
-overflow_add-count-in-loop-next-2 c = omega (arith, row-behind (goal.at.overflow_add-count-in-loop-next-2 c).In-loop-next)
 
 pub loop-next-smaller : goal.loop-next-smaller
 loop-next-smaller c = omega (arith, row-behind (goal.at.loop-next-smaller c).In-loop-next)
@@ -91,32 +87,32 @@ loop-next-preserved c =
     (sym c.loop-next-test.true) (sym c.loop-next-test.true) (omega (arith, row-behind (goal.at.loop-next-preserved c).In-loop-next)) c.add-seen.ensures (name-behind (goal.at.loop-next-preserved c).After-name-own) (omega (arith, c.if-own-low.false)) k
 
 -- ---- the second
-walked_here : (c : At-loop-count) → Walked c.args.t.now c.args.order.now c.loop-count.rows (has c.loop-count.seen.bits) c.loop-count.low c.loop-count.count c.loop-count.next
-walked_here c = c.loop-count.invariant _ c.loop-next.invariant
+walked_here : (c : At-loop-place) → Walked c.args.t.now c.args.order.now c.loop-place.order (has c.loop-place.seen.bits) c.loop-place.low c.loop-place.place c.loop-place.next
+walked_here c = c.loop-place.invariant _ c.loop-next.invariant
 
 -- not all used rows are passed yet
-some_left : (c : In-loop-count) → c.loop-count.count < used_of c.args.t.now
-some_left c = omega (arith, c.loop-count-test.true, c.used-used.ensures)
+some_left : (c : In-loop-place) → c.loop-place.place < used_of c.args.t.now
+some_left c = omega (arith, c.loop-place-test.true, c.used-used.ensures)
 
-row_here : (c : Else-next-eq0) → Walked c.args.t.now c.args.order.now c.loop-count.rows (has c.loop-count.seen.bits) c.loop-count.low c.loop-count.count c.loop-count.next
-    → Within (used_of c.args.t.now) c.loop-count.next
+row_here : (c : Else-next-eq0) → Walked c.args.t.now c.args.order.now c.loop-place.order (has c.loop-place.seen.bits) c.loop-place.low c.loop-place.place c.loop-place.next
+    → Within (used_of c.args.t.now) c.loop-place.next
 row_here c w = omega (arith, w.on, c.if-next-eq0.false)
 
-name-here : (c : After-name-name) → c.name-name.result ≡ name_of c.args.t.now c.loop-count.next
+name-here : (c : After-name-name) → c.name-name.result ≡ name_of c.args.t.now c.loop-place.next
 unfolding name_of
 name-here c = c.name-name.ensures ∙ ap (get name) c.row_at-row.ensures.0
 
-pub loop-count-init : goal.loop-count-init
-loop-count-init c lent w = w
+pub loop-place-init : goal.loop-place-init
+loop-place-init c lent w = w
 
 pub returns-then-next-eq0 : goal.returns-then-next-eq0
 returns-then-next-eq0 c =
-    let w = walked_here (goal.at.returns-then-next-eq0 c).At-loop-count in
-    (walk-short w c.if-next-eq0.true (some_left (goal.at.returns-then-next-eq0 c).In-loop-count), λ e. absurd (clash e), left-short w c.if-next-eq0.true)
+    let w = walked_here (goal.at.returns-then-next-eq0 c).At-loop-place in
+    (walk-short w c.if-next-eq0.true (some_left (goal.at.returns-then-next-eq0 c).In-loop-place), λ e. absurd (clash e), left-short w c.if-next-eq0.true)
 
 pub row_at-row-requires : goal.row_at-row-requires
 row_at-row-requires c =
-    let g = goal.at.row_at-row-requires c in (c.requires.sized, c.row_length-size.ensures, row_here g.Else-next-eq0 (walked_here g.At-loop-count))
+    let g = goal.at.row_at-row-requires c in (c.requires.sized, c.row_length-size.ensures, row_here g.Else-next-eq0 (walked_here g.At-loop-place))
 
 pub name-name-requires : goal.name-name-requires
 name-name-requires c = c.row_at-row.ensures.1
@@ -124,42 +120,39 @@ name-name-requires c = c.row_at-row.ensures.1
 pub returns-then-name-low : goal.returns-then-name-low
 returns-then-name-low c =
     let g = goal.at.returns-then-name-low c in
-    let w = walked_here g.At-loop-count in
+    let w = walked_here g.At-loop-place in
     let name = name-here g.After-name-name in
     (walk-falls w (row_here g.Else-next-eq0 w).0 (omega (arith, c.if-name-low.true, name)), λ e. absurd (clash e), left-falls w (omega (arith, c.if-name-low.true, name)))
 
-pub overflow_cast-rows-in-loop-count : goal.overflow_cast-rows-in-loop-count
-overflow_cast-rows-in-loop-count c =
-    let g = goal.at.overflow_cast-rows-in-loop-count c in
-    omega (arith, row_here g.Else-next-eq0 (walked_here g.At-loop-count), few-rows c.requires.sized)
+pub overflow_cast-order-in-loop-place : goal.overflow_cast-order-in-loop-place
+overflow_cast-order-in-loop-place c =
+    let g = goal.at.overflow_cast-order-in-loop-place c in
+    omega (arith, row_here g.Else-next-eq0 (walked_here g.At-loop-place), few-rows c.requires.sized)
 
-pub bounds-rows-count-in-loop-count : goal.bounds-rows-count-in-loop-count
-bounds-rows-count-in-loop-count c =
-    omega (arith, some_left (goal.at.bounds-rows-count-in-loop-count c).In-loop-count, few-rows c.requires.sized, (walked_here (goal.at.bounds-rows-count-in-loop-count c).At-loop-count).listed.places)
+pub bounds-order-place : goal.bounds-order-place
+bounds-order-place c =
+    omega (arith, some_left (goal.at.bounds-order-place c).In-loop-place, few-rows c.requires.sized, (walked_here (goal.at.bounds-order-place c).At-loop-place).listed.places)
 
 pub overflow_sub-next : goal.overflow_sub-next
-overflow_sub-next c = let g = goal.at.overflow_sub-next c in omega (arith, row_here g.Else-next-eq0 (walked_here g.At-loop-count))
+overflow_sub-next c = let g = goal.at.overflow_sub-next c in omega (arith, row_here g.Else-next-eq0 (walked_here g.At-loop-place))
 
-pub link-next-requires-in-loop-count : goal.link-next-requires-in-loop-count
-link-next-requires-in-loop-count c = c.row_at-row.ensures.1
+pub link-next-requires-in-loop-place : goal.link-next-requires-in-loop-place
+link-next-requires-in-loop-place c = c.row_at-row.ensures.1
 
-pub overflow_add-count-in-loop-count : goal.overflow_add-count-in-loop-count
-overflow_add-count-in-loop-count c = omega (arith, c.loop-count-test.true)
-
-pub loop-count-preserved : goal.loop-count-preserved
+pub loop-place-preserved : goal.loop-place-preserved
 unfolding link_of
-loop-count-preserved c lent begun =
-    let g = goal.at.loop-count-preserved c in
-    let k : c.link-next-in-loop-count.result ≡ link_of c.args.t.now c.loop-count.next = c.link-next-in-loop-count.ensures ∙ ap (get link) c.row_at-row.ensures.0 in
-    turned c.requires (c.loop-count.invariant lent begun) _ (c.loop-count.next - 1) (has c.add-seen-in-loop-count.result.bits) c.name-name.result c.link-next-in-loop-count.result
-    refl (omega (arith, row_here g.Else-next-eq0 (walked_here g.At-loop-count))) (some_left g.In-loop-count) c.add-seen-in-loop-count.ensures (name-here g.After-name-name) (omega (arith, c.if-name-low.false)) k
+loop-place-preserved c lent begun =
+    let g = goal.at.loop-place-preserved c in
+    let k : c.link-next-in-loop-place.result ≡ link_of c.args.t.now c.loop-place.next = c.link-next-in-loop-place.ensures ∙ ap (get link) c.row_at-row.ensures.0 in
+    turned c.requires (c.loop-place.invariant lent begun) _ (c.loop-place.next - 1) (has c.add-seen-in-loop-place.result.bits) c.name-name.result c.link-next-in-loop-place.result
+    refl (omega (arith, row_here g.Else-next-eq0 (walked_here g.At-loop-place))) (some_left g.In-loop-place) c.add-seen-in-loop-place.ensures (name-here g.After-name-name) (omega (arith, c.if-name-low.false)) k
 
 pub returns : goal.returns
 returns c =
-    let w = walked_here (goal.at.returns c).At-loop-count in
-    let all : c.loop-count.count ≡ used_of c.args.t.now = omega (arith, c.loop-count-test.false, c.used-used.ensures, w.few) in (
+    let w = walked_here (goal.at.returns c).At-loop-place in
+    let all : c.loop-place.place ≡ used_of c.args.t.now = omega (arith, c.loop-place-test.false, c.used-used.ensures, w.few) in (
       c.both.ensures
-          ∙ ap (λ (b : Bool). eqb c.loop-count.next 0 && b) (c.fills.ensures ∙ ap (λ (n : ℕ). every n (has c.loop-count.seen.bits)) c.used-used.ensures)
+          ∙ ap (λ (b : Bool). eqb c.loop-place.next 0 && b) (c.fills.ensures ∙ ap (λ (n : ℕ). every n (has c.loop-place.seen.bits)) c.used-used.ensures)
           ∙ walk-all w all,
       λ _. walk-order w all,
       left-all w all,

@@ -1,22 +1,18 @@
 use mathlib.Core.Path.{◌≡◌, refl, ◌∙◌}
 use mathlib.Core.Bool.{Bool, true, false, not, cond}
 use mathlib.Core.List.{List}
-use Prim.Native.Nat.{ℕ, suc, ◌+◌, ◌-◌, ◌≤◌}
+use Prim.Native.Nat.{ℕ, suc, ◌+◌, ◌≤◌}
 use native.Mathlib.Nat.{mul-le-mul_right}
 use native.Mathlib.Omega.{arith}
-use lib.ListN.{get_or}
+use lib.ListN.{length}
 use Rattle.sets.specs.Sets.{has}
 use Rattle.blocks.specs.Blocks.{with_block, with_blocks}
 use Rattle.protocol.specs.Rows.{marked_copy}
 use Rattle.enroll.specs.declared.FileState.{FileState}
 use Rattle.enroll.specs.Files.{by_file}
+use Rattle.enroll.proofs.FileLaws.{at_place}
 use Rattle.enroll.proofs.mark_others.Invariants.{marked}
 use Rattle.enroll.proofs.mark_others.Goals as goal
-
--- what stands at place k is for file k + 1
-at_place : (files : List FileState) (k : ℕ) → get_or files k (record { good = record { bits = 0 }; version = 0 }) ≡ by_file files (suc k)
-unfolding by_file
-at_place files k = let z : suc k - 1 ≡ k = omega arith in rw z refl
 
 -- one file more
 next : (size : ℕ) (files : List FileState) (i k : ℕ) (row row₀ : List ℕ) (good : Bool) (f : FileState) → f ≡ by_file files (suc k) → good ≡ has f.good.bits i → row ≡ marked size files i k row₀
@@ -35,8 +31,8 @@ loop-k-init c = (refl, refl)
 pub mark_other-requires : goal.mark_other-requires
 mark_other-requires c =
     let l = c.loop-k in
-    let more : l.k + 1 ≤ c.args.n = omega (arith, c.loop-k-test.true) in
-    (omega arith, omega (arith, l.invariant.0, c.requires.1, mul-le-mul_right {m = l.k + 1} {n = c.args.n} c.args.size more), c.requires.2)
+    let more : l.k + 1 ≤ length c.args.files.now = omega (arith, c.loop-k-test.true) in
+    (omega arith, omega (arith, l.invariant.0, c.requires.1, mul-le-mul_right {m = l.k + 1} {n = length c.args.files.now} c.args.size more), c.requires.2)
 
 pub loop-k-preserved : goal.loop-k-preserved
 loop-k-preserved c =

@@ -30,7 +30,7 @@ turn : (l : In-loop-i) → let a = l.args in
 unfolding stride
 turn l =
     let p = l.requires in
-    record { room = p.5.1; below = omega (arith, l.loop-i-test.true, p.4); wide = l.row_size-size.ensures; laid = l.loop-i.invariant.2 }
+    record { room = p.5.1; below = omega (arith, l.loop-i-test.true, p.4); wide = l.row_size-size.ensures; laid = l.loop-i.invariant.1 }
 
 -- a county is at hand for the row
 given : (l : In-loop-i) → l.loop-i.i < length l.args.counties.now
@@ -57,7 +57,6 @@ set_header-requires c = omega (arith, c.fill.auto.s, c.requires.0)
 pub loop-i-init : goal.loop-i-init
 unfolding stride
 loop-i-init c = (
-  omega arith,
   refl,
   none-laid _ _ _ _ _ _ _ _ _ c.args.t.now _ _ (omega (arith, rows_long (goal.at.loop-i-init c).After-row_size-size)) c.requires.0 c.requires.3 (omega (arith, c.requires.3, c.requires.4, c.requires.5)) c.fill.ensures c.set_header.ensures,
 )
@@ -88,16 +87,16 @@ pub loop-i-preserved : goal.loop-i-preserved
 loop-i-preserved c =
     let k = c.loop-i.i in
     let row = c.found_row in (
-      omega (arith, c.loop-i-test.true),
-      laid-long (turn (goal.at.loop-i-preserved c).In-loop-i) row.new.row row.auto.row ∙ c.loop-i.invariant.1,
+      laid-long (turn (goal.at.loop-i-preserved c).In-loop-i) row.new.row row.auto.row ∙ c.loop-i.invariant.0,
       laid-turn (turn (goal.at.loop-i-preserved c).In-loop-i) _ _ _ _ row.ensures (c.u16_at-x.ensures ∙ name-at _ _ (omega (arith, c.loop-i-test.true)))
           (sym (place_at k c.args.counties.now (given (goal.at.loop-i-preserved c).In-loop-i))) (omega arith) (omega (arith, c.requires.7 k (given (goal.at.loop-i-preserved c).In-loop-i))) c.next_row.ensures,
     )
 
 pub shape_of-t : goal.shape_of-t
-shape_of-t c = c.loop-i.invariant.1 ∙ c.set_header.auto.t ∙ c.fill.auto.s
+shape_of-t c = c.loop-i.invariant.0 ∙ c.set_header.auto.t ∙ c.fill.auto.s
 
 pub returns : goal.returns
 returns c =
     let l = c.loop-i in
-    all_laid _ _ _ _ _ _ _ _ _ _ _ _ refl (list-is (goal.at.returns c).After-laid_now-list) (omega (arith, c.requires.4)) (omega (arith, c.requires.4)) l.invariant.2
+    let e : l.i ≡ length c.args.names.now / 2 = omega arith in
+    all_laid _ _ _ _ _ _ _ _ _ _ _ _ refl (list-is (goal.at.returns c).After-laid_now-list) (omega (arith, c.requires.4)) (omega (arith, c.requires.4)) (rw e at l.invariant.1)

@@ -14,5 +14,5 @@ write_record-requires c = (part_length ((c.args.x - 1) * 36) 36 c.args.records.n
 pub returns : goal.returns
 unfolding width
 returns c =
-    lent-record c.args.records.now _ c.args.x (λ y. record_with (record { offset = c.args.offset; bytes = c.args.patch.now })) c.requires.1.0 c.write_record.ensures
-    (ap length c.write_record.ensures ∙ record-long (record { offset = c.args.offset; bytes = c.args.patch.now }) c.requires.2)
+    lent-record c.args.records.now _ c.args.x (λ y. record_with (record { offset = c.args.patch.offset; bytes = c.args.patch.bytes.now })) c.requires.1.0 c.write_record.ensures
+    (ap length c.write_record.ensures ∙ record-long (record { offset = c.args.patch.offset; bytes = c.args.patch.bytes.now }) c.requires.2)

@@ -9,4 +9,4 @@ use Rattle.patches.proofs.is_unused.Goals as goal
 
 pub returns : goal.returns
 unfolding get size
-returns c = ap (λ (n : ℕ). eqb n 0) (c.u8_at.ensures ∙ field_at c.args.records.now c.args.x 1 1 c.requires.1.0 (omega arith))
+returns c = ap (λ (n : ℕ). eqb n 0) (c.u8_at.ensures ∙ field_at c.args.w.records.now c.args.x 1 1 c.requires.0 (omega arith))

@@ -4,7 +4,7 @@ use Rattle.patches.proofs.LayLaws.{Laying}
 use Rattle.patches.proofs.lay_after.Given as goal
 
 abbrev pub invariant-loop-next : goal.invariant-loop-next
-invariant-loop-next l = Laying (window l.oldest l.records) l.skip l.initial.contents l.contents l.count l.next
+invariant-loop-next l = Laying (window l.w.oldest l.w.records.now) l.skip l.initial.contents l.contents l.count l.next
 
 abbrev pub decreases-loop-next : goal.decreases-loop-next
 decreases-loop-next l = 16 - l.count

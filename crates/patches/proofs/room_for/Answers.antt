@@ -6,29 +6,29 @@ use Rattle.patches.proofs.EndLaws.{placed-free, placed-oldest, full-oldest}
 use borrow.Author.Tests.{eq-eqb, ne_eqb}
 use Rattle.patches.proofs.room_for.Goals as goal
 
-pub returns-then-oldest-eq0 : goal.returns-then-oldest-eq0
+pub returns-then-w-eq0 : goal.returns-then-w-eq0
 unfolding window
-returns-then-oldest-eq0 c =
-    placed-free c.requires.0 c.requires.1 c.ended-end.result.count _ _ _ c.ended-end.ensures.0 (omega (arith, c.if-end-lt-PLACES.true)) refl c.ended-end.ensures.1 (rw (eq-eqb _ _ c.if-oldest-eq0.true) refl)
+returns-then-w-eq0 c =
+    placed-free c.args.w.whole c.requires c.ended-end.result.count _ _ _ c.ended-end.ensures.0 (omega (arith, c.if-end-lt-PLACES.true)) refl c.ended-end.ensures.1 (rw (eq-eqb _ _ c.if-w-eq0.true) refl)
 
-pub returns-else-oldest-eq0 : goal.returns-else-oldest-eq0
+pub returns-else-w-eq0 : goal.returns-else-w-eq0
 unfolding window
-returns-else-oldest-eq0 c =
-    placed-free c.requires.0 c.requires.1 c.ended-end.result.count _ _ _ c.ended-end.ensures.0 (omega (arith, c.if-end-lt-PLACES.true)) refl c.ended-end.ensures.1 (rw (ne_eqb _ _ c.if-oldest-eq0.false) refl)
+returns-else-w-eq0 c =
+    placed-free c.args.w.whole c.requires c.ended-end.result.count _ _ _ c.ended-end.ensures.0 (omega (arith, c.if-end-lt-PLACES.true)) refl c.ended-end.ensures.1 (rw (ne_eqb _ _ c.if-w-eq0.false) refl)
 
 pub next_of-second-requires : goal.next_of-second-requires
 unfolding window
 next_of-second-requires c =
-    (c.requires.0, full-oldest c.requires.0 c.requires.1 (omega (arith, c.ended-end.ensures.0, c.if-end-lt-PLACES.false)))
+    full-oldest c.args.w.whole c.requires (omega (arith, c.ended-end.ensures.0, c.if-end-lt-PLACES.false))
 
 pub returns-then-second-eq0 : goal.returns-then-second-eq0
 unfolding window next record_of width
 returns-then-second-eq0 c =
-    placed-oldest c.requires.0 c.requires.1 c.ended-end.result.count _ _ _ c.ended-end.ensures.0 (omega (arith, c.if-end-lt-PLACES.false)) refl c.ended-end.ensures.1
+    placed-oldest c.args.w.whole c.requires c.ended-end.result.count _ _ _ c.ended-end.ensures.0 (omega (arith, c.if-end-lt-PLACES.false)) refl c.ended-end.ensures.1
     (rw (eq-eqb _ _ (sym c.next_of-second.ensures ∙ c.if-second-eq0.true)) refl)
 
 pub returns-else-second-eq0 : goal.returns-else-second-eq0
 unfolding window next record_of width
 returns-else-second-eq0 c =
-    placed-oldest c.requires.0 c.requires.1 c.ended-end.result.count _ _ _ c.ended-end.ensures.0 (omega (arith, c.if-end-lt-PLACES.false)) refl c.ended-end.ensures.1
+    placed-oldest c.args.w.whole c.requires c.ended-end.result.count _ _ _ c.ended-end.ensures.0 (omega (arith, c.if-end-lt-PLACES.false)) refl c.ended-end.ensures.1
     (rw (ne_eqb _ _ (λ e. c.if-second-eq0.false (c.next_of-second.ensures ∙ e))) c.next_of-second.ensures)

@@ -13,12 +13,12 @@ loop-count-init c = ends-none _
 pub returns-then-is_unused : goal.returns-then-is_unused
 unfolding window record_of width
 returns-then-is_unused c =
-    ends_at c.requires.0 c.requires.1 c.loop-count.invariant _ refl (omega (arith, c.loop-count-test.true)) (sym c.is_unused.ensures ∙ c.if-is_unused.true)
+    ends_at c.args.w.whole c.requires c.loop-count.invariant _ refl (omega (arith, c.loop-count-test.true)) (sym c.is_unused.ensures ∙ c.if-is_unused.true)
 
 pub loop-count-preserved : goal.loop-count-preserved
 unfolding window next record_of width
 loop-count-preserved c =
-    ends_more c.requires.0 c.requires.1 c.loop-count.invariant _ _ _ refl (omega (arith, c.loop-count-test.true)) (sym c.is_unused.ensures ∙ c.if-is_unused.false) c.next_of.ensures (elim c.if-next_of-eq0.branch [
+    ends_more c.args.w.whole c.requires c.loop-count.invariant _ _ _ refl (omega (arith, c.loop-count-test.true)) (sym c.is_unused.ensures ∙ c.if-is_unused.false) c.next_of.ensures (elim c.if-next_of-eq0.branch [
       | then-next_of-eq0 w ↦ rw (eq-eqb _ _ w.if-next_of-eq0.true) w.last-is
       | else-next_of-eq0 w ↦ rw (ne_eqb _ _ w.if-next_of-eq0.false) w.last-is
     ])
@@ -27,4 +27,4 @@ pub returns : goal.returns
 unfolding window
 returns c =
     let e : c.loop-count.count ≡ 16 = omega arith in
-    ends-full c.requires.0 c.requires.1 (rw e at c.loop-count.invariant) (omega arith)
+    ends-full c.args.w.whole c.requires (rw e at c.loop-count.invariant) (omega arith)

@@ -3,4 +3,4 @@ use Rattle.patches.proofs.EndLaws.{Ends}
 use Rattle.patches.proofs.scan.Given as goal
 
 abbrev pub invariant-loop-count : goal.invariant-loop-count
-invariant-loop-count l = Ends (window l.oldest l.records) l.count l.last
+invariant-loop-count l = Ends (window l.w.oldest l.w.records.now) l.count l.last

@@ -7,12 +7,12 @@ use Rattle.patches.proofs.sent_over.Goals as goal
 
 pub ended-end-requires : goal.ended-end-requires
 ended-end-requires c =
-    (c.requires.0, (length c.args.own.now, c.requires.1))
+    (length c.args.own.now, c.requires.0)
 
 pub returns-then-count-missing : goal.returns-then-count-missing
 returns-then-count-missing c =
-    c.copy.ensures ∙ sent-all (window c.args.oldest c.args.records.now) c.args.missing c.ended-end.result.count c.args.whole.now c.args.own.now c.ended-end.ensures.0 (omega (arith, c.if-count-missing.true))
+    c.copy.ensures ∙ sent-all (window c.args.w.oldest c.args.w.records.now) c.args.missing c.ended-end.result.count c.args.whole.now c.args.own.now c.ended-end.ensures.0 (omega (arith, c.if-count-missing.true))
 
 pub returns : goal.returns
 returns c =
-    c.lay_after.ensures ∙ sent-last (window c.args.oldest c.args.records.now) c.args.missing c.ended-end.result.count c.args.whole.now c.args.own.now c.ended-end.ensures.0 (omega (arith, c.if-count-missing.false))
+    c.lay_after.ensures ∙ sent-last (window c.args.w.oldest c.args.w.records.now) c.args.missing c.ended-end.result.count c.args.whole.now c.args.own.now c.ended-end.ensures.0 (omega (arith, c.if-count-missing.false))

@@ -27,16 +27,16 @@ module _ (copy new : List ℕ) (v offset : ℕ) (p : List ℕ) (room : 588 + off
   new-window = ap window_of e ∙ window-contents offset p (store version v copy) (omega (arith, stored-long)) ∙ window-store version v copy (omega arith) (inr (omega arith)) (omega arith)
 
 -- the copy as add finds it
-found : (c : After-patch) → c.patch.new.copy ≡ store_contents c.args.offset c.args.patch.now (store version c.args.version c.args.copy.now)
+found : (c : After-patch) → c.patch.new.copy ≡ store_contents c.args.patch.offset c.args.patch.bytes.now (store version c.args.version c.args.copy.now)
 found c = c.patch.ensures ∙ ap (store_contents _ _) c.set_version.ensures
 
 pub add-requires : goal.add-requires
 add-requires c =
-    let long = new-long c.args.copy.now _ c.args.version c.args.offset c.args.patch.now c.requires.0 (found (goal.at.add-requires c).After-patch) in
-    (omega (arith, long, c.requires.0), subst (λ (w : Window). (file : ℕ) × RightFor file w) (sym (new-window c.args.copy.now _ c.args.version c.args.offset c.args.patch.now c.requires.0 (found (goal.at.add-requires c).After-patch))) c.requires.1)
+    let long = new-long c.args.copy.now _ c.args.version c.args.patch.offset c.args.patch.bytes.now c.requires.0 (found (goal.at.add-requires c).After-patch) in
+    (omega (arith, long, c.requires.0), subst (λ (w : Window). (file : ℕ) × RightFor file w) (sym (new-window c.args.copy.now _ c.args.version c.args.patch.offset c.args.patch.bytes.now c.requires.0 (found (goal.at.add-requires c).After-patch))) c.requires.1)
 
 pub returns : goal.returns
 unfolding patched_copy
 returns c =
-    c.add.ensures ∙ ap₂ (λ (w : Window) (copy : List ℕ). store_window (added (record { offset = c.args.offset; bytes = c.args.patch.now }) w) copy)
-    (new-window c.args.copy.now _ c.args.version c.args.offset c.args.patch.now c.requires.0 (found (goal.at.returns c).After-patch)) (found (goal.at.returns c).After-patch)
+    c.add.ensures ∙ ap₂ (λ (w : Window) (copy : List ℕ). store_window (added (record { offset = c.args.patch.offset; bytes = c.args.patch.bytes.now }) w) copy)
+    (new-window c.args.copy.now _ c.args.version c.args.patch.offset c.args.patch.bytes.now c.requires.0 (found (goal.at.returns c).After-patch)) (found (goal.at.returns c).After-patch)

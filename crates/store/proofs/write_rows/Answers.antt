@@ -1,6 +1,7 @@
 use mathlib.Core.Bool.{false}
 use mathlib.Core.Path.{◌≡◌, sym, ◌∙◌, ap, subst}
-use Prim.Native.Nat.{ℕ, ◌+◌, ◌*◌}
+use Prim.Native.Nat.{ℕ, ◌+◌, ◌-◌, ◌*◌, ◌≤◌}
+use lib.ListN.{length}
 use native.Mathlib.Nat.{mul-le-mul_right}
 use native.Mathlib.Omega.{arith}
 use Rattle.store.proofs.RowsLaws.{none_done, turn-fits, turn-long, turn-row, turn-done, done-long, done_all}
@@ -23,6 +24,10 @@ used c = let s = c.in-Some.ensures.steps in c.requires.3 _ (in-set c.loop-i.inva
 new : (c : In-Some) → c.loop-i.invariant.0 c.in-Some.i ≡ false
 new c = let s = c.in-Some.ensures.steps in not_yet c.loop-i.invariant.1 s.0 s.1
 
+-- and it lies within the table, which stays as long
+room : (c : In-Some) → (16 + (c.in-Some.i - 1) * c.row_length-size.result + c.row_length-size.result ≤ length c.loop-i.t) × (length c.loop-i.t ≡ length c.args.t.now)
+room c = (turn-fits c.loop-i.invariant.2 (used c) (new c), done-long c.loop-i.invariant.2)
+
 pub row_length-size-requires : goal.row_length-size-requires
 row_length-size-requires c = let z = c.requires.0 in (long z, z.header)
 
@@ -39,16 +44,16 @@ pub overflow_sub-at : goal.overflow_sub-at
 overflow_sub-at c = omega (arith, used (goal.at.overflow_sub-at c).In-Some)
 
 pub overflow_mul-at : goal.overflow_mul-at
-overflow_mul-at c = omega (arith, turn-fits c.loop-i.invariant.2 (used (goal.at.overflow_mul-at c).In-Some) (new (goal.at.overflow_mul-at c).In-Some), done-long c.loop-i.invariant.2)
+overflow_mul-at c = omega (arith, room (goal.at.overflow_mul-at c).In-Some)
 
 pub overflow_add-at : goal.overflow_add-at
-overflow_add-at c = omega (arith, turn-fits c.loop-i.invariant.2 (used (goal.at.overflow_add-at c).In-Some) (new (goal.at.overflow_add-at c).In-Some), done-long c.loop-i.invariant.2)
+overflow_add-at c = omega (arith, room (goal.at.overflow_add-at c).In-Some)
 
 pub overflow_add-at-in-loop-i : goal.overflow_add-at-in-loop-i
-overflow_add-at-in-loop-i c = omega (arith, turn-fits c.loop-i.invariant.2 (used (goal.at.overflow_add-at-in-loop-i c).In-Some) (new (goal.at.overflow_add-at-in-loop-i c).In-Some), done-long c.loop-i.invariant.2)
+overflow_add-at-in-loop-i c = omega (arith, room (goal.at.overflow_add-at-in-loop-i c).In-Some)
 
 pub slice_bounds-write_row-end : goal.slice_bounds-write_row-end
-slice_bounds-write_row-end c = omega (arith, turn-fits c.loop-i.invariant.2 (used (goal.at.slice_bounds-write_row-end c).In-Some) (new (goal.at.slice_bounds-write_row-end c).In-Some), done-long c.loop-i.invariant.2)
+slice_bounds-write_row-end c = omega (arith, room (goal.at.slice_bounds-write_row-end c).In-Some)
 
 -- a copy is as long as the file says
 copy_is : (c : In-Some) → c.copy_size-copy.result ≡ copy_length (file_length_of c.args.t.now)

@@ -7,8 +7,8 @@ use Rattle.sets.proofs.UptoLaws.{count-le}
 use Rattle.sets.proofs.TestLaws.{every_more}
 use Rattle.windows.specs.Visits.{broken}
 use Rattle.windows.proofs.HeadLaws.{breaks-more}
-use Rattle.windows.proofs.leading.Goals.{then-next_of-x, else-next_of-x}
-use Rattle.windows.proofs.leading.Goals as goal
+use Rattle.windows.proofs.Window.leading.Goals.{then-next_of-x, else-next_of-x}
+use Rattle.windows.proofs.Window.leading.Goals as goal
 
 pub loop-k-init : goal.loop-k-init
 unfolding every count
@@ -28,7 +28,7 @@ returns-then-not-head_right c =
 pub overflow_add-breaks : goal.overflow_add-breaks
 overflow_add-breaks c =
     let l = c.loop-k in
-    omega (arith, l.invariant.1, count-le l.k (broken c.args.records.now))
+    omega (arith, l.invariant.1, count-le l.k (broken c.args.self.records.now))
 
 pub loop-k-preserved : goal.loop-k-preserved
 loop-k-preserved c =

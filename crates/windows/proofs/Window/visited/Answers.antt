@@ -9,7 +9,7 @@ use Rattle.sets.specs.Upto.{Within}
 use Rattle.window.specs.Windows.{width, record_of, next}
 use Rattle.windows.specs.Visits.{window}
 use Rattle.windows.proofs.WalkLaws.{passed_none, passed-more, at-end, at_none, at_most}
-use Rattle.windows.proofs.visited.Goals as goal
+use Rattle.windows.proofs.Window.visited.Goals as goal
 
 pub loop-count-init : goal.loop-count-init
 unfolding window
@@ -31,7 +31,7 @@ pub overflow_sub-next : goal.overflow_sub-next
 overflow_sub-next c = omega (arith, c.if-next-eq0.false)
 
 pub next_of-next-requires : goal.next_of-next-requires
-next_of-next-requires c = (c.requires, omega (arith, c.if-next-eq0.false, c.if-next-gt-PLACES.false))
+next_of-next-requires c = omega (arith, c.if-next-eq0.false, c.if-next-gt-PLACES.false)
 
 pub loop-count-preserved : goal.loop-count-preserved
 unfolding next record_of width window
