@@ -2,19 +2,19 @@
 // heads; where it ends early, nothing is said of the table.
 #![tactic(auto)]
 
-ghost use Rattle.std.specs.Prelude.{◌≡◌, true, ◌+◌, ◌≤◌, length};
+ghost use Rattle.std.specs.Prelude.{◌≡◌, true, ◌+◌, ◌≤◌, length, IfSome};
 ghost use Rattle.sets.specs.Upto.{Within};
 ghost use Rattle.octets.specs.Bytes.{number, part, all_zero};
 ghost use Rattle.fields.specs.Layout.{get, epoch, list, members, county, is_tall, form_of, used_of, row_length, epoch_of, list_of};
 ghost use Rattle.counties.specs.Marks.{mark_right};
 ghost use Rattle.table.specs.WellFormed.{limit, only_rows};
 ghost use Rattle.table.specs.Asked.{Sized};
-ghost use Rattle.grouping.specs.Grouped.{Apart, county_by, Grouped};
+ghost use Rattle.grouping.specs.Grouped.{county_by, Grouped};
 ghost use Rattle.straight.specs.Straight.{behind, Straight, Placed, Listed, Settled, numbered};
 
 use bools::both;
 use fields::Laid;
-use grouping::put;
+use grouping::{Counties, put};
 use rows::RowSet;
 
 // Where a link starts, with the bytes behind it that hold nothing; where two more of these are; where the county is, with three bytes behind it, and the last two.
@@ -38,31 +38,31 @@ fn leads_on(row: &[u8], i: usize, n: usize) -> bool
     both(next == 0, i == n)
 }
 
-// The county of row i of n, where the row leads to the one behind it and is on its own list, and its bytes that hold nothing are 0; 0 otherwise.
-fn county_of(row: &[u8], i: usize, n: usize) -> u8
+// The county of row i of n, where the row leads to the one behind it and is on its own list, and its bytes that hold nothing are 0.
+fn county_of(row: &[u8], i: usize, n: usize) -> Option<u8>
     requires { Within n i × (n ≤ 64) × (32 ≤ length row.now) }
-    ensures { 1 ≤ result → Placed n i row.now × (result ≡ get county row.now) }
+    ensures { IfSome result (λ c. Placed n i row.now × (c ≡ get county row.now)) }
 {
     if !leads_on(row, i, n) {
-        return 0;
+        return None;
     }
     if octets::u16_at(row, GAP_AT) != 0 {
-        return 0;
+        return None;
     }
     let list = RowSet {
         bits: fields::members(row),
     };
     if !list.at(i - 1) {
-        return 0;
+        return None;
     }
     if octets::u16_at(row, REST_AT) != 0 {
-        return 0;
+        return None;
     }
     let wide = octets::u32_at(row, COUNTY_AT) as usize;
     if values::is_county(wide) {
-        return wide as u8;
+        return Some(wide as u8);
     }
-    0
+    None
 }
 
 // Has a row this epoch number and this list? The mark is looked at with the byte behind it.
@@ -79,32 +79,39 @@ fn has_list(row: &[u8], since: u32, laid: Laid) -> bool
     octets::u16_at(row, fields::GRID_MARK_AT) == laid.mark as u16
 }
 
-// The row that has the other list, once row i was looked at: `other`, or row i where all before it have the list of row 1; 0 where row i has a third.
-fn other_with(t: &[u8], size: usize, other: usize, i: usize, since: u32, laid: Laid) -> usize
+// The row that has the other list, once row i was looked at: `other`, or row i where all before it have the list of row 1; none where row i has a third.
+fn other_with(
+    t: &[u8],
+    size: usize,
+    other: usize,
+    i: usize,
+    since: u32,
+    laid: Laid,
+) -> Option<usize>
     requires { Sized t.now × (size ≡ row_length t.now) × Within (used_of t.now) other × Within (used_of t.now) i × (since ≡ epoch_of t.now 1) × (laid ≡ list_of t.now 1) }
-    ensures { 1 ≤ result → Listed t.now other i result }
+    ensures { IfSome result (λ next. Listed t.now other i next) }
 {
     let row = table::row_at(t, size, i);
     if has_list(row, since, laid) {
-        return other;
+        return Some(other);
     }
     let second = table::row_at(t, size, other);
     if has_list(row, fields::epoch(second), fields::list(second)) {
-        return other;
+        return Some(other);
     }
     if other != 1 {
-        return 0;
+        return None;
     }
     if octets::u8_at(row, fields::GRID_MARK_AT + 1) != 0 {
-        return 0;
+        return None;
     }
-    i
+    Some(i)
 }
 
 // Are a row's epoch number and list right by themselves?
-fn list_right(sets: &[u64; 8], n: usize, row: &[u8]) -> bool
-    requires { Apart sets.now × (n ≤ 64) × (32 ≤ length row.now) }
-    ensures { result ≡ true → (get epoch row.now ≤ limit) × (only_rows n (get members row.now) ≡ true) × (mark_right (county_by sets.now) (list row.now) ≡ true) }
+fn list_right(counties: &Counties, n: usize, row: &[u8]) -> bool
+    requires { (n ≤ 64) × (32 ≤ length row.now) }
+    ensures { result ≡ true → (get epoch row.now ≤ limit) × (only_rows n (get members row.now) ≡ true) × (mark_right (county_by counties.now) (list row.now) ≡ true) }
 {
     if values::LIMIT < fields::epoch(row) {
         return false;
@@ -113,7 +120,7 @@ fn list_right(sets: &[u64; 8], n: usize, row: &[u8]) -> bool
     if !values::only_rows(n, own.members) {
         return false;
     }
-    grouping::mark_right(sets, own)
+    counties.mark_right(own)
 }
 
 // Are the lists of two rows of two epochs, and both tall or none?
@@ -130,19 +137,19 @@ fn are_apart(row: &[u8], other: &[u8]) -> bool
 }
 
 // Are the list of row 1 and the other right, and do they agree?
-fn lists_right(t: &[u8], size: usize, n: usize, other: usize, sets: &[u64; 8]) -> bool
-    requires { Sized t.now × (size ≡ row_length t.now) × (n ≡ used_of t.now) × Within n other × Apart sets.now }
-    ensures { result ≡ true → Settled t.now (county_by sets.now) other }
+fn lists_right(t: &[u8], size: usize, n: usize, other: usize, counties: &Counties) -> bool
+    requires { Sized t.now × (size ≡ row_length t.now) × (n ≡ used_of t.now) × Within n other }
+    ensures { result ≡ true → Settled t.now (county_by counties.now) other }
 {
     let first = table::row_at(t, size, 1);
-    if !list_right(sets, n, first) {
+    if !list_right(counties, n, first) {
         return false;
     }
     if other == 1 {
         return true;
     }
     let second = table::row_at(t, size, other);
-    if !list_right(sets, n, second) {
+    if !list_right(counties, n, second) {
         return false;
     }
     are_apart(first, second)
@@ -165,26 +172,23 @@ pub fn look(t: &[u8], sets: &mut [u64; 8]) -> bool
     let first_list = fields::list(first);
     let mut other = 1;
     let mut low: u16 = 0;
-    let mut k = 0;
-    while k < used {
+    for k in 0..used {
         let row = table::row_at(t, size, k + 1);
         let name = fields::name(row);
         if name <= low {
             return false;
         }
-        let county = county_of(row, k + 1, used);
-        if county == 0 {
+        let Some(county) = county_of(row, k + 1, used) else {
             return false;
-        }
+        };
         put(sets, k, county);
-        other = other_with(t, size, other, k + 1, first_epoch, first_list);
-        if other == 0 {
+        let Some(next) = other_with(t, size, other, k + 1, first_epoch, first_list) else {
             return false;
-        }
+        };
+        other = next;
         low = name;
-        k += 1;
     }
-    lists_right(t, size, used, other, sets)
+    lists_right(t, size, used, other, &Counties::new(sets))
 }
 
 // The first n places of an array become 1 to n.
@@ -195,10 +199,8 @@ pub fn number(rows: &mut [u8; 64], n: usize)
     let places = &mut rows[..];
     // a byte of its own to count by: so it takes many places at a time
     let mut next: u8 = 0;
-    let mut k = 0;
-    while k < n {
+    for k in 0..n {
         next += 1;
         places[k] = next;
-        k += 1;
     }
 }

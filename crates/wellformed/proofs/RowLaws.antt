@@ -65,8 +65,12 @@ every-both (suc n) p q = ap (λ (b : Bool). b && (p (suc n) && q (suc n))) (ever
     swap true false false d = refl
     swap false b c d = refl
 
-pub rows_are : (t : List ℕ) → 4 ≤ form_of t → (every (used_of t) (head t) && every (used_of t) (copies t)) ≡ every (used_of t) (row_right t)
+rows_are : (t : List ℕ) → 4 ≤ form_of t → (every (used_of t) (head t) && every (used_of t) (copies t)) ≡ every (used_of t) (row_right t)
 rows_are t h = sym (every-ext (used_of t) _ _ (λ i w. later-is t i h) ∙ every-both (used_of t) (head t) (copies t))
+
+-- by what was found of all heads and of all copies
+pub rows-by : (t : List ℕ) → 4 ≤ form_of t → (a b : Bool) → every (used_of t) (head t) ≡ a → every (used_of t) (copies t) ≡ b → every (used_of t) (row_right t) ≡ (a && b)
+rows-by t h a b p q = sym (rows_are t h) ∙ ap₂ (λ (x y : Bool). x && y) p q
 
 -- ---- what was asked, and what follows of the whole
 pub head-no : {row : Bool} (first rest : Bool) → row ≡ (first && rest) → first ≡ false → row ≡ false
@@ -88,7 +92,3 @@ module _ (t : List ℕ) (e : form_of t ≡ form_value) where
   pub straight-heads : Straight t → every (used_of t) (head t) ≡ true
   unfolding head
   straight-heads s = every_of (used_of t) _ (λ i w. ap (λ (f : ℕ). head_right f (used_of t) i (row_bytes t i)) e ∙ s.heads i w)
-
-  -- by what was found of all heads and of all copies
-  pub rows-by : (a b : Bool) → every (used_of t) (head t) ≡ a → every (used_of t) (copies t) ≡ b → every (used_of t) (row_right t) ≡ (a && b)
-  rows-by a b p q = sym (rows_are t late) ∙ ap₂ (λ (x y : Bool). x && y) p q

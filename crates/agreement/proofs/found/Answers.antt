@@ -2,10 +2,11 @@ use mathlib.Core.Path.{◌≡◌, sym, ◌∙◌, ap}
 use Prim.Native.Nat.{◌+◌}
 use native.Mathlib.Omega.{arith}
 use Rattle.bools.proofs.BoolLaws.{clash}
+use Rattle.fields.proofs.FieldLaws.{equal, equal-same}
 use Rattle.fields.specs.Layout.{get, epoch, list, epoch_of, list_of, is_empty}
 use Rattle.table.proofs.WellFormedLaws.{few-rows}
 use Rattle.agreement.proofs.AgreeLaws.{apart_more, join-none, join-like, join-listed}
-use Rattle.agreement.proofs.found.Goals.{After-epoch, After-epoch-epoch, After-list-list, After-list-own, Then-epoch, then-epoch+else-same+else-not-is_empty, else-epoch}
+use Rattle.agreement.proofs.found.Goals.{After-epoch, After-epoch-epoch, After-list-list, After-list-own, Then-epoch, then-epoch+else-eq+else-not-is_empty, else-epoch}
 use Rattle.agreement.proofs.found.Goals as goal
 
 -- list and epoch of row k + 1, and of row j
@@ -33,53 +34,35 @@ alike c = sym (c.epoch-epoch.ensures ∙ ap (get epoch) c.row_of-row.ensures.0) 
 pub overflow_add-k : goal.overflow_add-k
 overflow_add-k c = omega (arith, few-rows c.requires.0)
 
-pub row_of-row-requires : goal.row_of-row-requires
-row_of-row-requires c = (c.requires.0, omega arith)
-
-pub list-own-requires : goal.list-own-requires
-list-own-requires c = c.row_of-row.ensures.1
-
-pub epoch-epoch-requires : goal.epoch-epoch-requires
-epoch-epoch-requires c = c.row_of-row.ensures.1
-
 pub loop-j-init : goal.loop-j-init
-loop-j-init c = (c.requires.2, λ i w h q. c.requires.3 i w h (sym (its-epoch c) ∙ q))
+loop-j-init c = λ i w h q. c.requires.3 i w h (sym (its-epoch c) ∙ q)
 
-pub row_of-other-requires : goal.row_of-other-requires
-row_of-other-requires c = (c.requires.0, omega (arith, c.requires.1))
-
-pub epoch-requires : goal.epoch-requires
-epoch-requires c = c.row_of-other.ensures.1
-
-pub list-list-requires : goal.list-list-requires
-list-list-requires c = c.row_of-other.ensures.1
-
-pub returns-then-same : goal.returns-then-same
-returns-then-same c all =
+pub returns-then-eq : goal.returns-then-eq
+unfolding equal
+returns-then-eq c all =
     let a = c.args in
-    join-like a.t.now a.k c.loop-j.j (omega (arith, c.loop-j-test.true)) (alike (goal.at.returns-then-same c).Then-epoch) all
-    (sym (own (goal.at.returns-then-same c).After-list-own) ∙ c.same.ensures.0 c.if-same.true ∙ other (goal.at.returns-then-same c).After-list-list)
+    join-like a.t.now a.k c.loop-j.j (omega (arith, c.loop-j-test.true)) (alike (goal.at.returns-then-eq c).Then-epoch) all
+    (sym (own (goal.at.returns-then-eq c).After-list-own) ∙ (equal-same _ _).0 (sym c.eq.ensures ∙ c.if-eq.true) ∙ other (goal.at.returns-then-eq c).After-list-list)
 
 pub returns-then-not-is_empty : goal.returns-then-not-is_empty
+unfolding equal
 returns-then-not-is_empty c all =
     let a = c.args in
     c.is_empty-then-not-is_empty.ensures ∙ ap is_empty (own (goal.at.returns-then-not-is_empty c).After-list-own)
     ∙ join-listed a.t.now a.k c.loop-j.j (omega (arith, c.loop-j-test.true)) (alike (goal.at.returns-then-not-is_empty c).Then-epoch) all
     (ap is_empty (sym (other (goal.at.returns-then-not-is_empty c).After-list-list)) ∙ sym c.is_empty.ensures ∙ c.if-not-is_empty.true)
-    (λ q. clash (sym c.if-same.false ∙ c.same.ensures.1 (own (goal.at.returns-then-not-is_empty c).After-list-own ∙ q ∙ sym (other (goal.at.returns-then-not-is_empty c).After-list-list))))
+    (λ q. clash (sym c.if-eq.false ∙ c.eq.ensures ∙ (equal-same _ _).1 (own (goal.at.returns-then-not-is_empty c).After-list-own ∙ q ∙ sym (other (goal.at.returns-then-not-is_empty c).After-list-list))))
 
 pub loop-j-preserved : goal.loop-j-preserved
 unfolding list_of
 loop-j-preserved c =
-    let l = c.loop-j in (
-      omega arith,
-      apart_more _ _ _ l.j l.invariant.1 (λ q. elim c.if-epoch.branch [
-        | then-epoch+else-same+else-not-is_empty w ↦ ap is_empty (sym (w.list-list.ensures ∙ ap list c.row_of-other.ensures.0)) ∙ sym w.is_empty.ensures ∙ w.if-not-is_empty.false
-        | else-epoch w ↦ absurd (w.if-epoch.false (q ∙ sym (other-epoch (goal.at.loop-j-preserved c).After-epoch)))
-      ]),
-    )
+    let l = c.loop-j in
+    apart_more _ _ _ l.j l.invariant (λ q. elim c.if-epoch.branch [
+      | then-epoch+else-eq+else-not-is_empty w ↦ ap is_empty (sym (w.list-list.ensures ∙ ap list c.row_of-other.ensures.0)) ∙ sym w.is_empty.ensures ∙ w.if-not-is_empty.false
+      | else-epoch w ↦ absurd (w.if-epoch.false (q ∙ sym (other-epoch (goal.at.loop-j-preserved c).After-epoch)))
+    ])
 
 pub returns : goal.returns
 returns c all =
     let a = c.args in
-    join-none a.t.now a.k (λ i w h q. c.loop-j.invariant.1 i w (omega (arith, c.loop-j-test.false)) (its-epoch (goal.at.returns c).After-epoch-epoch ∙ q))
+    join-none a.t.now a.k (λ i w h q. c.loop-j.invariant i w (omega (arith, c.loop-j-test.false)) (its-epoch (goal.at.returns c).After-epoch-epoch ∙ q))

@@ -2,10 +2,11 @@ use mathlib.Core.Path.{◌≡◌, sym, ◌∙◌, ap}
 use Prim.Native.Nat.{◌+◌}
 use native.Mathlib.Omega.{arith}
 use Rattle.bools.proofs.BoolLaws.{clash}
+use Rattle.fields.proofs.FieldLaws.{equal, equal-same}
 use Rattle.fields.specs.Layout.{list, list_of, is_empty}
 use Rattle.table.proofs.WellFormedLaws.{few-rows}
 use Rattle.agreement.proofs.AgreeLaws.{join-like, join-listed}
-use Rattle.agreement.proofs.joins.Goals.{After-list-last, After-list-own, then-like+else-same+else-not-is_empty, else-like}
+use Rattle.agreement.proofs.joins.Goals.{After-list-last, After-list-own}
 use Rattle.agreement.proofs.joins.Goals as goal
 
 -- the lists of row k + 1 and row k
@@ -20,26 +21,18 @@ last c = c.list-last.ensures ∙ ap list c.row_of-then-like.ensures.0
 pub overflow_add-k : goal.overflow_add-k
 overflow_add-k c = omega (arith, few-rows c.requires.0)
 
-pub row_of-requires-then-like : goal.row_of-requires-then-like
-row_of-requires-then-like c =
-    (c.requires.0, omega (arith, c.requires.1, c.requires.3 c.if-like.true))
-
-pub returns-then-same : goal.returns-then-same
-returns-then-same c all =
+pub returns-then-eq : goal.returns-then-eq
+unfolding equal
+returns-then-eq c all =
     let like = c.requires.3 c.if-like.true in
     join-like c.args.t.now c.args.k c.args.k (omega (arith, like.0)) like.1 all
-    (sym (own (goal.at.returns-then-same c).After-list-own) ∙ c.same.ensures.0 c.if-same.true ∙ last (goal.at.returns-then-same c).After-list-last)
+    (sym (own (goal.at.returns-then-eq c).After-list-own) ∙ (equal-same _ _).0 (sym c.eq.ensures ∙ c.if-eq.true) ∙ last (goal.at.returns-then-eq c).After-list-last)
 
 pub returns-then-not-is_empty : goal.returns-then-not-is_empty
+unfolding equal
 returns-then-not-is_empty c all =
     let like = c.requires.3 c.if-like.true in
     c.is_empty-then-not-is_empty.ensures ∙ ap is_empty (own (goal.at.returns-then-not-is_empty c).After-list-own)
     ∙ join-listed c.args.t.now c.args.k c.args.k (omega (arith, like.0)) like.1 all
     (ap is_empty (sym (last (goal.at.returns-then-not-is_empty c).After-list-last)) ∙ sym c.is_empty.ensures ∙ c.if-not-is_empty.true)
-    (λ q. clash (sym c.if-same.false ∙ c.same.ensures.1 (own (goal.at.returns-then-not-is_empty c).After-list-own ∙ q ∙ sym (last (goal.at.returns-then-not-is_empty c).After-list-last))))
-
-pub found-requires : goal.found-requires
-found-requires c = elim c.if-like.branch [
-  | then-like+else-same+else-not-is_empty w ↦ (c.requires.0, c.requires.1, omega (arith, w.from-is), λ i v h q. absurd (omega (arith, w.from-is)))
-  | else-like w ↦ (c.requires.0, c.requires.1, omega (arith, w.from-is, c.requires.2), λ i v h q. c.requires.4 w.if-like.false i v (omega (arith, w.from-is)) q)
-]
+    (λ q. clash (sym c.if-eq.false ∙ c.eq.ensures ∙ (equal-same _ _).1 (own (goal.at.returns-then-not-is_empty c).After-list-own ∙ q ∙ sym (last (goal.at.returns-then-not-is_empty c).After-list-last))))

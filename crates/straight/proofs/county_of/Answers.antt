@@ -6,18 +6,6 @@ use Rattle.fields.specs.Layout.{get, members}
 use Rattle.straight.proofs.RowLaws.{place, county-is, county-few, county-rest}
 use Rattle.straight.proofs.county_of.Goals as goal
 
-pub returns-then-not-leads_on : goal.returns-then-not-leads_on
-returns-then-not-leads_on c = λ e. absurd (omega arith)
-
-pub returns-then-u16_at-ne0 : goal.returns-then-u16_at-ne0
-returns-then-u16_at-ne0 c = λ e. absurd (omega arith)
-
-pub returns-then-not-at : goal.returns-then-not-at
-returns-then-not-at c = λ e. absurd (omega arith)
-
-pub returns-then-u16_at-ne0-2 : goal.returns-then-u16_at-ne0-2
-returns-then-u16_at-ne0-2 c = λ e. absurd (omega arith)
-
 pub overflow_cast-result : goal.overflow_cast-result
 overflow_cast-result c =
     omega (arith, county-few c.args.row.now _ c.requires.2 c.u32_at-wide.ensures (sym c.u16_at-2.ensures ∙ c.if-u16_at-ne0-2.false) (sym c.is_county.ensures ∙ c.if-is_county.true), county-is c.args.row.now _ c.requires.2 c.u32_at-wide.ensures (sym c.u16_at-2.ensures ∙ c.if-u16_at-ne0-2.false) (sym c.is_county.ensures ∙ c.if-is_county.true))
@@ -25,8 +13,7 @@ overflow_cast-result c =
 pub returns-then-is_county : goal.returns-then-is_county
 returns-then-is_county c =
     let z = sym c.u16_at-2.ensures ∙ c.if-u16_at-ne0-2.false in
-    let y = sym c.is_county.ensures ∙ c.if-is_county.true in
-    λ e. (
+    let y = sym c.is_county.ensures ∙ c.if-is_county.true in (
       record {
         link = c.leads_on.ensures (c.if-not-leads_on.false);
         gap = sym c.u16_at.ensures ∙ c.if-u16_at-ne0.false;
@@ -38,6 +25,3 @@ returns-then-is_county c =
       },
       county-is c.args.row.now _ c.requires.2 c.u32_at-wide.ensures z y,
     )
-
-pub returns : goal.returns
-returns c = λ e. absurd (omega arith)

@@ -1,16 +1,9 @@
 use mathlib.Core.Path.{sym, ◌∙◌}
 use native.Mathlib.Omega.{arith}
 use borrow.Author.Tests.{eqb-true}
-use Rattle.bools.proofs.BoolLaws.{clash}
 use Rattle.fields.specs.Layout.{list}
 use Rattle.straight.proofs.RowLaws.{mark-is, mark-rest}
 use Rattle.straight.proofs.has_list.Goals as goal
-
-pub returns-then-epoch-since : goal.returns-then-epoch-since
-returns-then-epoch-since c = λ e. absurd (clash e)
-
-pub returns-then-members-laid : goal.returns-then-members-laid
-returns-then-members-laid c = λ e. absurd (clash e)
 
 pub returns : goal.returns
 unfolding list

@@ -1,14 +1,14 @@
 use mathlib.Core.Path.{◌≡◌, sym, subst, ◌∙◌, ap, ap₂}
 use native.Mathlib.Omega.{arith}
 use Prim.Native.Nat.{ℕ, ◌+◌, ◌<◌}
-use Rattle.bools.proofs.BoolLaws.{clash}
 use Rattle.sets.specs.Upto.{Within}
 use Rattle.fields.specs.Layout.{get, name, epoch, list, county, stride, used_of, row_length, row_bytes, name_of, epoch_of, list_of}
 use Rattle.fields.proofs.FieldLaws.{stride-late}
 use Rattle.table.proofs.WellFormedLaws.{header, few-rows, long}
+use Rattle.grouping.specs.Grouped.{county_by}
 use Rattle.straight.specs.Straight.{Placed, Settled}
 use Rattle.straight.proofs.PassLaws.{Passed, none_passed, one-passed, grouped, straight}
-use Rattle.straight.proofs.look.Goals.{After-loop-k, After-row_size-size, Else-county-eq0, In-loop-k}
+use Rattle.straight.proofs.look.Goals.{After-loop-k, After-row_size-size, In-Some, In-loop-k}
 use Rattle.straight.proofs.look.Goals as goal
 
 -- rows are as long as was found
@@ -23,10 +23,10 @@ turn c =
     (w, omega (arith, w, few-rows c.requires.0))
 
 -- and this is known of it
-placed : (c : Else-county-eq0) → let t = c.args.t.now in
-    Placed (used_of t) (c.loop-k.k + 1) (row_bytes t (c.loop-k.k + 1)) × (c.county_of-county.result ≡ get county (row_bytes t (c.loop-k.k + 1)))
+placed : (c : In-Some) → let t = c.args.t.now in
+    Placed (used_of t) (c.loop-k.k + 1) (row_bytes t (c.loop-k.k + 1)) × (c.in-Some.county ≡ get county (row_bytes t (c.loop-k.k + 1)))
 placed c =
-    rw (c.used-used.ensures, c.row_at-row.ensures.0) at (c.county_of-county.ensures (omega (arith, c.if-county-eq0.false)))
+    rw (c.used-used.ensures, c.row_at-row.ensures.0) at c.in-Some.ensures
 
 pub first-requires : goal.first-requires
 first-requires c = long c.requires.0
@@ -48,63 +48,30 @@ used-used-requires c = long c.requires.0
 pub row_at-first-requires : goal.row_at-first-requires
 row_at-first-requires c = (c.requires.0, size_is (goal.at.row_at-first-requires c).After-row_size-size, omega (arith, (header c.requires.0.header).used))
 
-pub epoch-first_epoch-requires : goal.epoch-first_epoch-requires
-epoch-first_epoch-requires c = c.row_at-first.ensures.1
-
-pub list-first_list-requires : goal.list-first_list-requires
-list-first_list-requires c = c.row_at-first.ensures.1
-
 pub loop-k-init : goal.loop-k-init
 loop-k-init c = none_passed _ c.requires.0
-
-pub overflow_add-k : goal.overflow_add-k
-overflow_add-k c = omega (arith, (turn c).1)
 
 pub row_at-row-requires : goal.row_at-row-requires
 row_at-row-requires c = (c.requires.0, size_is (goal.at.row_at-row-requires c).After-row_size-size, (turn c).0)
 
-pub name-name-requires : goal.name-name-requires
-name-name-requires c = c.row_at-row.ensures.1
-
-pub returns-then-name-low : goal.returns-then-name-low
-returns-then-name-low c = λ e. absurd (clash e)
-
-pub overflow_add-k-in-loop-k : goal.overflow_add-k-in-loop-k
-overflow_add-k-in-loop-k c = omega (arith, (turn (goal.at.overflow_add-k-in-loop-k c).In-loop-k).1)
-
-pub county_of-county-requires : goal.county_of-county-requires
-county_of-county-requires c =
-    (omega (arith, (turn (goal.at.county_of-county-requires c).In-loop-k).0, c.used-used.ensures), omega (arith, c.used-used.ensures, few-rows c.requires.0), c.row_at-row.ensures.1)
-
-pub returns-then-county-eq0 : goal.returns-then-county-eq0
-returns-then-county-eq0 c = λ e. absurd (clash e)
+pub county_of-requires : goal.county_of-requires
+county_of-requires c =
+    (omega (arith, (turn (goal.at.county_of-requires c).In-loop-k).0, c.used-used.ensures), omega (arith, c.used-used.ensures, few-rows c.requires.0), c.row_at-row.ensures.1)
 
 pub put-requires : goal.put-requires
-put-requires c = ((turn (goal.at.put-requires c).In-loop-k).1, omega (arith, (placed (goal.at.put-requires c).Else-county-eq0).0.placed, (placed (goal.at.put-requires c).Else-county-eq0).1))
+put-requires c = ((turn (goal.at.put-requires c).In-loop-k).1, omega (arith, (placed (goal.at.put-requires c).In-Some).0.placed, (placed (goal.at.put-requires c).In-Some).1))
 
-pub overflow_add-k-in-loop-k-2 : goal.overflow_add-k-in-loop-k-2
-overflow_add-k-in-loop-k-2 c = omega (arith, (turn (goal.at.overflow_add-k-in-loop-k-2 c).In-loop-k).1)
-
-pub other_with-other-requires : goal.other_with-other-requires
+pub other_with-requires : goal.other_with-requires
 unfolding epoch_of list_of
-other_with-other-requires c =
-    (c.requires.0, size_is (goal.at.other_with-other-requires c).After-row_size-size, c.loop-k.invariant.second, (turn (goal.at.other_with-other-requires c).In-loop-k).0, c.epoch-first_epoch.ensures ∙ ap (get epoch) c.row_at-first.ensures.0, c.list-first_list.ensures ∙ ap list c.row_at-first.ensures.0)
-
-pub returns-then-other-eq0 : goal.returns-then-other-eq0
-returns-then-other-eq0 c = λ e. absurd (clash e)
-
-pub overflow_add-k-in-loop-k-3 : goal.overflow_add-k-in-loop-k-3
-overflow_add-k-in-loop-k-3 c = omega (arith, (turn (goal.at.overflow_add-k-in-loop-k-3 c).In-loop-k).1)
-
-pub loop-k-smaller : goal.loop-k-smaller
-loop-k-smaller c = omega (arith, c.loop-k-test.true)
+other_with-requires c =
+    (c.requires.0, size_is (goal.at.other_with-requires c).After-row_size-size, c.loop-k.invariant.second, (turn (goal.at.other_with-requires c).In-loop-k).0, c.epoch-first_epoch.ensures ∙ ap (get epoch) c.row_at-first.ensures.0, c.list-first_list.ensures ∙ ap list c.row_at-first.ensures.0)
 
 pub loop-k-preserved : goal.loop-k-preserved
 unfolding name_of
 loop-k-preserved c =
     let l = c.loop-k in
     one-passed l.invariant (omega (arith, (turn (goal.at.loop-k-preserved c).In-loop-k).0)) _ _ c.name-name.result (c.name-name.ensures ∙ ap (get name) c.row_at-row.ensures.0) (omega (arith, c.if-name-low.false)) (omega arith)
-    (placed (goal.at.loop-k-preserved c).Else-county-eq0).0 (c.other_with-other.ensures (omega (arith, c.if-other-eq0.false))) (c.put.ensures _ (sym (placed (goal.at.loop-k-preserved c).Else-county-eq0).1) l.invariant.filled)
+    (placed (goal.at.loop-k-preserved c).In-Some).0 c.in-Some-other_with.ensures (c.put.ensures _ (sym (placed (goal.at.loop-k-preserved c).In-Some).1) l.invariant.filled)
 
 -- all were passed
 all-passed : (c : After-loop-k) → let t = c.args.t.now in
@@ -114,12 +81,15 @@ all-passed c =
     let e : c.loop-k.k ≡ used_of t = omega (arith, c.loop-k-test.false, c.loop-k.invariant.few, c.used-used.ensures) in
     subst (λ (n : ℕ). Passed t c.loop-k.sets n c.loop-k.other c.loop-k.low) e c.loop-k.invariant
 
+pub new-requires : goal.new-requires
+new-requires c = (grouped c.requires.0 (all-passed (goal.at.new-requires c).After-loop-k)).apart
+
 pub lists_right-requires : goal.lists_right-requires
 lists_right-requires c =
-    (c.requires.0, size_is (goal.at.lists_right-requires c).After-row_size-size, c.used-used.ensures, omega (arith, c.loop-k.invariant.second, c.used-used.ensures), (grouped c.requires.0 (all-passed c)).apart)
+    (c.requires.0, size_is (goal.at.lists_right-requires c).After-row_size-size, c.used-used.ensures, omega (arith, c.loop-k.invariant.second, c.used-used.ensures))
 
 pub returns : goal.returns
 returns c =
     let p = all-passed (goal.at.returns c).After-loop-k in
     let g = grouped c.requires.0 p in
-    λ e. (straight c.requires.0 p (omega (arith, c.first.ensures)) (subst (λ (y : ℕ → ℕ). Settled c.args.t.now y c.loop-k.other) g.county (c.lists_right.ensures e)), g)
+    λ e. (straight c.requires.0 p (omega (arith, c.first.ensures)) (subst (λ (y : ℕ → ℕ). Settled c.args.t.now y c.loop-k.other) (ap county_by c.new.ensures ∙ g.county) (c.lists_right.ensures e)), g)

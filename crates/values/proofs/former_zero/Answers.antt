@@ -25,19 +25,17 @@ module _ (row : List ℕ) (f : ℕ) where
   unfolding reserved_in
   in_three e = sym (ap (λ (g : ℕ). all_zero (reserved_in g row)) e)
 
-pub returns-then-form-eq-WITH_FILES : goal.returns-then-form-eq-WITH_FILES
-returns-then-form-eq-WITH_FILES c =
+pub returns-in-1 : goal.returns-in-1
+returns-in-1 c = ap (λ (n : ℕ). eqb n 0) c.u64_at.ensures ∙ zero_number _ ∙ in_one c.args.row.now c.args.form c.in-1.is
+
+pub returns-in-2 : goal.returns-in-2
+returns-in-2 c = c.rest_zero.ensures ∙ in_two c.args.row.now c.args.form c.in-2.is
+
+pub returns-in-3 : goal.returns-in-3
+returns-in-3 c = rw (c.both.ensures, c.u32_at.ensures, c.u16_at.ensures) (zero-numbers 26 2 4 c.args.row.now ∙ in_three c.args.row.now c.args.form c.in-3.is)
+
+pub returns-in_default : goal.returns-in_default
+returns-in_default c =
     let row = c.args.row.now in
-    rw (c.both.ensures, c.rest_zero.ensures, c.front_zero.ensures) (sym (zero-append (part 3 9 row) (part 25 7 row)) ∙ in_four row c.args.form c.if-form-eq-WITH_FILES.true)
-
-pub returns-then-form-eq1 : goal.returns-then-form-eq1
-returns-then-form-eq1 c =
-    ap (λ (n : ℕ). eqb n 0) c.u64_at.ensures ∙ zero_number _ ∙ in_one c.args.row.now c.args.form c.if-form-eq1.true
-
-pub returns-then-form-eq2 : goal.returns-then-form-eq2
-returns-then-form-eq2 c = c.rest_zero-then-form-eq2.ensures ∙ in_two c.args.row.now c.args.form c.if-form-eq2.true
-
-pub returns : goal.returns
-returns c =
-    let three : c.args.form ≡ 3 = omega (arith, c.requires.0, c.if-form-eq-WITH_FILES.false, c.if-form-eq1.false, c.if-form-eq2.false) in
-    rw (c.both-2.ensures, c.u32_at.ensures, c.u16_at.ensures) (zero-numbers 26 2 4 c.args.row.now ∙ in_three c.args.row.now c.args.form three)
+    let four : c.args.form ≡ 4 = omega (arith, c.requires.0, c.in_default) in
+    rw (c.both-in_default.ensures, c.rest_zero-in_default.ensures, c.front_zero.ensures) (sym (zero-append (part 3 9 row) (part 25 7 row)) ∙ in_four row c.args.form four)

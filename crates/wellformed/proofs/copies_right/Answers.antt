@@ -19,12 +19,9 @@ found c =
     let a = c.args in
     sym (c.copy_right.ensures ∙ ap (copy_right form_value a.file) (c.copy_in.ensures.0 ∙ ap (λ (w : ℕ). block 32 w (c.loop-q.q + 1) a.row.now) c.copy_size-size.ensures))
 
-pub copy_size-size-requires : goal.copy_size-size-requires
-copy_size-size-requires c = c.requires.0
-
 pub loop-q-init : goal.loop-q-init
 unfolding every
-loop-q-init c = (omega arith, refl)
+loop-q-init c = refl
 
 pub copy_in-requires : goal.copy_in-requires
 copy_in-requires c =
@@ -41,11 +38,4 @@ returns-then-not-copy_right c = every-not _ _ (c.loop-q.q + 1) (omega (arith, c.
 pub loop-q-preserved : goal.loop-q-preserved
 loop-q-preserved c =
     let l = c.loop-q in
-    (omega (arith, c.loop-q-test.true), every_more _ l.q l.invariant.1 (found (goal.at.loop-q-preserved c).After-copy_right ∙ c.if-not-copy_right.false))
-
-pub returns : goal.returns
-returns c =
-    let l = c.loop-q in
-    let a = c.args in
-    let e : l.q ≡ a.files = omega (arith, c.loop-q-test.false) in
-    sym l.invariant.1 ∙ ap (λ (n : ℕ). every n (λ q. copy_right form_value a.file (copy_in a.file q a.row.now))) e
+    every_more _ l.q l.invariant (found (goal.at.loop-q-preserved c).After-copy_right ∙ c.if-not-copy_right.false)

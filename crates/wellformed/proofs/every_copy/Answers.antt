@@ -39,16 +39,10 @@ row_size-size-requires c = let h = header c.requires.0.header in (omega (arith, 
 
 pub loop-k-init : goal.loop-k-init
 unfolding every
-loop-k-init c = (omega arith, refl)
-
-pub overflow_add-k : goal.overflow_add-k
-overflow_add-k c = omega (arith, c.loop-k-test.true)
+loop-k-init c = refl
 
 pub row_at-row-requires : goal.row_at-row-requires
 row_at-row-requires c = (c.requires.0, size_is (goal.at.row_at-row-requires c).After-row_size-size, within c)
-
-pub overflow_add-k-in-loop-k : goal.overflow_add-k-in-loop-k
-overflow_add-k-in-loop-k c = omega (arith, c.loop-k-test.true)
 
 pub copies_right-requires : goal.copies_right-requires
 copies_right-requires c = (
@@ -60,17 +54,14 @@ pub returns-then-not-copies_right : goal.returns-then-not-copies_right
 unfolding copies
 returns-then-not-copies_right c = every-not _ _ (c.loop-k.k + 1) (within (goal.at.returns-then-not-copies_right c).In-loop-k) (found (goal.at.returns-then-not-copies_right c).After-copies_right ∙ c.if-not-copies_right.true)
 
-pub loop-k-smaller : goal.loop-k-smaller
-loop-k-smaller c = omega (arith, c.loop-k-test.true)
-
 pub loop-k-preserved : goal.loop-k-preserved
 loop-k-preserved c =
     let l = c.loop-k in
-    (omega (arith, c.loop-k-test.true), every_more _ l.k l.invariant.1 (found (goal.at.loop-k-preserved c).After-copies_right ∙ c.if-not-copies_right.false))
+    every_more _ l.k l.invariant (found (goal.at.loop-k-preserved c).After-copies_right ∙ c.if-not-copies_right.false)
 
 pub returns : goal.returns
 unfolding copies
 returns c =
     let t = c.args.t.now in
-    let e : c.loop-k.k ≡ used_of t = omega (arith, c.loop-k-test.false, c.loop-k.invariant.0, c.used-used.ensures) in
-    sym c.loop-k.invariant.1 ∙ ap (λ (n : ℕ). every n (copies t)) e
+    let e : c.loop-k.k ≡ used_of t = omega (arith, c.loop-k-test.false, c.loop-k.auto.k-end, c.used-used.ensures) in
+    sym c.loop-k.invariant ∙ ap (λ (n : ℕ). every n (copies t)) e

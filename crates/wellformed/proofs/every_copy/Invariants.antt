@@ -1,12 +1,8 @@
-use Rattle.wellformed.proofs.RowLaws.{copies}
-use Rattle.sets.specs.Upto.{every}
-use Prim.Native.Nat.{◌-◌, ◌≤◌}
 use mathlib.Core.Path.{◌≡◌}
 use mathlib.Core.Bool.{true}
+use Rattle.sets.specs.Upto.{every}
+use Rattle.wellformed.proofs.RowLaws.{copies}
 use Rattle.wellformed.proofs.every_copy.Given as goal
 
 abbrev pub invariant-loop-k : goal.invariant-loop-k
-invariant-loop-k l = (l.k ≤ l.used) × (every l.k (copies l.t) ≡ true)
-
-abbrev pub decreases-loop-k : goal.decreases-loop-k
-decreases-loop-k l = l.used - l.k
+invariant-loop-k l = every l.k (copies l.t) ≡ true

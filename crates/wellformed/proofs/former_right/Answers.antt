@@ -1,6 +1,6 @@
 use Rattle.wellformed.proofs.RowLaws.{former-is, third-long, head-no, head-yes}
 use Rattle.table.proofs.WellFormedLaws.{header, few-rows, long}
-use Rattle.table.specs.WellFormed.{head_right, copy_right, row_right}
+use Rattle.table.specs.WellFormed.{head_right, copy_right}
 use Rattle.fields.specs.Layout.{form_of, used_of, file_length_of, row_bytes}
 use Rattle.sets.proofs.TestLaws.{every_more, every-not}
 use Rattle.sets.specs.Upto.{Within, every}
@@ -44,10 +44,7 @@ file_length-file-requires c = long c.requires.0
 
 pub loop-k-init : goal.loop-k-init
 unfolding every
-loop-k-init c = (omega arith, refl)
-
-pub row_of-row-requires : goal.row_of-row-requires
-row_of-row-requires c = (c.requires.0, within c)
+loop-k-init c = refl
 
 pub former_head_right-requires : goal.former_head_right-requires
 former_head_right-requires c =
@@ -71,15 +68,6 @@ returns-then-not-former_copy_right c =
 
 pub loop-k-preserved : goal.loop-k-preserved
 loop-k-preserved c =
-    let l = c.loop-k in (
-      omega (arith, c.loop-k-test.true),
-      every_more _ l.k l.invariant.1
-          (head-yes _ _ (former-is _ _ (old (goal.at.loop-k-preserved c).In-loop-k)) (head-found (goal.at.loop-k-preserved c).After-former_head_right ∙ c.if-not-former_head_right.false) ∙ copy-found (goal.at.loop-k-preserved c).After-former_copy_right ∙ c.if-not-former_copy_right.false),
-    )
-
-pub returns : goal.returns
-returns c =
     let l = c.loop-k in
-    let t = c.args.t.now in
-    let e : l.k ≡ used_of t = omega (arith, c.loop-k-test.false, c.used-used.ensures) in
-    sym l.invariant.1 ∙ ap (λ (n : ℕ). every n (row_right t)) e
+    every_more _ l.k l.invariant
+    (head-yes _ _ (former-is _ _ (old (goal.at.loop-k-preserved c).In-loop-k)) (head-found (goal.at.loop-k-preserved c).After-former_head_right ∙ c.if-not-former_head_right.false) ∙ copy-found (goal.at.loop-k-preserved c).After-former_copy_right ∙ c.if-not-former_copy_right.false)

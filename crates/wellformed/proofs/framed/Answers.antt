@@ -12,24 +12,12 @@ chain-right : (c : Else-not-follow) → let t = c.args.t.now in
     (visits_each t && names_rise t) ≡ true
 chain-right c = sym c.follow.ensures.0 ∙ c.if-not-follow.false
 
-pub follow-requires : goal.follow-requires
-follow-requires c = c.requires
-
 pub returns-then-not-follow : goal.returns-then-not-follow
 returns-then-not-follow c = (by_chain _ c.requires (sym c.follow.ensures.0 ∙ c.if-not-follow.true), λ e. absurd (clash e), c.follow.ensures.2, inr refl)
-
-pub group-requires : goal.group-requires
-group-requires c = c.requires
-
-pub lists_right-requires : goal.lists_right-requires
-lists_right-requires c = (c.requires.sized, c.group.ensures)
 
 pub returns-then-not-lists_right : goal.returns-then-not-lists_right
 returns-then-not-lists_right c =
     (by-lists _ c.requires (chain-right (goal.at.returns-then-not-lists_right c).Else-not-follow) (sym c.lists_right.ensures ∙ c.if-not-lists_right.true), λ z. absurd (clash z), c.follow.ensures.2, inl c.group.ensures)
-
-pub unused_zero-requires : goal.unused_zero-requires
-unused_zero-requires c = c.requires.sized
 
 pub returns : goal.returns
 returns c = (

@@ -53,7 +53,7 @@ unfolding head copies form_value
 rows-here c =
     let t = c.args.t.now in
     let e : form_of t ≡ form_value = sym c.form.ensures ∙ c.if-form-ne-FORM.false in
-    rows-by t e true _ (straight-heads t e (rw (lent-all t) at (c.look.ensures c.if-look.true).0)) (sym (rw (lent-all t) at c.every_copy.ensures))
+    rows-by t (late t e) true _ (straight-heads t e (rw (lent-all t) at (c.look.ensures c.if-look.true).0)) (sym (rw (lent-all t) at c.every_copy.ensures))
 
 linked-here : (c : Else-not-every_copy) → every (used_of c.args.t.now) (row_right c.args.t.now) ≡ c.every_copy.result → Linked c.args.t.now
 linked-here c rows = record { sized = sized-by _ (sym c.sized.ensures ∙ c.if-not-sized.false); rows = rows ∙ c.if-not-every_copy.false }
@@ -63,7 +63,7 @@ rows-asked : (c : After-every_copy-2) → every (used_of c.args.t.now) (row_righ
 unfolding head copies form_value
 rows-asked c =
     let t = c.args.t.now in
-    rows-by t (sym c.form.ensures ∙ c.if-form-ne-FORM.false) true _ (sym (rw (lent-all t) at c.every_head.ensures) ∙ c.if-not-every_head.false) (sym (rw (lent-all t) at c.every_copy-2.ensures))
+    rows-by t (late t (sym c.form.ensures ∙ c.if-form-ne-FORM.false)) true _ (sym (rw (lent-all t) at c.every_head.ensures) ∙ c.if-not-every_head.false) (sym (rw (lent-all t) at c.every_copy-2.ensures))
 
 linked-then : (c : Else-not-every_copy-2) → every (used_of c.args.t.now) (row_right c.args.t.now) ≡ c.every_copy-2.result → Linked c.args.t.now
 linked-then c rows = record { sized = sized-by _ (sym c.sized.ensures ∙ c.if-not-sized.false); rows = rows ∙ c.if-not-every_copy-2.false }
@@ -82,12 +82,6 @@ returns-then-form-ne-FORM c =
     let d : form_of c.args.t.now ≡ form_value → ⊥ = λ q. c.if-form-ne-FORM.true (c.form.ensures ∙ q) in
     (by-former _ d, λ z. absurd (clash z), left-former _ _ d, inr refl)
 
-pub look-requires : goal.look-requires
-look-requires c = rw (lent-all _) (sized-here (goal.at.look-requires c).Else-not-sized, late _ (newest-here (goal.at.look-requires c).Else-form-ne-FORM))
-
-pub every_copy-requires : goal.every_copy-requires
-every_copy-requires c = rw (lent-all _) (sized-here (goal.at.every_copy-requires c).Else-not-sized, late _ (newest-here (goal.at.every_copy-requires c).Else-form-ne-FORM))
-
 pub returns-then-not-every_copy : goal.returns-then-not-every_copy
 returns-then-not-every_copy c =
     let w = rows-here (goal.at.returns-then-not-every_copy c).After-every_copy ∙ c.if-not-every_copy.true in
@@ -98,9 +92,6 @@ used-requires c = rw (lent-all _) (long (linked-here (goal.at.used-requires c).E
 
 pub number-requires : goal.number-requires
 number-requires c = let e = rw (lent-all _) at c.used.ensures in omega (arith, e, few-rows (linked-here (goal.at.number-requires c).Else-not-every_copy (rows-here (goal.at.number-requires c).After-every_copy)).sized)
-
-pub unused_zero-requires : goal.unused_zero-requires
-unused_zero-requires c = rw (lent-all _) (linked-here (goal.at.unused_zero-requires c).Else-not-every_copy (rows-here (goal.at.unused_zero-requires c).After-every_copy)).sized
 
 pub returns-then-look : goal.returns-then-look
 returns-then-look c =
@@ -113,17 +104,11 @@ returns-then-look c =
     let g = rw (lent-all t) at (c.look.ensures c.if-look.true).1 in
     (y, λ z. record { formed = sym y ∙ z; ordered = rw o (numbered-order l s a.order.now c.number.ensures.0); grouped = g }, o ∙ numbered-left l s a.order.now c.number.ensures.0 ∙ left-linked _ _ l (newest-here (goal.at.returns-then-look c).Else-form-ne-FORM), inl g)
 
-pub every_head-requires : goal.every_head-requires
-every_head-requires c = rw (lent-all _) (sized-here (goal.at.every_head-requires c).Else-not-sized, newest-here (goal.at.every_head-requires c).Else-form-ne-FORM)
-
 pub returns-then-not-every_head : goal.returns-then-not-every_head
 unfolding head
 returns-then-not-every_head c =
-    let w = rows-by _ (newest-here (goal.at.returns-then-not-every_head c).Else-form-ne-FORM) false _ (sym (rw (lent-all _) at c.every_head.ensures) ∙ c.if-not-every_head.true) refl in
+    let w = rows-by _ (late _ (newest-here (goal.at.returns-then-not-every_head c).Else-form-ne-FORM)) false _ (sym (rw (lent-all _) at c.every_head.ensures) ∙ c.if-not-every_head.true) refl in
     (by-own _ (by_rows _ (sized-here (goal.at.returns-then-not-every_head c).Else-not-sized) w), λ z. absurd (clash z), left-wrong _ _ w, inr refl)
-
-pub every_copy-requires-2 : goal.every_copy-requires-2
-every_copy-requires-2 c = rw (lent-all _) (sized-here (goal.at.every_copy-requires-2 c).Else-not-sized, late _ (newest-here (goal.at.every_copy-requires-2 c).Else-form-ne-FORM))
 
 pub returns-then-not-every_copy-2 : goal.returns-then-not-every_copy-2
 returns-then-not-every_copy-2 c =

@@ -11,15 +11,5 @@ sized-here c = sized-by _ (sym c.sized.ensures ∙ c.if-not-sized.false)
 pub returns-then-not-sized : goal.returns-then-not-sized
 returns-then-not-sized c = by_size _ (sym c.sized.ensures ∙ c.if-not-sized.true)
 
-pub rows_right-requires : goal.rows_right-requires
-rows_right-requires c = sized-here c
-
 pub returns-then-not-rows_right : goal.returns-then-not-rows_right
 returns-then-not-rows_right c = by_rows _ (sized-here (goal.at.returns-then-not-rows_right c).Else-not-sized) (sym c.rows_right.ensures ∙ c.if-not-rows_right.true)
-
-pub framed-requires : goal.framed-requires
-framed-requires c =
-    record { sized = sized-here (goal.at.framed-requires c).Else-not-sized; rows = sym c.rows_right.ensures ∙ c.if-not-rows_right.false }
-
-pub returns : goal.returns
-returns c = c.framed.ensures.0

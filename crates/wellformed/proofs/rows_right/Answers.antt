@@ -1,35 +1,24 @@
-use Rattle.wellformed.proofs.RowLaws.{head, copies, rows_are}
-use Rattle.table.proofs.WellFormedLaws.{long, header}
-use Rattle.fields.specs.Layout.{form_value}
+use mathlib.Core.Bool.{true, false}
+use mathlib.Core.Path.{refl, sym, ◌∙◌}
+use Prim.Native.Nat.{◌≤◌}
 use native.Mathlib.Omega.{arith}
-use mathlib.Core.Bool.{Bool, ◌&&◌}
-use mathlib.Core.Path.{sym, ◌∙◌, ap₂}
+use Rattle.table.proofs.WellFormedLaws.{long}
+use Rattle.fields.specs.Layout.{form_of}
+use Rattle.wellformed.proofs.RowLaws.{head, copies, rows-by}
+use Rattle.wellformed.proofs.rows_right.Goals.{Else-form-lt-WITH_FILES}
 use Rattle.wellformed.proofs.rows_right.Goals as goal
 
-pub form-form-requires : goal.form-form-requires
-form-form-requires c = long c.requires
+-- files came
+late : (c : Else-form-lt-WITH_FILES) → 4 ≤ form_of c.args.t.now
+late c = omega (arith, c.form.ensures, c.if-form-lt-WITH_FILES.false)
 
-pub former_right-requires : goal.former_right-requires
-former_right-requires c = (c.requires, omega (arith, c.form-form.ensures, c.if-form-lt-WITH_FILES.true))
+pub form-requires : goal.form-requires
+form-requires c = long c.requires
 
-pub every_head-requires : goal.every_head-requires
-unfolding form_value
-every_head-requires c = (c.requires, sym c.form-form.ensures ∙ c.if-form-eq-FORM.true)
-
-pub every_copy-requires : goal.every_copy-requires
-every_copy-requires c = (c.requires, omega (arith, c.form-form.ensures, c.if-form-lt-WITH_FILES.false))
-
-pub returns-then-form-eq-FORM : goal.returns-then-form-eq-FORM
+pub returns-then-every_head : goal.returns-then-every_head
 unfolding head copies
-returns-then-form-eq-FORM c = c.both.ensures ∙ ap₂ (λ (a b : Bool). a && b) c.every_head.ensures c.every_copy.ensures ∙ rows_are _ (omega (arith, c.form-form.ensures, c.if-form-lt-WITH_FILES.false))
+returns-then-every_head c = sym (rows-by _ (late (goal.at.returns-then-every_head c).Else-form-lt-WITH_FILES) true _ (sym c.every_head.ensures ∙ c.if-every_head.true) (sym c.every_copy.ensures))
 
-pub every_former_head-requires : goal.every_former_head-requires
-unfolding form_value
-every_former_head-requires c = (c.requires, omega (arith, c.form-form.ensures, c.if-form-eq-FORM.false, (header c.requires.header).form))
-
-pub every_copy-requires-2 : goal.every_copy-requires-2
-every_copy-requires-2 c = (c.requires, omega (arith, c.form-form.ensures, c.if-form-lt-WITH_FILES.false))
-
-pub returns : goal.returns
-unfolding head copies
-returns c = c.both-2.ensures ∙ ap₂ (λ (a b : Bool). a && b) c.every_former_head.ensures c.every_copy-2.ensures ∙ rows_are _ (omega (arith, c.form-form.ensures, c.if-form-lt-WITH_FILES.false))
+pub returns-else-every_head : goal.returns-else-every_head
+unfolding head
+returns-else-every_head c = c.if-every_head.false ∙ sym (rows-by _ (late (goal.at.returns-else-every_head c).Else-form-lt-WITH_FILES) false _ (sym c.every_head.ensures ∙ c.if-every_head.false) refl)
