@@ -7,10 +7,13 @@ use native.Mathlib.Nat.{pow-suc}
 use native.Mathlib.Omega.{arith}
 use lib.Dec.{eqb, leb}
 use lib.ListN.{length}
-use borrow.Author.Tests.{eq-eqb, eqb-true, eqb-false, ne_eqb}
+use borrow.Author.Tests.{le-leb, eq-eqb, eqb-true, eqb-false, ne_eqb}
 use Rattle.sets.specs.Upto.{Within, count}
 use Rattle.sets.specs.Sets.{has}
 use Rattle.sets.proofs.SetLaws.{has-pushed}
+use Rattle.quorums.specs.declared.Kind.{Kind}
+use Rattle.quorums.specs.declared.Kind.TheVariants.{Read, Write}
+use Rattle.quorums.specs.Codes.{code_of}
 use Rattle.octets.specs.Bytes.{bytes_of, put}
 use Rattle.octets.proofs.ByteLaws.{length-bytes, put_all}
 use Rattle.table.specs.WellFormed.{well_formed}
@@ -52,6 +55,16 @@ number_is (suc n) s h =
     next (suc k) w =
         let b : suc (suc k) - 1 ≡ suc k = omega arith in
         ap (λ (f : ℕ → Bool). f (suc (suc k))) pushed ∙ rw (ne_eqb (suc (suc k)) 1 (λ z. omega arith), b)
+
+-- ---- a kind and its number
+pub kind-is : (k : Kind) (n : ℕ) → code_of k ≡ n → kind_of n ≡ k
+unfolding kind_of
+kind-is Read n e = rw (eq-eqb n 0 (sym e))
+kind-is Write n e = rw (ne_eqb n 0 (λ z. omega (arith, e)))
+
+pub kind-low : (k : Kind) (n : ℕ) → code_of k ≡ n → leb n 1 ≡ true
+kind-low Read n e = le-leb n 1 (omega (arith, e))
+kind-low Write n e = le-leb n 1 (omega (arith, e))
 
 -- ---- the call by the answers to its questions
 abbrev refused_by : ℕ → List ℕ → Chosen

@@ -23,8 +23,9 @@ pub fn choice(t: &[u8], c: usize, kind: u64, set: &mut [u8]) -> Result<u32, Refu
     if !values::between(1, c, used) {
         return Err(Refusal::UnknownRow);
     }
-    let Ok(kind) = Kind::try_from(kind) else {
-        return Err(Refusal::WrongRange);
+    let kind = match Kind::try_from(kind) {
+        Ok(kind) => kind,
+        Err(_) => return Err(Refusal::WrongRange),
     };
     if set.len() != 8 {
         return Err(Refusal::WrongSpace);

@@ -9,6 +9,8 @@ ghost use Rattle.ordering.specs.Rounds.{round_in};
 ghost use Rattle.telling.specs.Notices.{noticed};
 ghost use Rattle.protocol.specs.Calls.{founding, join, read, write, send, check, carry, result_of, outcome};
 
+use asking::number;
+
 // The number of this interface: it rises with every change of a signature, so that header and archive can be compared.
 #[unsafe(no_mangle)]
 pub extern "C" fn grid_interface() -> u64
@@ -31,14 +33,15 @@ pub extern "C" fn grid_found(
 {
     let rows = capacity as usize;
     let long = file as usize;
-    founding::found(table, rows, long, names, choice, files as usize, counties)
+    let answer = founding::found(table, rows, long, names, choice, files as usize, counties);
+    number(answer)
 }
 
 #[unsafe(no_mangle)]
 pub extern "C" fn grid_join(table: &mut [u8], name: u16, county: u64) -> u64
     ensures { (let o = outcome table.old (join (record { name = name; county = county })) in (result ≡ result_of o) × (table.new ≡ o.table)) }
 {
-    joins::join(table, name, county)
+    number(joins::join(table, name, county))
 }
 
 #[unsafe(no_mangle)]
@@ -57,7 +60,8 @@ pub extern "C" fn grid_read(
     let reader = coordinator as usize;
     let from = offset as usize;
     let count = length as usize;
-    reads::read(table, reader, answering, from, count, buffer, called, file)
+    let answer = reads::read(table, reader, answering, from, count, buffer, called, file);
+    number(answer)
 }
 
 #[unsafe(no_mangle)]
@@ -76,9 +80,10 @@ pub extern "C" fn grid_write(
 {
     let writer = coordinator as usize;
     let to = offset as usize;
-    writes::write(
+    let answer = writes::write(
         table, writer, answering, to, patch, called, file, sheet, club,
-    )
+    );
+    number(answer)
 }
 
 // A list of orders, 16 bytes each.
@@ -91,14 +96,15 @@ pub extern "C" fn grid_round(
 ) -> u64
     ensures { (let o = round_in table.old sheet.old answering orders.now in (result ≡ result_number o.refusal o.value) × (table.new ≡ o.table) × (orders.now ≡ orders.now) × (sheet.new ≡ o.sheet)) }
 {
-    rounds::round_in(table, answering, orders, sheet)
+    rounds::number(rounds::round_in(table, answering, orders, sheet))
 }
 
 #[unsafe(no_mangle)]
 pub extern "C" fn grid_send(table: &mut [u8], from: u64, to: u64, answering: u64, file: u64) -> u64
     ensures { (let o = outcome table.old (send (record { f = from; t = to; r = answering; file = file })) in (result ≡ result_of o) × (table.new ≡ o.table)) }
 {
-    sends::send(table, from as usize, to as usize, answering, file)
+    let answer = sends::send(table, from as usize, to as usize, answering, file);
+    number(answer)
 }
 
 #[unsafe(no_mangle)]
@@ -110,7 +116,8 @@ pub extern "C" fn grid_check(
 ) -> u64
     ensures { (let o = outcome table.old (check (record { c = coordinator; r = answering; sheet = sheet.old })) in (result ≡ result_of o) × (table.new ≡ o.table) × (sheet.new ≡ o.sheet)) }
 {
-    checks::check(table, coordinator as usize, answering, sheet)
+    let answer = checks::check(table, coordinator as usize, answering, sheet);
+    number(answer)
 }
 
 // A table carried over to another form, into a second buffer.
@@ -118,14 +125,14 @@ pub extern "C" fn grid_check(
 pub extern "C" fn grid_move(table: &[u8], form: u64, new: &mut [u8]) -> u64
     ensures { (let o = outcome table.now (carry (record { form = form; dest = new.old })) in (result ≡ result_of o) × (table.now ≡ o.table) × (new.new ≡ o.buffer)) }
 {
-    moves::carry(table, form, new)
+    number(moves::carry(table, form, new))
 }
 
 #[unsafe(no_mangle)]
 pub extern "C" fn grid_chart(length: u64, mark: u64, list: &mut [u8]) -> u64
     ensures { (let o = charted length mark list.old in (result ≡ result_number o.refusal o.value) × (list.new ≡ o.list)) }
 {
-    charts::chart(length, mark, list)
+    number(charts::chart(length, mark, list))
 }
 
 // The set that a coordinator calls first.
@@ -133,7 +140,8 @@ pub extern "C" fn grid_chart(length: u64, mark: u64, list: &mut [u8]) -> u64
 pub extern "C" fn grid_choice(table: &[u8], coordinator: u64, kind: u64, set: &mut [u8]) -> u64
     ensures { (let o = chosen table.now coordinator kind set.old in (result ≡ result_number o.refusal o.value) × (table.now ≡ table.now) × (set.new ≡ o.set)) }
 {
-    choices::choice(table, coordinator as usize, kind, set)
+    let answer = choices::choice(table, coordinator as usize, kind, set);
+    number(answer)
 }
 
 // A refusal told in one sentence.
@@ -141,5 +149,5 @@ pub extern "C" fn grid_choice(table: &[u8], coordinator: u64, kind: u64, set: &m
 pub extern "C" fn grid_notice(call: u64, name: u16, number: u32, buffer: &mut [u8]) -> u64
     ensures { (let o = noticed call name number buffer.old in (result ≡ result_number o.refusal o.value) × (buffer.new ≡ o.buffer)) }
 {
-    notices::notice(call, name, number, buffer)
+    asking::number(notices::notice(call, name, number, buffer))
 }

@@ -26,7 +26,13 @@ fn bytes_in(count: u8) -> usize
 }
 
 // One order more: where the round stands then, or why it ends.
-pub fn next(t: &mut [u8], sheet: &mut [u8], r: u64, o: Order, s: Standing) -> Result<Standing, Refusal>
+pub fn next(
+    t: &mut [u8],
+    sheet: &mut [u8],
+    r: u64,
+    o: Order,
+    s: Standing,
+) -> Result<Standing, Refusal>
     requires { Stands t.old sheet.old s }
     ensures made { record { result = turned s.turn.done result; table = t.new; sheet = sheet.new } ≡ turn r (record { result = s.turn.done; table = t.old; sheet = sheet.old }) o }
     ensures ready { IfOk result (λ next. (next.turn.done ≡ s.turn.done + 1) × Stands t.new sheet.new next) }

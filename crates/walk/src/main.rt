@@ -1,14 +1,14 @@
 // The walk: four machines, seven calls; each line says step, call, refusal number and value.
 #![tactic(auto)]
 
+use asking::Refusal;
 use std::io;
 
-fn line(rt: &HostRuntime, step: u64, call: &str, res: u64) -> io::Result<()> {
-    println!(rt;
-        "{step} {call} {} {}",
-        res / 4_294_967_296,
-        res % 4_294_967_296
-    )
+fn line(rt: &HostRuntime, step: u64, call: &str, answer: Result<u32, Refusal>) -> io::Result<()> {
+    match answer {
+        Ok(value) => println!(rt; "{step} {call} 0 {value}"),
+        Err(refusal) => println!(rt; "{step} {call} {} 0", refusal.number()),
+    }
 }
 
 // Rows in answering sets count from the right: row 1 is the last digit.

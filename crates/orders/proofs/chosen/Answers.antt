@@ -11,8 +11,7 @@ use Rattle.fields.specs.Layout.{used_of}
 use Rattle.table.specs.WellFormed.{between}
 use Rattle.table.proofs.WellFormedLaws.{sized, long}
 use Rattle.settle.specs.Works.{Known}
-use Rattle.settle.proofs.SettleLaws.{known-none}
-use Rattle.orders.proofs.ChoiceLaws.{own-choice}
+use Rattle.settle.proofs.SettleLaws.{choice-of, known-none}
 use Rattle.orders.proofs.OrderLaws.{kept_more}
 use Rattle.orders.proofs.chosen.Goals.{Else-not-both}
 use Rattle.orders.proofs.chosen.Goals as goal
@@ -59,5 +58,5 @@ bounds-choices-k-2 c = omega (arith, inside (goal.at.bounds-choices-k-2 c).Else-
 
 pub returns : goal.returns
 returns c =
-    let k : Known Write c.args.t.now c.args.c c.choice-made.result.bits = record { chosen = λ d. c.choice-made.ensures ∙ own-choice Write c.args.c _ _ c.requires.0 c.row_of-row.ensures.0 c.list.ensures c.name.ensures } in
+    let k : Known Write c.args.t.now c.args.c c.choice-made.result.bits = record { chosen = λ d. c.choice-made.ensures ∙ choice-of Write c.args.c _ _ c.requires.0 c.row_of-row.ensures.0 c.list.ensures c.name.ensures } in
     (k, kept_more _ _ c.args.c _ (inside (goal.at.returns c).Else-not-both).0.0 (inside (goal.at.returns c).Else-not-both).1 k c.requires.1)

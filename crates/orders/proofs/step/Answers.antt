@@ -71,7 +71,9 @@ returns-clause-ready c =
     let p = goal.at.returns-clause-ready c in
     let k = p.In_ok-answer in
     let a = c.args in
-    let y = c.requires in
-    (refl, subst₂ (λ (v : List ℕ) (m : ℕ). Ready c.answer.new.t v a.frame.now (record { done = a.turn.done + 1; left = m }) c.chosen-known.new.choices) (sym c.count_one.ensures) (sym c.left_after-left.ensures)
-        (ready-after a.t.now a.frame.now (writing a.c a.r a.offset a.patch.now a.file a.sheet.now a.club) _ _ a.turn _ (made k).0 (made k).1 (small k) (low p.Else-turn-eq64)
-        (record { framed = y.framed; right = y.right; few = y.few; spare = y.spare; kept = c.chosen-known.ensures.1 })))
+    let y = c.requires in (
+      refl,
+      subst₂ (λ (v : List ℕ) (m : ℕ). Ready c.answer.new.t v a.frame.now (record { done = a.turn.done + 1; left = m }) c.chosen-known.new.choices) (sym c.count_one.ensures) (sym c.left_after-left.ensures)
+          (ready-after a.t.now a.frame.now (writing a.c a.r a.offset a.patch.now a.file a.sheet.now a.club) _ _ a.turn _ (made k).0 (made k).1 (small k) (low p.Else-turn-eq64)
+          (record { framed = y.framed; right = y.right; few = y.few; spare = y.spare; kept = c.chosen-known.ensures.1 })),
+    )

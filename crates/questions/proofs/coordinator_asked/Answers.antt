@@ -18,8 +18,9 @@ unused c =
     let u = c.used-used.ensures in
     let x : between 1 a.c (used_of a.t.now) ≡ c.between.result = sym (c.between.ensures ∙ ap (between 1 a.c) u) in
     elim c.if-between.branch [
-        then-between w ↦ rw (x, w.if-between.true) (sym (w.only_rows.ensures ∙ ap (λ (n : ℕ). only_rows n a.answering.bits) u) ∙ sym w.value-is ∙ c.if-not-only_rows.true)
-      | else-between w ↦ rw (x, w.if-between.false) refl ]
+      | then-between w ↦ rw (x, w.if-between.true) (sym (w.only_rows.ensures ∙ ap (λ (n : ℕ). only_rows n a.answering.bits) u) ∙ sym w.value-is ∙ c.if-not-only_rows.true)
+      | else-between w ↦ rw (x, w.if-between.false) refl
+    ]
 
 used : (c : Else-not-only_rows) → let a = c.args in (is_used a.t.now a.c && only_rows (used_of a.t.now) a.answering.bits) ≡ true
 unfolding is_used
@@ -28,8 +29,9 @@ used c =
     let u = c.used-used.ensures in
     let x : between 1 a.c (used_of a.t.now) ≡ c.between.result = sym (c.between.ensures ∙ ap (between 1 a.c) u) in
     elim c.if-between.branch [
-        then-between w ↦ rw (x, w.if-between.true) (sym (w.only_rows.ensures ∙ ap (λ (n : ℕ). only_rows n a.answering.bits) u) ∙ sym w.value-is ∙ c.if-not-only_rows.false)
-      | else-between w ↦ rw (x, w.if-between.false) (sym w.if-between.false ∙ sym w.value-is ∙ c.if-not-only_rows.false) ]
+      | then-between w ↦ rw (x, w.if-between.true) (sym (w.only_rows.ensures ∙ ap (λ (n : ℕ). only_rows n a.answering.bits) u) ∙ sym w.value-is ∙ c.if-not-only_rows.false)
+      | else-between w ↦ rw (x, w.if-between.false) (sym w.if-between.false ∙ sym w.value-is ∙ c.if-not-only_rows.false)
+    ]
 
 pub used-used-requires : goal.used-used-requires
 used-used-requires c = long (sized c.requires)

@@ -27,8 +27,9 @@ reading c r offset count buffer called file = record { c = c; r = r; offset = of
 not-fitting : (c : Joined-then-buffer-count) (list : List ℕ) → c.args.fits ≡ eqb (length list) 1 → (eqb (length c.args.buffer.now) c.args.count && eqb (length list) 1) ≡ false
 not-fitting c list e = let a = c.args in
     elim c.then-buffer-count.branch [
-        then-buffer-count-via-then-buffer-count w ↦ rw (ne_eqb (length a.buffer.now) a.count w.if-buffer-count.true)
-      | then-buffer-count-via-else-buffer-count+then-not-fits w ↦ rw (eq-eqb (length a.buffer.now) a.count w.if-buffer-count.false) (sym e ∙ w.if-not-fits.true) ]
+      | then-buffer-count-via-then-buffer-count w ↦ rw (ne_eqb (length a.buffer.now) a.count w.if-buffer-count.true)
+      | then-buffer-count-via-else-buffer-count+then-not-fits w ↦ rw (eq-eqb (length a.buffer.now) a.count w.if-buffer-count.false) (sym e ∙ w.if-not-fits.true)
+    ]
 
 -- 5 is passed
 fitting : (c : Else-not-fits) (list : List ℕ) → c.args.fits ≡ eqb (length list) 1 → (eqb (length c.args.buffer.now) c.args.count && eqb (length list) 1) ≡ true
