@@ -1,5 +1,5 @@
 // A row of a table, its head and its copies: the offsets of their fields.
-#![tactic(auto)]
+#![tactic(auto, unfolding(crate::specs::Layout::get, crate::specs::Layout::store, crate::specs::Layout::name, crate::specs::Layout::link, crate::specs::Layout::mark, crate::specs::Layout::version, crate::specs::Layout::desired, crate::specs::Layout::epoch, crate::specs::Layout::members, crate::specs::Layout::grid_mark, crate::specs::Layout::county, crate::specs::Layout::oldest, crate::specs::Layout::mark_in, crate::specs::Layout::former_mark, crate::specs::Layout::oldest_in, crate::specs::Layout::former_oldest, crate::specs::Layout::store_list, crate::specs::Layout::is_empty, crate::specs::Layout::is_tall))]
 
 ghost use Rattle.std.specs.Prelude.{◌≡◌, true, ◌+◌, ◌≤◌, eqb, length};
 ghost use Rattle.fields.specs.Layout.{get, store, name, link, mark, version, desired, epoch, members, grid_mark, county, oldest, mark_in, oldest_in, list, store_list, is_empty, is_tall, contents, store_contents};

@@ -85,7 +85,7 @@ impl RowSet {
         self.bits.count_ones() as usize
     }
 
-    // Its lowest member; 0 where it has none.
+    // Its lowest member; 0, which is no row, where it has none.
     pub fn lowest(self) -> usize
         ensures { result ≡ lowest 64 (has self.bits) }
     {
