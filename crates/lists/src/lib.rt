@@ -80,6 +80,7 @@ fn held_straight(count: usize, members: RowSet, set: RowSet) -> RowSet
         return set.cut(all);
     }
     let mut positions = RowSet::EMPTY;
+    // the position of the next member
     let mut k = 0;
     for i in members.cut(all).members() {
         positions = positions.add(k, set.at(i - 1));
