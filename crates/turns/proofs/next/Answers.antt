@@ -7,7 +7,6 @@ use Rattle.std.proofs.lemmas.Result.{err_from_is_err_and}
 use Rattle.table.proofs.WellFormedLaws.{sized, long}
 use Rattle.grouping.specs.Grouped.{Framed}
 use Rattle.grouping.proofs.FrameLaws.{frame-of, listed-of}
-use Rattle.protocol.specs.Calls.{Writing}
 use Rattle.ordering.specs.Rounds.{patch_of, writing}
 use Rattle.orders.specs.Turns.{Run, stepped, turn}
 use Rattle.orders.proofs.OrderLaws.{run, step-framed}
