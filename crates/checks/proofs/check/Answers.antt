@@ -3,7 +3,7 @@ use mathlib.Core.Bool.{Bool, true, ◌&&◌}
 use mathlib.Core.List.{List, []}
 use Prim.Native.Nat.{ℕ}
 use native.Mathlib.Omega.{arith}
-use borrow.Author.Tests.{ltb-true, not-true, not-false}
+use borrow.Author.Tests.{ltb-true}
 use lib.Dec.{ltb}
 use Rattle.std.proofs.lemmas.Result.{err_from_is_err_and}
 use Rattle.quorums.specs.declared.Kind.TheVariants.{Write}
@@ -57,7 +57,7 @@ held c =
 
 -- and 7, of every file
 seven : (c : Else-not-found) → every (files_of c.args.t.now) (λ q. current (answers c.args.t.now q c.args.r) (has c.args.r)) ≡ true
-seven c = sym c.look_through-found.ensures.current ∙ not-false _ c.if-not-found.false
+seven c = sym c.look_through-found.ensures.current ∙ c.if-not-found.false
 
 -- and 8
 room : (c : Else-not-below_limit) → ltb c.judged-v.result.force.epoch limit ≡ true
@@ -122,7 +122,7 @@ unfolding lent_sheet
 returns-then-not-found c =
     let a = c.args in
     let p = goal.at.returns-then-not-found c in
-    let no = check-seven a.t.now (checking a.c a.r a.sheet.now) (right p.Else-not-is_right) (sym c.in_ok-coordinator_asked.ensures) c.judged-v.result c.judged-v.ensures (other p.Else-v-r) (sym (held p.After-held_unless) ∙ c.if-not-held_unless.false) (sym c.look_through-found.ensures.current ∙ not-true _ c.if-not-found.true) in
+    let no = check-seven a.t.now (checking a.c a.r a.sheet.now) (right p.Else-not-is_right) (sym c.in_ok-coordinator_asked.ensures) c.judged-v.result c.judged-v.ensures (other p.Else-v-r) (sym (held p.After-held_unless) ∙ c.if-not-held_unless.false) (sym c.look_through-found.ensures.current ∙ c.if-not-found.true) in
     (no.result, no.table, no.sheet)
 
 pub returns-then-not-below_limit : goal.returns-then-not-below_limit

@@ -94,8 +94,8 @@ rows_are c framed =
 small : (c : After-choice-rows) → c.choice-rows.result.bits < 2 ^ 64
 small c = omega (arith, c.choice-rows.type_inv)
 
-pub overflow_cast-size : goal.overflow_cast-size
-overflow_cast-size c = record { fits = omega (arith, c.size.ensures, count-le 64 (has c.choice-rows.result.bits)) }
+pub overflow_cast-result : goal.overflow_cast-result
+overflow_cast-result c = record { fits = omega (arith, c.size.ensures, count-le 64 (has c.choice-rows.result.bits)) }
 
 pub returns : goal.returns
 returns c =
