@@ -1,8 +1,7 @@
-// Questions in order, by definitions and laws; why a call is refused; the result.
+// Questions in order, by definitions and laws; why a call is refused; an answer as one number.
 #![tactic(auto)]
 
 ghost use Rattle.std.specs.Prelude.{◌≡◌};
-ghost use Rattle.asking.specs.Asking.{result_number};
 ghost use Rattle.asking.specs.Refusals.{refusal_number, answer_number};
 
 // Why a call is refused.
@@ -60,14 +59,7 @@ impl Refusal {
     }
 }
 
-// A result: refusal number times 2^32, plus value.
-pub fn result(refusal: u32, value: u32) -> u64
-    ensures { result ≡ result_number refusal value }
-{
-    refusal as u64 * 4_294_967_296 + value as u64
-}
-
-// An answer as one number, for C: the value of a done call, or 2^32 times the number of the refusal.
+// An answer as one number, for C: refusal number times 2^32, plus value.
 pub fn number(answer: Result<u32, Refusal>) -> u64
     ensures { result ≡ answer_number answer }
 {
