@@ -16,7 +16,8 @@ use Rattle.table.specs.WellFormed.{limit, well_formed}
 use Rattle.table.proofs.WellFormedLaws.{newest, header, sized, long}
 use Rattle.asking.proofs.AskingLaws.{some-number}
 use Rattle.counties.specs.Marks.{laid_now}
-use Rattle.grouping.specs.Grouped.{Framed}
+use Rattle.grouping.specs.declared.Frame.{Frame}
+use Rattle.grouping.specs.Grouped.{county_by, Framed}
 use Rattle.grouping.proofs.GroupLaws.{frame-by}
 use Rattle.grouping.proofs.FrameLaws.{listed-of}
 use Rattle.protocol.specs.Polls.{current, quorum_held}
@@ -150,4 +151,4 @@ returns c =
     let p = goal.at.returns c in
     let l = c.look_through-found in
     let yes = check_done a.t.now (checking a.c a.r a.sheet.now) (right p.Else-not-is_right) (sym c.in_ok-coordinator_asked.ensures) c.judged-v.result c.judged-v.ensures (other p.Else-v-r) (sym (held p.After-held_unless) ∙ c.if-not-held_unless.false) (seven p.Else-not-found) (room p.Else-not-below_limit) l.result l.ensures in
-    (yes.0, rw (← (c.laid_now-list.ensures ∙ ap₂ (λ (b : Bool) (y : ℕ → ℕ). laid_now b y a.r) c.is_tall-tall.ensures (framed p.Else-not-ordered).grouped.county)) c.check_rows.ensures ∙ yes.1, c.clear.ensures ∙ yes.2)
+    (yes.0, rw (← (c.laid_now-list.ensures ∙ ap₂ (λ (b : Bool) (y : ℕ → ℕ). laid_now b y a.r) c.is_tall-tall.ensures (ap (λ (f : Frame). county_by f.counties) c.new-frame.ensures ∙ (framed p.Else-not-ordered).grouped.county))) c.check_rows.ensures ∙ yes.1, c.clear.ensures ∙ yes.2)
