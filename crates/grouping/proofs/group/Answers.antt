@@ -28,13 +28,6 @@ pub row_at-requires : goal.row_at-requires
 row_at-requires c =
     (c.requires.sized, c.row_length-size.ensures, omega (arith, (header c.requires.sized.header).used))
 
-pub county-first-requires : goal.county-first-requires
-county-first-requires c = c.row_at.ensures.1
-
-pub all_in-requires : goal.all_in-requires
-all_in-requires c =
-    (c.requires.sized, c.row_length-size.ensures, c.used-used.ensures)
-
 -- the county of row 1
 first-is : (c : After-county-first) → c.county-first.result ≡ get county (row_bytes c.args.t.now 1)
 first-is c = c.county-first.ensures ∙ ap (get county) c.row_at.ensures.0
@@ -50,15 +43,6 @@ returns-then-all_in c =
 
 pub loop-k-init : goal.loop-k-init
 loop-k-init c = none_filled _
-
-pub overflow_add-k : goal.overflow_add-k
-overflow_add-k c = omega (arith, (turn c).1)
-
-pub row_at-requires-in-loop-k : goal.row_at-requires-in-loop-k
-row_at-requires-in-loop-k c = (c.requires.sized, c.row_length-size.ensures, (turn c).0)
-
-pub county-county-requires : goal.county-county-requires
-county-county-requires c = c.row_at-in-loop-k.ensures.1
 
 pub put-requires : goal.put-requires
 put-requires c =

@@ -8,11 +8,6 @@ use Rattle.grouping.proofs.of_places.Goals as goal
 pub loop-k-init : goal.loop-k-init
 loop-k-init c = none_filled _
 
-pub put-requires : goal.put-requires
-put-requires c =
-    let less = c.loop-k-test.true in
-    (omega (arith, c.requires.0), c.requires.1 c.loop-k.k less)
-
 pub loop-k-preserved : goal.loop-k-preserved
 loop-k-preserved c =
     let k = c.loop-k.k in

@@ -4,7 +4,7 @@ use native.Mathlib.Nat.{mod-eq_of_lt}
 use native.Mathlib.Omega.{arith}
 use lib.ListN.{get_or}
 use Rattle.sets.specs.Sets.{has, gaining}
-use Rattle.grouping.proofs.GroupLaws.{none_more, one_more}
+use Rattle.grouping.proofs.GroupLaws.{one_more}
 use Rattle.grouping.proofs.put.Goals as goal
 
 pub returns-then-county-ne0 : goal.returns-then-county-ne0
@@ -13,6 +13,3 @@ returns-then-county-ne0 c =
     let j = c.args.county - 1 in
     λ y here f. one_more y c.args.k _ f c.requires.0 j c.add-grown.result.bits (omega (arith, c.requires.1)) (here ∙ omega arith)
     (c.add-grown.ensures ∙ ap (λ (x : ℕ). gaining (has (get_or c.args.sets.now j 0)) (x + 1)) (mod-eq_of_lt c.requires.0))
-
-pub returns-else-county-ne0 : goal.returns-else-county-ne0
-returns-else-county-ne0 c = λ y here f. none_more y c.args.k _ f (here ∙ omega (arith, c.if-county-ne0.false))

@@ -15,9 +15,6 @@ pub returns-then-mark-eq0 : goal.returns-then-mark-eq0
 unfolding limit
 returns-then-mark-eq0 c = let a = c.args in unmarked a.mark a.version a.desired c.if-mark-eq0.true (omega (arith, c.if-version-gt-LIMIT.false))
 
-pub returns-then-mark-gt1 : goal.returns-then-mark-gt1
-returns-then-mark-gt1 c = let a = c.args in sym (rw (lt-leb a.mark 1 c.if-mark-gt1.true))
-
 pub returns : goal.returns
 unfolding limit
 returns c =

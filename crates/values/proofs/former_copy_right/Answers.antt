@@ -1,4 +1,4 @@
-use Rattle.values.proofs.CopyLaws.{copy-asked, cut-long, cut-kept}
+use Rattle.values.proofs.CopyLaws.{copy-asked, cut-kept}
 use Rattle.table.specs.WellFormed.{kept_right, copy_right}
 use Rattle.fields.specs.Layout.{spare_in}
 use Rattle.octets.specs.Bytes.{all_zero}
@@ -36,18 +36,6 @@ returns-then-not-copy_numbers c = sym (asked (goal.at.returns-then-not-copy_numb
 
 pub returns-then-form-lt-WITH_RECORDS : goal.returns-then-form-lt-WITH_RECORDS
 returns-then-form-lt-WITH_RECORDS c = sym (asked (goal.at.returns-then-form-lt-WITH_RECORDS c).After-copy_numbers true (c.if-not-copy_numbers.false) ∙ none _ _ _ c.if-form-lt-WITH_RECORDS.true)
-
-pub overflow_add-at : goal.overflow_add-at
-overflow_add-at c = omega (arith, row-long (goal.at.overflow_add-at c).Else-form-lt-WITH_RECORDS)
-
-pub slice_bounds-window_right-count : goal.slice_bounds-window_right-count
-slice_bounds-window_right-count c = omega (arith, row-long (goal.at.slice_bounds-window_right-count c).Else-form-lt-WITH_RECORDS)
-
-pub slice_bounds-window_right-start : goal.slice_bounds-window_right-start
-slice_bounds-window_right-start c = omega (arith, row-long (goal.at.slice_bounds-window_right-start c).Else-form-lt-WITH_RECORDS)
-
-pub window_right-requires : goal.window_right-requires
-window_right-requires c = cut-long c.args.row.now (32 + c.args.file) (row-long (goal.at.window_right-requires c).Else-form-lt-WITH_RECORDS)
 
 pub returns : goal.returns
 returns c =

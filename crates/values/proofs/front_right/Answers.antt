@@ -4,10 +4,6 @@ use Rattle.values.proofs.HeadLaws.{front-asked}
 use Rattle.table.specs.WellFormed.{limit}
 use Rattle.values.proofs.front_right.Goals as goal
 
-pub returns-then-not-between : goal.returns-then-not-between
-returns-then-not-between c =
-    sym (front-asked c.args.n c.args.row.now c.requires.0 c.requires.1 ∙ rw (← c.name.ensures, sym c.between.ensures ∙ c.if-not-between.true))
-
 pub returns-then-n-u64_at : goal.returns-then-n-u64_at
 returns-then-n-u64_at c =
     sym (front-asked c.args.n c.args.row.now c.requires.0 c.requires.1
