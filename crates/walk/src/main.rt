@@ -20,7 +20,7 @@ fn main(rt: HostRuntime) -> io::Result<()> {
     let mut sheet = [0u8; 196];
     sheet[4] = 9;
     sheet[192] = 9;
-    founding::found(
+    let _ = founding::found(
         &mut table,
         4,
         4,
