@@ -4,6 +4,7 @@ use mathlib.Core.List.{List, ◌++◌}
 use Prim.Native.Nat.{ℕ, zero, suc, ◌+◌, ◌-◌, ◌≤◌}
 use native.Mathlib.Omega.{arith}
 use lib.ListN.{length, take, drop}
+use lib.Seq.{take-append_seam}
 use Rattle.sets.specs.Upto.{Within}
 use Rattle.octets.specs.Bytes.{put}
 use Rattle.octets.proofs.CodeLaws.{part-back, part-is, part_length}
@@ -32,3 +33,7 @@ module _ {t : List ℕ} (z : Sized t) (i : ℕ) (w : Within (used_of t) i) (size
   row_back f ys n r =
       part-back at size t ys ys refl (n ∙ cut-length)
       ∙ ap₂ (λ (a : ℕ) (p : List ℕ). put a p t) q (r ∙ ap f row_cut) ∙ sym (with-row t i w.0 f)
+
+-- the front of a page is what was put there
+pub front-is : (xs ys zs : List ℕ) (n : ℕ) → xs ≡ zs → length zs ≡ n → take (n - 0) (xs ++ ys) ≡ zs
+front-is xs ys zs n put-there long = let e : n - 0 ≡ length zs = omega arith in rw (put-there, e) (take-append_seam zs ys)

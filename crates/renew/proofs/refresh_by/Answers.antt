@@ -13,8 +13,7 @@ use Rattle.table.proofs.WellFormedLaws.{header, long}
 use Rattle.window.specs.Windows.{window_of}
 use Rattle.windows.specs.Visits.{RightFor}
 use Rattle.protocol.specs.Rows.{refreshed_copy}
-use Rattle.copying.proofs.CopyLaws.{front-is}
-use Rattle.renew.proofs.PageLaws.{row_fits, cut-length, row_back}
+use Rattle.renew.proofs.PageLaws.{row_fits, cut-length, row_back, front-is}
 use borrow.Author.Rules.{rules}
 use Rattle.renew.proofs.refresh_by.Goals.{After-copy, After-copy_size-copy, After-rows_end-at}
 use Rattle.renew.proofs.refresh_by.Goals as goal
