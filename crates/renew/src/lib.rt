@@ -80,7 +80,7 @@ fn refresh_by(t: &mut [u8], q: usize, from: usize, to: usize, page: &mut [u8])
     let size = table::row_length(t);
     let copy = table::copy_size(header::file_length(t));
     let at = table::rows_end(t, to - 1);
-    copying::copy(&mut page[0..copy], table::copy_of(t, from, q));
+    page[0..copy].copy_from_slice(table::copy_of(t, from, q));
     refresh_row(&mut t[at..at + size], copy, q, &page[0..copy]);
 }
 

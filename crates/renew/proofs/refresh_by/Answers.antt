@@ -15,7 +15,7 @@ use Rattle.windows.specs.Visits.{RightFor}
 use Rattle.protocol.specs.Rows.{refreshed_copy}
 use Rattle.renew.proofs.PageLaws.{row_fits, cut-length, row_back, front-is}
 use borrow.Author.Rules.{rules}
-use Rattle.renew.proofs.refresh_by.Goals.{After-copy, After-copy_size-copy, After-rows_end-at}
+use Rattle.renew.proofs.refresh_by.Goals.{After-copy_from_slice, After-copy_size-copy, After-rows_end-at}
 use Rattle.renew.proofs.refresh_by.Goals as goal
 
 -- a copy that is refreshed by equal numbers and bytes
@@ -43,13 +43,13 @@ copy_size-copy-requires c = let z = c.requires.0 in omega (arith, c.file_length.
 pub rows_end-at-requires : goal.rows_end-at-requires
 rows_end-at-requires c = let p = c.requires in (long p.0, p.0.header, omega (arith, p.4, (header p.0.header).used))
 
-pub slice_bounds-copy-end : goal.slice_bounds-copy-end
-slice_bounds-copy-end c = omega (arith, copy_is (goal.at.slice_bounds-copy-end c).After-copy_size-copy, c.requires.6)
+pub slice_bounds-copy_from_slice-end : goal.slice_bounds-copy_from_slice-end
+slice_bounds-copy_from_slice-end c = omega (arith, copy_is (goal.at.slice_bounds-copy_from_slice-end c).After-copy_size-copy, c.requires.6)
 
-pub copy-requires : goal.copy-requires
-copy-requires c =
-    let n : length (take (c.copy_size-copy.result - 0) c.args.page.now) ≡ c.copy_size-copy.result - 0 = length-take-le (c.copy_size-copy.result - 0) c.args.page.now (omega (arith, copy_is (goal.at.copy-requires c).After-copy_size-copy, c.requires.6)) in
-    omega (arith, n, copy_is (goal.at.copy-requires c).After-copy_size-copy, c.copy_of.ensures.1)
+pub copy_from_slice-requires : goal.copy_from_slice-requires
+copy_from_slice-requires c =
+    let n : length (take (c.copy_size-copy.result - 0) c.args.page.now) ≡ c.copy_size-copy.result - 0 = length-take-le (c.copy_size-copy.result - 0) c.args.page.now (omega (arith, copy_is (goal.at.copy_from_slice-requires c).After-copy_size-copy, c.requires.6)) in
+    omega (arith, n, copy_is (goal.at.copy_from_slice-requires c).After-copy_size-copy, c.copy_of.ensures.1)
 
 pub overflow_add-at : goal.overflow_add-at
 overflow_add-at c = omega (arith, fits (goal.at.overflow_add-at c).After-rows_end-at)
@@ -63,17 +63,17 @@ slice_bounds-refresh_row-end-2 c =
     search rules
 
 -- the sender's copy on the page
-page-is : (c : After-copy) → (xs : List ℕ) → take (c.copy_size-copy.result - 0) (c.copy.new.to ++ xs) ≡ copy_bytes c.args.t.now c.args.q c.args.from
+page-is : (c : After-copy_from_slice) → (xs : List ℕ) → take (c.copy_size-copy.result - 0) (c.copy_from_slice.new.self ++ xs) ≡ copy_bytes c.args.t.now c.args.q c.args.from
 page-is c xs =
     let n : length c.copy_of.result.now ≡ c.copy_size-copy.result = c.copy_of.ensures.1 ∙ sym (c.copy_size-copy.ensures ∙ ap copy_length c.file_length.ensures) in
-    front-is _ _ _ _ c.copy.ensures n ∙ c.copy_of.ensures.0
+    front-is _ _ _ _ c.copy_from_slice.ensures.after n ∙ c.copy_of.ensures.0
 
 pub refresh_row-requires : goal.refresh_row-requires
 refresh_row-requires c =
     let t = c.args.t.now in
     let n : row_length t ≡ 32 + files_of t * copy_length (file_length_of t) = row-newest t c.requires.1 ∙ stride-is (files_of t) (file_length_of t) in
     let m = cut-length c.requires.0 c.args.to c.requires.4 _ _ c.row_length-size.ensures c.rows_end-at.ensures in
-    let page = page-is (goal.at.refresh_row-requires c).After-copy _ in (
+    let page = page-is (goal.at.refresh_row-requires c).After-copy_from_slice _ in (
       c.requires.2.0,
       omega (arith, m, c.row_length-size.ensures, n, ap (λ (x : ℕ). c.args.q * x) (copy_is (goal.at.refresh_row-requires c).After-copy_size-copy), mul-le-mul_right {m = c.args.q} {n = files_of t} (copy_length (file_length_of t)) c.requires.2.1),
       omega (arith, copy_is (goal.at.refresh_row-requires c).After-copy_size-copy, Fields.copy_is (file_length_of t)),
@@ -86,4 +86,4 @@ unfolding in_copy
 returns c =
     let t = c.args.t.now in
     row_back c.requires.0 c.args.to c.requires.4 _ _ c.row_length-size.ensures c.rows_end-at.ensures (in_copy (file_length_of t) c.args.q (refreshed_copy (copy_bytes t c.args.q c.args.from))) _ c.refresh_row.auto.row
-    (alike _ _ _ _ _ _ _ (copy_is (goal.at.returns c).After-copy_size-copy) (page-is (goal.at.returns c).After-copy _) c.refresh_row.ensures)
+    (alike _ _ _ _ _ _ _ (copy_is (goal.at.returns c).After-copy_size-copy) (page-is (goal.at.returns c).After-copy_from_slice _) c.refresh_row.ensures)
