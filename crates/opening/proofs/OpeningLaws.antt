@@ -12,10 +12,8 @@ use Rattle.asking.specs.Asking.{first_no}
 use Rattle.grouping.specs.Grouped.{Framed}
 use Rattle.grouping.proofs.FrameLaws.{frame-of}
 use Rattle.sheet.specs.Sheet.{remainder, all_beyond, sheet_right}
-use Rattle.orders.specs.declared.Turn.{Turn}
-use Rattle.orders.specs.Turns.{first_questions, Ready}
+use Rattle.orders.specs.Turns.{first_questions, Opened}
 use Rattle.orders.proofs.OrderLaws.{kept-none}
-use Rattle.opening.specs.Standings.{frame_in, Opened}
 
 -- ---- what is asked before the first order
 module _ (t s : List ℕ) (r n : ℕ) where
@@ -39,7 +37,3 @@ module _ (t s : List ℕ) (r n : ℕ) where
 pub opened : {t s order sets : List ℕ} (left : ℕ) → Framed t order sets → sheet_right s ≡ true → left ≡ remainder s - all_beyond s
     → Opened t s order sets (record { done = 0; left = left }) (replicate 16 0)
 opened left f right e = record { framed = f; ready = record { framed = frame-of f refl; right = right; few = omega arith; spare = e; kept = kept-none _ } }
-
--- after an order the arrays hold the frame as they did
-pub stands-again : {t u s order sets : List ℕ} {turn : Turn} {choices : List ℕ} → Framed t order sets → Framed u order sets → Ready u s (frame_in t order sets) turn choices → Opened u s order sets turn choices
-stands-again f g y = record { framed = g; ready = record { framed = frame-of g refl; right = y.right; few = y.few; spare = y.spare; kept = y.kept } }

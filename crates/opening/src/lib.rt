@@ -4,8 +4,8 @@
 ghost use Rattle.std.specs.Prelude.{◌≡◌, replicate, IfOk};
 ghost use Rattle.asking.specs.Asking.{first_no};
 ghost use Rattle.asking.specs.Refusals.{no_number};
-ghost use Rattle.orders.specs.Turns.{first_questions};
-ghost use Rattle.opening.specs.Standings.{Opened, Stands};
+ghost use Rattle.orders.specs.Turns.{first_questions, Opened};
+ghost use Rattle.opening.specs.Standings.{Stands};
 
 use asking::Refusal;
 use orders::Turn;

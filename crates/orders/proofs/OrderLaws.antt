@@ -26,6 +26,7 @@ use Rattle.protocol.specs.Claims.{ResultTells, OtherFilesStay, writes_file, by_w
 use Rattle.protocol.proofs.Claimed.{result-tells}
 use Rattle.protocol.proofs.FrameKept.{call-frame}
 use Rattle.protocol.proofs.FrameLaws.{same-used, same-frame}
+use Rattle.grouping.proofs.FrameLaws.{frame-of}
 use Rattle.protocol.proofs.OtherFiles.{other-files-stay}
 use Rattle.protocol.proofs.Unanswered.{first_part}
 use Rattle.protocol.proofs.QuestionLaws.{refusal_is, when-refused, write-yes}
@@ -34,7 +35,7 @@ use Rattle.settle.proofs.SettleLaws.{known-none}
 use Rattle.effects.proofs.WriteLaws.{counted-done, not-counted, write-framed}
 use Rattle.effects.proofs.FrameKept.{write-frame}
 use Rattle.orders.specs.declared.Turn.{Turn}
-use Rattle.orders.specs.Turns.{Run, stepped, Kept, Ready}
+use Rattle.orders.specs.Turns.{Run, stepped, Kept, Ready, frame_in, Opened}
 
 abbrev pub run : ℕ → List ℕ → List ℕ → Run
 run n t s = record { result = n; table = t; sheet = s }
@@ -138,3 +139,7 @@ step-framed t s order sets n w f = go (ltb n 64)
         (run (cond (eqb n 64) (result_number 4 64) n) t s)).table order sets
     go true = write-framed w f
     go false = f
+
+-- after an order the arrays hold the frame as they did
+pub stands-again : {t u s order sets : List ℕ} {turn : Turn} {choices : List ℕ} → Framed t order sets → Framed u order sets → Ready u s (frame_in t order sets) turn choices → Opened u s order sets turn choices
+stands-again f g y = record { framed = g; ready = record { framed = frame-of g refl; right = y.right; few = y.few; spare = y.spare; kept = y.kept } }

@@ -1,12 +1,13 @@
 -- A round as the code goes through it, one order after another. Its result so far is the number done, or, once an order is refused, that refusal and the number done.
-use Rattle.std.specs.Prelude.{◌≡◌, true, cond, Result, Ok, Err, ◌||◌, List, [], ◌∷◌, ℕ, ◌+◌, ◌-◌, ◌≤◌, eqb, ltb, length, get_or}
+use Rattle.std.specs.Prelude.{◌≡◌, true, cond, Result, Ok, Err, ◌||◌, List, [], ◌∷◌, ℕ, ◌+◌, ◌-◌, ◌≤◌, eqb, ltb, length, get_or, take}
 use Rattle.sets.specs.Upto.{Within}
 use Rattle.quorums.specs.declared.Kind.TheVariants.{Write}
 use Rattle.fields.specs.Layout.{used_of}
 use Rattle.table.specs.WellFormed.{only_rows, well_formed}
 use Rattle.grouping.specs.declared.Frame.{Frame}
 use Rattle.grouping.specs.Frames.{FrameOf}
-use Rattle.asking.specs.Asking.{Question, first_no, result_number}
+use Rattle.grouping.specs.Grouped.{Framed}
+use Rattle.asking.specs.Asking.{Question, result_number}
 use Rattle.asking.specs.Refusals.{refusal_number}
 use Rattle.asking.specs.declared.Refusal.{Refusal}
 use Rattle.sheet.specs.Sheet.{remainder, all_beyond, sheet_right}
@@ -55,7 +56,16 @@ pub record Ready (t s : List ℕ) (frame : Frame) (turn : Turn) (choices : List 
   pub spare : turn.left ≡ remainder s - all_beyond s
   pub kept : Kept t choices
 
--- the result so far after an order more, where so many are done: it is done too, or the round ends
-abbrev pub turned : {A : Type 0} → ℕ → Result A Refusal → ℕ
-turned done (Ok next) = done + 1
-turned done (Err refusal) = result_number (refusal_number refusal) done
+-- the frame that the arrays of a round hold
+abbrev pub frame_in : List ℕ → List ℕ → List ℕ → Frame
+frame_in t order sets = record { chain = take (used_of t) order; counties = sets }
+
+-- the arrays hold the frame of the table, and the next order may come
+pub record Opened (t s order sets : List ℕ) (turn : Turn) (choices : List ℕ) : Type 0 where
+  pub framed : Framed t order sets
+  pub ready : Ready t s (frame_in t order sets) turn choices
+
+-- the result so far after an order more, where it was `done` before: what it is now, by `count`, or, where the round ends here, the refusal and the number done
+abbrev pub turned : {A : Type 0} → (A → ℕ) → ℕ → Result A Refusal → ℕ
+turned count done (Ok next) = count next
+turned count done (Err refusal) = result_number (refusal_number refusal) done

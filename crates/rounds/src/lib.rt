@@ -7,7 +7,6 @@ ghost use Rattle.ordering.specs.Rounds.{round_of, round_in};
 ghost use Rattle.rounds.specs.Rounds.{StopsFirst, round_number};
 
 use asking::Refusal;
-use grouping::Frame;
 use opening::{asked, begin};
 use ordering::Order;
 use orders::Turn;
@@ -56,12 +55,12 @@ pub fn round(t: &mut [u8], r: u64, list: &[Order], sheet: &mut [u8]) -> Result<u
             Err(refusal) => {
                 return Err(Stopped {
                     refusal: refusal,
-                    done: s.turn.done,
+                    done: s.turn.done as u32,
                 });
             }
         };
     }
-    Ok(s.turn.done)
+    Ok(s.turn.done as u32)
 }
 
 // The orders of a list of bytes in turn. Value: how many are done. A list that ends inside an order is refused.
@@ -76,7 +75,6 @@ pub fn round_in(t: &mut [u8], r: u64, list: &[u8], sheet: &mut [u8]) -> Result<u
     }
     let n = list.len() / ORDER;
     let left = asked(t, sheet, r, n, &mut order, &mut sets)?;
-    let frame = Frame::new(&order, header::used(t), &sets);
     let mut turn = Turn {
         done: 0,
         left: left,
@@ -87,7 +85,8 @@ pub fn round_in(t: &mut [u8], r: u64, list: &[u8], sheet: &mut [u8]) -> Result<u
         turn = match next_in(
             t,
             sheet,
-            &frame,
+            &order,
+            &sets,
             r,
             &list[at..at + ORDER],
             turn,
@@ -97,10 +96,10 @@ pub fn round_in(t: &mut [u8], r: u64, list: &[u8], sheet: &mut [u8]) -> Result<u
             Err(refusal) => {
                 return Err(Stopped {
                     refusal: refusal,
-                    done: turn.done,
+                    done: turn.done as u32,
                 });
             }
         };
     }
-    Ok(turn.done)
+    Ok(turn.done as u32)
 }

@@ -4,11 +4,10 @@
 ghost use Rattle.std.specs.Prelude.{◌≡◌, cond, ◌+◌, ◌≤◌, length, IfOk};
 ghost use Rattle.table.specs.WellFormed.{between};
 ghost use Rattle.ordering.specs.Rounds.{order_in};
-ghost use Rattle.orders.specs.Turns.{turn, turned, Ready};
+ghost use Rattle.orders.specs.Turns.{turn, turned, Opened};
 ghost use Rattle.opening.specs.Standings.{Stands};
 
 use asking::Refusal;
-use grouping::Frame;
 pub use opening::{Standing, asked, begin};
 use ordering::Order;
 pub use orders::Turn;
@@ -25,7 +24,7 @@ fn bytes_in(count: u8) -> usize
     }
 }
 
-// One order more: where the round stands then, or why it ends.
+// One order more: where the round stands then, or why it ends. A round that has ended stays as it is.
 pub fn next(
     t: &mut [u8],
     sheet: &mut [u8],
@@ -33,9 +32,9 @@ pub fn next(
     o: Order,
     s: Standing,
 ) -> Result<Standing, Refusal>
-    requires { Stands t.old sheet.old s }
-    ensures made { record { result = turned s.turn.done result; table = t.new; sheet = sheet.new } ≡ turn r (record { result = s.turn.done; table = t.old; sheet = sheet.old }) o }
-    ensures ready { IfOk result (λ next. (next.turn.done ≡ s.turn.done + 1) × Stands t.new sheet.new next) }
+    requires { s.turn.done ≤ 64 → Stands t.old sheet.old s }
+    ensures made { record { result = turned (λ next. next.turn.done) s.turn.done result; table = t.new; sheet = sheet.new } ≡ turn r (record { result = s.turn.done; table = t.old; sheet = sheet.old }) o }
+    ensures ready { s.turn.done ≤ 64 → IfOk result (λ next. (next.turn.done ≡ s.turn.done + 1) × Stands t.new sheet.new next) }
 {
     let order = s.order;
     let sets = s.sets;
@@ -45,7 +44,8 @@ pub fn next(
     let turn = step(
         t,
         sheet,
-        &Frame::new(&order, header::used(t), &sets),
+        &order,
+        &sets,
         o.coordinator as usize,
         r,
         o.offset as usize,
@@ -63,25 +63,27 @@ pub fn next(
     })
 }
 
-// One order more, in 16 bytes: how far the round is then, or why it ends.
+// One order more, in 16 bytes: how far the round is then, or why it ends. A round that has ended stays as it is.
 pub fn next_in(
     t: &mut [u8],
     sheet: &mut [u8],
-    frame: &Frame,
+    order: &[u8; 64],
+    sets: &[u64; 8],
     r: u64,
     o: &[u8],
     so_far: Turn,
     choices: &mut [u64; 16],
 ) -> Result<Turn, Refusal>
-    requires { Ready t.old sheet.old frame.now so_far choices.old × (length o.now ≡ 16) }
-    ensures made { record { result = turned so_far.done result; table = t.new; sheet = sheet.new } ≡ turn r (record { result = so_far.done; table = t.old; sheet = sheet.old }) (order_in o.now) }
-    ensures ready { IfOk result (λ next. (next.done ≡ so_far.done + 1) × Ready t.new sheet.new frame.now next choices.new) }
+    requires { (so_far.done ≤ 64 → Opened t.old sheet.old order.now sets.now so_far choices.old) × (length o.now ≡ 16) }
+    ensures made { record { result = turned (λ next. next.done) so_far.done result; table = t.new; sheet = sheet.new } ≡ turn r (record { result = so_far.done; table = t.old; sheet = sheet.old }) (order_in o.now) }
+    ensures ready { so_far.done ≤ 64 → IfOk result (λ next. (next.done ≡ so_far.done + 1) × Opened t.new sheet.new order.now sets.now next choices.new) }
 {
     let n = bytes_in(octets::u8_at(o, 1));
     step(
         t,
         sheet,
-        frame,
+        order,
+        sets,
         octets::u8_at(o, 0) as usize,
         r,
         octets::u16_at(o, 2) as usize,

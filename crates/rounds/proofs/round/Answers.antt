@@ -1,13 +1,11 @@
-use Rattle.std.proofs.Common.{◌≡◌, ◌∙◌, ℕ, ◌<◌, ◌+◌, length, drop, ap, refl, sym, arith}
+use Rattle.std.proofs.Common.{◌≡◌, ◌∙◌, ◌+◌, length, drop, ap, refl, sym, arith}
 use native.Mathlib.Nat.{zero-add}
 use Rattle.std.proofs.lemmas.Result.{err_from_is_err_and}
-use Rattle.asking.specs.Asking.{result_number}
-use Rattle.asking.specs.Refusals.{refusal_number}
 use Rattle.asking.proofs.AskingLaws.{some-number}
 use Rattle.orders.specs.Turns.{Run}
 use Rattle.orders.proofs.OrderLaws.{run}
 use Rattle.ordering.specs.Rounds.{round_of}
-use Rattle.rounds.proofs.RoundLaws.{after, told, after-turn, after-all, after-none, after-stays, refused-first}
+use Rattle.rounds.proofs.RoundLaws.{told, after-turn, after-all, after-none, after-stays, refused-first}
 use Rattle.rounds.proofs.round.Goals as goal
 
 pub returns-in_err-s : goal.returns-in_err-s
@@ -26,7 +24,7 @@ loop-o-init c =
     }
 
 pub next-requires : goal.next-requires
-next-requires c = c.loop-o.invariant.ready
+next-requires c = λ h. c.loop-o.invariant.ready
 
 pub returns-in-Err : goal.returns-in-Err
 returns-in-Err c =
@@ -39,8 +37,8 @@ returns-in-Err c =
 pub loop-o-preserved : goal.loop-o-preserved
 loop-o-preserved c =
     let l = c.loop-o in
-    let y = c.in-Ok.ensures.ready in record {
-      so_far = rw y.0 (after-turn c.args.r _ _ c.args.list.now l.o-index _ (omega arith) c.in-Ok.ensures.made ∙ l.invariant.so_far);
+    let y = c.in-Ok.ensures.ready c.loop-o.invariant.ready.ready.few in record {
+      so_far = after-turn c.args.r _ _ c.args.list.now l.o-index _ (omega arith) c.in-Ok.ensures.made ∙ l.invariant.so_far;
       ready = y.1;
     }
 

@@ -1,12 +1,10 @@
-use mathlib.Core.Path.{◌≡◌, refl, sym, ◌∙◌, ap}
-use Prim.Native.Nat.{ℕ, ◌<◌, ◌/◌, ◌%◌, ◌^◌}
+use mathlib.Core.Path.{refl, ◌∙◌, ap}
+use Prim.Native.Nat.{ℕ, ◌/◌}
 use native.Mathlib.Nat.{zero-add}
 use native.Mathlib.Omega.{arith}
 use borrow.Author.Rules.{rules}
 use lib.ListN.{length}
 use Rattle.std.proofs.lemmas.Result.{err_from_is_err_and}
-use Rattle.table.proofs.WellFormedLaws.{sized, long}
-use Rattle.grouping.proofs.FrameLaws.{listed-of}
 use Rattle.asking.specs.Asking.{result_number}
 use Rattle.asking.proofs.AskingLaws.{some-number}
 use Rattle.rounds.proofs.ByteRounds.{broken-stays, broken-no, broken-yes, all_left, one_left, none_left, stopped_left, refused_left, told-in}
@@ -34,23 +32,17 @@ returns-in_err-left c =
     let d = told-in a.t.now a.sheet.now a.r a.list.now _ _ _ (omega (arith, c.if-list-ne0.false)) (refused_left a.t.now a.sheet.now a.r a.list.now (length a.list.now / 16) _ c.in_err-left.ensures.asked (some-number _)) in
     (rw (p.1, p.2) d.0, d.1, refl, d.2)
 
-pub used-requires : goal.used-requires
-used-requires c = long (sized c.in_ok-left.ensures.ready.framed.formed)
-
-pub new-frame-requires : goal.new-frame-requires
-new-frame-requires c = let f = c.in_ok-left.ensures.ready.framed in (listed-of f c.used.ensures, f.grouped.apart)
-
 pub loop-k-init : goal.loop-k-init
 loop-k-init c =
     let a = c.args in record {
       table = refl;
       sheet = refl;
-      ready = rw (c.new-frame.ensures, c.used.ensures) c.in_ok-left.ensures.ready.ready;
+      ready = c.in_ok-left.ensures.ready;
       so_far = all_left a.t.now a.sheet.now a.r a.list.now (length a.list.now / 16) 0 (ap (λ (m : ℕ). result_number m 0) c.in_ok-left.ensures.asked);
     }
 
 pub next_in-requires : goal.next_in-requires
-next_in-requires c = (c.loop-k.invariant.ready, search rules)
+next_in-requires c = (λ h. c.loop-k.invariant.ready, search rules)
 
 pub returns-in-Err : goal.returns-in-Err
 returns-in-Err c =
@@ -65,11 +57,11 @@ pub loop-k-preserved : goal.loop-k-preserved
 loop-k-preserved c =
     let l = c.loop-k in
     let a = c.args in
-    let y = c.in-Ok.ensures.ready in record {
+    let y = c.in-Ok.ensures.ready c.loop-k.invariant.ready.ready.few in record {
       table = c.next_in.auto.t ∙ l.invariant.table;
       sheet = c.next_in.auto.sheet ∙ l.invariant.sheet;
       ready = y.1;
-      so_far = rw y.0 (one_left a.t.now a.sheet.now a.r a.list.now (length a.list.now / 16) l.k l.turn.done _ l.t _ l.sheet _ (omega arith) l.invariant.so_far c.in-Ok.ensures.made);
+      so_far = one_left a.t.now a.sheet.now a.r a.list.now (length a.list.now / 16) l.k l.turn.done _ l.t _ l.sheet _ (omega arith) l.invariant.so_far c.in-Ok.ensures.made;
     }
 
 pub returns : goal.returns
