@@ -191,7 +191,7 @@ module _ (t : List ℕ) (a : Writing) (x : ℕ) (e : x ≡ result_of (outcome t 
       let y = write-yes t a (sym (refusal_is t (write a)) ∙ low-done h) in
       ((sheet-facts a.sheet y.sheet).long, (may_write a.sheet a.club y.club).club)
 
-  counted-or-not : cond (ltb x (2 ^ 32)) (counted a.sheet a.club) a.sheet ≡ (outcome t (write a)).sheet
+  pub counted-or-not : cond (ltb x (2 ^ 32)) (counted a.sheet a.club) a.sheet ≡ (outcome t (write a)).sheet
   unfolding done lent_sheet
   counted-or-not = go (ℕ_discrete (outcome t (write a)).refusal 0)
     where

@@ -1,10 +1,8 @@
 -- A founding, as the code goes through it.
-use mathlib.Core.Path.{◌≡◌, refl, sym, ◌∙◌, ap}
+use mathlib.Core.Path.{◌≡◌, refl, sym, ◌∙◌, ap, ap₂}
 use mathlib.Core.Bool.{Bool, true, cond, ◌&&◌, and-true}
 use mathlib.Core.List.{List, [], ◌∷◌}
-use mathlib.Core.Logic.{◌↔◌}
-use Rattle.std.proofs.Common.{EachIndex, IsTrue}
-use Prim.Native.Nat.{ℕ, zero, suc, ◌+◌, ◌*◌, ◌%◌, ◌^◌, ◌≤◌, ◌<◌}
+use Prim.Native.Nat.{ℕ, suc, ◌+◌, ◌*◌, ◌%◌, ◌^◌, ◌≤◌, ◌<◌}
 use native.Mathlib.Numerals.{add-one}
 use native.Mathlib.Omega.{arith}
 use lib.Dec.{eqb, leb, ltb}
@@ -12,8 +10,7 @@ use lib.ListN.{length, get_or, drop}
 use lib.Seq.{drop-cons, drop-length}
 use borrow.Author.Tests.{le-leb, eqb-true}
 use Rattle.sets.specs.Upto.{Within, every}
-use Rattle.bools.proofs.BoolLaws.{and_l, and_r, and_assoc, same_test}
-use Rattle.sets.proofs.UptoLaws.{every-at, every_of}
+use Rattle.bools.proofs.BoolLaws.{and_l, and_r, and_assoc}
 use Rattle.fields.specs.Layout.{stride}
 use Rattle.table.specs.WellFormed.{between, is_county}
 use Rattle.counties.specs.Counties.{county_at}
@@ -42,15 +39,12 @@ module _ (names : List ℕ) (k low : ℕ) (ok : Bool) (so_far : (ok && names_ris
       let z : drop k names ≡ [] = ap (λ (n : ℕ). drop n names) e ∙ drop-length names in
       sym (and-true ok) ∙ ap (λ (xs : List ℕ). ok && names_rising low xs) (sym z) ∙ so_far
 
--- ---- question 20: all counties are right
-pub all-placed : (places : List ℕ) (b : Bool) → (IsTrue b ↔ EachIndex places (λ k. is_county (get_or places k 0) ≡ true)) → b ≡ every (length places) (λ i. is_county (county_at places i))
-all-placed places b h =
-    same_test b _ (λ e. every_of (length places) _ (one e))
-    (λ e. h.1 (λ k l. rw (← place_at k places l) (every-at (length places) _ e (k + 1) (omega arith))))
-  where
-    one : b ≡ true → (i : ℕ) → Within (length places) i → is_county (county_at places i) ≡ true
-    one e zero w = absurd (omega (arith, w))
-    one e (suc k) w = let l : k < length places = omega (arith, w) in rw (← add-one k, place_at k places l) (h.0 e k l)
+-- ---- question 20's loop: the counties of the first k rows are right (ok)
+pub places-turn : (places : List ℕ) (k : ℕ) (ok r : Bool) → k < length places → ok ≡ every k (λ i. is_county (county_at places i)) → r ≡ (ok && is_county (get_or places k 0))
+    → r ≡ every (k + 1) (λ i. is_county (county_at places i))
+unfolding every
+places-turn places k ok r h so_far e =
+    rw (add-one k) (e ∙ ap₂ ◌&&◌ so_far (ap is_county (sym (place_at k places h) ∙ ap (county_at places) (add-one k))))
 
 -- ---- the three questions, 11, 12 and 20
 module _ (t : List ℕ) (a : Founding) where

@@ -50,7 +50,14 @@ fn sizes_right(bytes: usize, capacity: usize, files: usize, file: usize, n: usiz
 fn counties_right(counties: &[u8], n: usize) -> bool
     ensures { result ≡ (eqb (length counties.now) n && every n (λ i. is_county (county_at counties.now i))) }
 {
-    counties.len() == n && counties.iter().all(|place| is_county(*place as usize))
+    if counties.len() != n {
+        return false;
+    }
+    let mut ok = true;
+    for place in counties {
+        ok = both(ok, is_county(*place as usize));
+    }
+    ok
 }
 
 // A founding: a table of so many rows for so many files of so many bytes, with the named machines in it, each in its county; choice 0 wide, 1 tall. Value: how many.

@@ -65,7 +65,7 @@ every-both (suc n) p q = ap (λ (b : Bool). b && (p (suc n) && q (suc n))) (ever
     swap true false false d = refl
     swap false b c d = refl
 
-rows_are : (t : List ℕ) → 4 ≤ form_of t → (every (used_of t) (head t) && every (used_of t) (copies t)) ≡ every (used_of t) (row_right t)
+pub rows_are : (t : List ℕ) → 4 ≤ form_of t → (every (used_of t) (head t) && every (used_of t) (copies t)) ≡ every (used_of t) (row_right t)
 rows_are t h = sym (every-ext (used_of t) _ _ (λ i w. later-is t i h) ∙ every-both (used_of t) (head t) (copies t))
 
 -- by what was found of all heads and of all copies

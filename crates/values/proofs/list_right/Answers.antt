@@ -1,16 +1,14 @@
-use mathlib.Core.Path.{◌≡◌, refl, sym, ◌∙◌, ap}
-use mathlib.Core.List.{List}
+use mathlib.Core.Path.{◌≡◌, refl, sym}
 use mathlib.Core.Bool.{Bool, true, false, cond, ◌&&◌, ◌||◌, and-true, and-false, or-true}
-use Prim.Native.Nat.{ℕ, ◌+◌, ◌-◌, ◌%◌, ◌^◌, ◌≤◌}
+use Prim.Native.Nat.{ℕ, ◌+◌, ◌-◌, ◌%◌, ◌^◌}
 use native.Mathlib.Nat.{mod-eq_of_lt}
 use native.Mathlib.Omega.{arith}
 use lib.Dec.{eqb}
 use lib.Pow.{pow_pos}
 use borrow.Author.Tests.{eqb-true, lt-ltb}
-use Rattle.sets.specs.Upto.{Within}
-use Rattle.sets.specs.Sets.{has}
-use Rattle.fields.specs.Layout.{get, members, list, is_empty}
+use Rattle.fields.specs.Layout.{list, is_empty}
 use Rattle.table.specs.WellFormed.{only_rows, list_right}
+use Rattle.values.proofs.list_right.Goals.{Start}
 use Rattle.values.proofs.list_right.Goals as goal
 
 -- a list that its own row is not on must be empty, and then names no row at all
@@ -26,21 +24,11 @@ exempt n m false = go (eqb m 0) refl
     go true e = rw (eqb-true m 0 e, none)
     go false e = sym (and-false (only_rows n m))
 
-module _ (n i : ℕ) (row : List ℕ) (few : n ≤ 64) (w : Within n i) where
-  -- row i stands at place i - 1
-  place : (i - 1) % 64 + 1 ≡ i
-  place = let e : (i - 1) % 64 ≡ i - 1 = mod-eq_of_lt (omega arith) in omega arith
+-- row i stands at place i - 1
+place : (c : Start) → (c.args.i - 1) % 64 + 1 ≡ c.args.i
+place c = let e : (c.args.i - 1) % 64 ≡ c.args.i - 1 = mod-eq_of_lt (omega arith) in omega arith
 
-  asked : (own : Bool) → own ≡ has (get members row) ((i - 1) % 64 + 1) → cond own (only_rows n (get members row)) (eqb (get members row) 0) ≡ list_right n i row
-  unfolding list_right is_empty list
-  asked own e = exempt n (get members row) own ∙ ap (λ (b : Bool). only_rows n (get members row) && (eqb (get members row) 0 || b)) (e ∙ ap (has (get members row)) place)
-
-pub returns-then-at : goal.returns-then-at
-returns-then-at c =
-    let r = c.requires in
-    rw c.members-bits.ensures at c.only_rows.ensures ∙ asked c.args.n c.args.i c.args.row.now r.0 r.1 true (rw c.members-bits.ensures at (sym c.if-at.true ∙ c.at.ensures))
-
-pub returns-else-at : goal.returns-else-at
-returns-else-at c =
-    let r = c.requires in
-    ap (λ (m : ℕ). eqb m 0) c.members-bits.ensures ∙ asked c.args.n c.args.i c.args.row.now r.0 r.1 false (rw c.members-bits.ensures at (sym c.if-at.false ∙ c.at.ensures))
+pub returns : goal.returns
+unfolding list_right is_empty list
+returns c =
+    rw (c.either.ensures, c.at.ensures, place (goal.at.returns c).Start, c.only_rows.ensures, c.members-bits.ensures) (exempt _ _ _)
